@@ -1,0 +1,1 @@
+// Numbers as digits, bytes and bits, most significant first: definitions and laws.

@@ -1,0 +1,4 @@
+pub mod Lists
+pub mod Rates
+pub mod Points
+pub mod Tests

@@ -1,0 +1,46 @@
+-- Document 01, "Numbers that come back": a call's tests in their order, and the refusal that they give.
+--   Test           whether it applies, the number that it gives, and the place beside it
+--   test b n p     such a test
+--   none           no refusal: number 0, place 0
+--   firstOf ts     the refusal of the first test that applies, or none
+--   refused f      f is a refusal: its number is not 0
+--   zeros l        as many zeros as l is long: a lent output after a refusal
+--   over bs o      bs at the front of the output o, whose rest stays: a lent output after a success
+-- What document 01 calls a place beside a number is an error position: an index, or a field's offset.
+use mathlib.Core.Bool.{Bool, not, cond}
+use mathlib.Core.List.{List, [], _∷_, _++_}
+use Prim.Native.Nat.{ℕ}
+use lib.Dec.{eqb}
+use lib.ListN.{length, drop, replicate}
+use Rattle.bounds.specs.declared.Refusal.{Refusal}
+
+-- one row of document 01's table, at an input
+pub record Test : Type 0 where
+  pub applies : Bool
+  pub number : ℕ
+  pub place : ℕ
+
+-- the test b, which gives number n at place p
+abbrev pub test : Bool → ℕ → ℕ → Test
+test b n p = record { applies = b; number = n; place = p }
+
+-- success
+abbrev pub none : Refusal
+none = record { number = 0; place = 0 }
+
+-- the first test that applies decides
+unfoldable pub firstOf : List Test → Refusal
+firstOf [] = none
+firstOf (t ∷ ts) = cond (t .applies) (record { number = t .number; place = t .place }) (firstOf ts)
+
+-- every number but 0 is a refusal
+abbrev pub refused : Refusal → Bool
+refused f = not (eqb (f .number) 0)
+
+-- on a refusal a lent output is 0 from end to end
+abbrev pub zeros : List ℕ → List ℕ
+zeros l = replicate (length l) 0
+
+-- on a success what is written stands at the front, and the output past it stays
+abbrev pub over : List ℕ → List ℕ → List ℕ
+over bs o = bs ++ drop (length bs) o

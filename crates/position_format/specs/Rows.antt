@@ -1,0 +1,69 @@
+-- Document 01, "Positions": the table of steps.
+--   Row             a row: the prefix's bits, how many bits follow, the lowest and the highest step that it holds
+--   rows            the table
+--   holds r z       the row r holds the step z
+--   inTable rs z    some row holds it
+--   residue k z     z modulo 2 ^ k
+--   codeIn r z      the code of z by the row r: the prefix, then z modulo 2 ^ width
+--   code rs z       the code of z by the first row that holds it
+--   reading r x     the one number inside the row's range that is x modulo 2 ^ width
+-- Each definition takes the table, so that all of its laws hold of every table of such rows.
+use mathlib.Core.Bool.{Bool, true, false, cond}
+use mathlib.Core.List.{List, [], _∷_, _++_}
+use Prim.Native.Nat.{ℕ, suc, _-_, _%_, _^_}
+use lib.IntN.{ℤ, pos, negsuc, negℤ, _-ℤ_}
+use lib.Signed.{leZ}
+use Rattle.bits.specs.Compare.{both}
+use Rattle.bits.specs.Digits.{bitsOf}
+
+-- a row of the table
+pub record Row : Type 0 where
+  pub prefix : List ℕ
+  pub width : ℕ
+  pub low : ℤ
+  pub high : ℤ
+
+-- a row by its four numbers
+abbrev pub row : List ℕ → ℕ → ℤ → ℤ → Row
+row p w l h = record { prefix = p; width = w; low = l; high = h }
+
+-- -n
+abbrev pub neg : ℕ → ℤ
+neg n = negℤ (pos n)
+
+-- document 01's table
+unfoldable pub rows : List Row
+rows =
+    row (0 ∷ []) 0 (pos 0) (pos 0)
+    ∷ row (1 ∷ 0 ∷ []) 7 (neg 63) (pos 64)
+    ∷ row (1 ∷ 1 ∷ 0 ∷ []) 9 (neg 255) (pos 256)
+    ∷ row (1 ∷ 1 ∷ 1 ∷ 0 ∷ []) 12 (neg 2047) (pos 2048)
+    ∷ row (1 ∷ 1 ∷ 1 ∷ 1 ∷ []) 32 (neg (2 ^ 31 - 1)) (pos (2 ^ 31))
+    ∷ []
+
+-- whether z is from the row's lowest step to its highest
+abbrev pub holds : Row → ℤ → Bool
+holds r z = both (leZ (r .low) z) (leZ z (r .high))
+
+-- whether a row holds z
+unfoldable pub inTable : List Row → ℤ → Bool
+inTable [] z = false
+inTable (r ∷ rs) z = cond (holds r z) true (inTable rs z)
+
+-- z modulo 2 ^ k, from 0 to 2 ^ k - 1: two's complement in k bits
+abbrev pub residue : ℕ → ℤ → ℕ
+residue k (pos n) = n % 2 ^ k
+residue k (negsuc n) = 2 ^ k - suc (n % 2 ^ k)
+
+-- the code of z by one row
+abbrev pub codeIn : Row → ℤ → List ℕ
+codeIn r z = r .prefix ++ bitsOf (r .width) (residue (r .width) z)
+
+-- the code of z by the first row that holds it; no bits where none does, which test 5 shuts out
+unfoldable pub code : List Row → ℤ → List ℕ
+code [] z = []
+code (r ∷ rs) z = cond (holds r z) (codeIn r z) (code rs z)
+
+-- the number of a row's range that its bits x stand for
+abbrev pub reading : Row → ℕ → ℤ
+reading r x = cond (leZ (pos x) (r .high)) (pos x) (pos x -ℤ pos (2 ^ r .width))

@@ -1,0 +1,1 @@
+// The coding of positions: definitions and laws.

@@ -1,0 +1,20 @@
+-- Document 01, "Ratios": the bytes of one ratio.
+--   written v f    the bytes of the ratio v in the form f
+--   coded v w      the bytes of v against the window w
+use mathlib.Core.List.{List, [], _∷_}
+use Prim.Native.Nat.{ℕ, _+_, _*_}
+use Rattle.bits.specs.Digits.{bytesOf}
+use Rattle.ratio_format.specs.declared.Form.{Form}
+use Rattle.ratio_format.specs.declared.Form.the-variants.{Reference, Xor, Exception}
+use Rattle.ratio_format.specs.Choice.{form}
+
+-- a reference is its place; an xor form the place plus 128, the trailing count in the high four bits and the middle's length in the low
+-- four, and the middle; an exception 255 and the eight bytes of the ratio
+unfoldable pub written : ℕ → Form → List ℕ
+written v (Reference p) = p ∷ []
+written v (Xor p t n m) = (p + 128) ∷ (t * 16 + n) ∷ bytesOf n m
+written v Exception = 255 ∷ bytesOf 8 v
+
+-- what is written for v
+unfoldable pub coded : ℕ → List ℕ → List ℕ
+coded v w = written v (form v w)

@@ -1,0 +1,42 @@
+-- Document 01, "Ratios": the open rule for one ratio, and strict reading of one.
+--   openXor u s       after the byte of a place that holds u: the two counts in one byte, and the middle
+--   openRead w s      the ratio at the front of the bytes s, against the window w, by the open rule
+--   strictRead w s    the same, accepted only where the bytes are those that are written for that ratio
+use mathlib.Core.Bool.{Bool, cond}
+use mathlib.Core.List.{List, [], _∷_}
+use Prim.Native.Nat.{ℕ, _+_, _-_, _*_, _/_, _%_, _^_}
+use lib.Bits.{bitXor}
+use lib.Dec.{leb, ltb}
+use lib.ListN.{length, getD, take}
+use Rattle.bits.specs.Compare.{begins}
+use Rattle.bits.specs.Digits.{numberOf}
+use Rattle.ratio_format.specs.declared.Read.{Read}
+use Rattle.ratio_format.specs.declared.Read.the-variants.{Ratio, Refused}
+use Rattle.ratio_format.specs.Forms.{coded}
+
+-- the counts' sum is at most 8, a length of 0 is allowed, and the middle is put at its height and xored with u
+unfoldable pub openXor : ℕ → List ℕ → Read
+openXor u [] = Refused
+openXor u (c ∷ s) =
+    cond (leb (c / 16 + c % 16) 8)
+    (cond (leb (c % 16) (length s)) (Ratio (bitXor (numberOf 256 (take (c % 16) s) * 256 ^ (c / 16)) u) (c % 16 + 2)) Refused)
+    Refused
+
+-- a byte below 128 is a place, 128 to 254 a place plus 128, 255 an exception; a place must hold a ratio
+unfoldable pub openRead : List ℕ → List ℕ → Read
+openRead w [] = Refused
+openRead w (b ∷ s) =
+    cond (ltb b 128)
+    (cond (ltb b (length w)) (Ratio (getD w b 0) 1) Refused)
+    (cond (ltb b 255)
+    (cond (ltb (b - 128) (length w)) (openXor (getD w (b - 128) 0) s) Refused)
+    (cond (leb 8 (length s)) (Ratio (numberOf 256 (take 8 s)) 9) Refused))
+
+-- an open reading whose bytes are those that are written for the ratio
+abbrev pub strictOf : List ℕ → List ℕ → Read → Read
+strictOf w s (Ratio v n) = cond (begins (coded v w) s) (Ratio v n) Refused
+strictOf w s Refused = Refused
+
+-- only the choices of the writer are accepted
+unfoldable pub strictRead : List ℕ → List ℕ → Read
+strictRead w s = strictOf w s (openRead w s)

@@ -1,0 +1,64 @@
+-- Document 01, "Bytes to compare": the rows marked P, as one table, proved from the definitions by one statement.
+use mathlib.Core.Path.{_≡_, refl}
+use mathlib.Core.List.{List, [], _∷_, _++_, map, reverse}
+use Prim.Native.Nat.{ℕ, _^_}
+use lib.IntN.{ℤ, pos}
+use lib.ListN.{drop, getD, replicate}
+use Rattle.bits.specs.Digits.{digitsOf}
+use Rattle.bits.specs.Packing.{eights, pack}
+use Rattle.position_format.specs.Rows.{rows, neg, code}
+use Rattle.position_format.specs.Steps.{stepsFrom}
+use Rattle.position_format.specs.Positions.{stepBits, positionBits, codedPositions}
+use Rattle.ratio_format.specs.Zeros.{zerosAt, leadZeros, trailZeros, score}
+use Rattle.ratio_format.specs.Choice.{find, best, form}
+use Rattle.ratio_format.specs.Forms.{written, coded}
+use Rattle.ratio_format.specs.Bodies.{codedFrom}
+use Rattle.bits.specs.Digits.{numberOf}
+use Rattle.record_format.specs.Runs.{Run, run, field, recordOf}
+
+-- what is coded: a step, the last of some ratios, newest first, against those before it, or a run
+pub data Subject : Type 0 where
+  step : ℤ → Subject
+  ratio : ℕ → List ℕ → Subject
+  whole : Run → Subject
+
+-- its code: bits of a step, else bytes
+pub codeOf : Subject → List ℕ
+codeOf (step z) = code rows z
+codeOf (ratio v w) = coded v w
+codeOf (whole r) = recordOf r
+
+-- an example: what is coded, and the code that document 01 prints
+pub record Example : Type 0 where
+  pub subject : Subject
+  pub printed : List ℕ
+
+-- such an example
+abbrev example : Subject → List ℕ → Example
+example s l = record { subject = s; printed = l }
+
+-- the rows marked P
+pub examples : List Example
+examples =
+    example (step (pos 0)) (0 ∷ [])
+    ∷ example (step (pos 64)) (1 ∷ 0 ∷ 1 ∷ 0 ∷ 0 ∷ 0 ∷ 0 ∷ 0 ∷ 0 ∷ [])
+    ∷ example (step (neg 63)) (1 ∷ 0 ∷ 1 ∷ 0 ∷ 0 ∷ 0 ∷ 0 ∷ 0 ∷ 1 ∷ [])
+    ∷ example (step (pos 65)) (1 ∷ 1 ∷ 0 ∷ 0 ∷ 0 ∷ 1 ∷ 0 ∷ 0 ∷ 0 ∷ 0 ∷ 0 ∷ 1 ∷ [])
+    ∷ example (step (neg 64)) (1 ∷ 1 ∷ 0 ∷ 1 ∷ 1 ∷ 1 ∷ 0 ∷ 0 ∷ 0 ∷ 0 ∷ 0 ∷ 0 ∷ [])
+    ∷ example (ratio 0xC00E666666666666 (0xC01A666666666666 ∷ [])) (0x80 ∷ 0x61 ∷ 0x14 ∷ [])
+    ∷ example (ratio 0x4027000000000000 (0x402699999999999A ∷ [])) (0xFF ∷ 0x40 ∷ 0x27 ∷ 0 ∷ 0 ∷ 0 ∷ 0 ∷ 0 ∷ 0 ∷ [])
+    ∷ example (ratio 0x0001020304050600 (0 ∷ [])) (0x80 ∷ 0x16 ∷ 1 ∷ 2 ∷ 3 ∷ 4 ∷ 5 ∷ 6 ∷ [])
+    ∷ example (ratio 0x0001020304050607 (0 ∷ [])) (0xFF ∷ 0 ∷ 1 ∷ 2 ∷ 3 ∷ 4 ∷ 5 ∷ 6 ∷ 7 ∷ [])
+    ∷ example (ratio 3 (2 ∷ 1 ∷ [])) (0x80 ∷ 0x01 ∷ 0x01 ∷ [])
+    ∷ example
+    (whole (run 96000 (0 ∷ 960 ∷ 1920 ∷ []) (replicate 3 0x3FE0000000000000)))
+    (0x01 ∷ 0x00 ∷ 0x04 ∷ 0x00 ∷ 0x01 ∷ 0x77 ∷ 0x00
+    ∷ 0x02 ∷ 0x00 ∷ 0x02 ∷ 0x00 ∷ 0x03
+    ∷ 0x03 ∷ 0x00 ∷ 0x11 ∷ (replicate 14 0 ++ (0x03 ∷ 0xC0 ∷ 0x00
+    ∷ 0x04 ∷ 0x00 ∷ 0x0B ∷ 0xFF ∷ 0x3F ∷ 0xE0 ∷ (replicate 6 0 ++ (0x00 ∷ 0x00 ∷ [])))))
+    ∷ []
+
+-- each row's code, computed from the definitions, is the one that is printed
+pub examples-hold : map (λ e. codeOf (e .subject)) examples ≡ map (λ e. e .printed) examples
+unfolding examples codeOf digitsOf numberOf eights pack rows code stepsFrom stepBits positionBits codedPositions zerosAt leadZeros trailZeros score find best form written coded codedFrom field recordOf
+examples-hold = refl

@@ -1,0 +1,4 @@
+pub mod Runs
+pub mod Writing
+pub mod Reading
+pub mod Examples

@@ -1,0 +1,51 @@
+-- Document 01, "Numbers that come back": writing a run.
+--   runTests r       the tests of writing on the run alone, in their order: 1 to 5, each over the whole run
+--   accepts r        none of them applies: the writer accepts the run
+--   writeTests r o   all tests, with 6, which asks for room for the whole record
+--   writeAnswer r o  the answer: number, place and the record's length
+--   writeOutput r o  the output o afterwards
+use mathlib.Core.Bool.{Bool, not, cond}
+use mathlib.Core.List.{List, [], _∷_, _++_}
+use Prim.Native.Nat.{ℕ}
+use lib.Dec.{ltb, eqb}
+use lib.ListN.{length}
+use Rattle.bounds.specs.declared.Refusal.{Refusal}
+use Rattle.bounds.specs.Rates.{isRate}
+use Rattle.bounds.specs.Points.{maxPoints, firstHigh}
+use Rattle.bounds.specs.Tests.{Test, test, firstOf, refused, zeros, over}
+use Rattle.position_format.specs.Rows.{rows}
+use Rattle.position_format.specs.Steps.{firstOutside}
+use Rattle.record_format.specs.declared.WriteAnswer.{WriteAnswer}
+use Rattle.record_format.specs.Runs.{Run, recordOf}
+
+-- the tests that speak of the run
+abbrev pub runTests : Run → List Test
+runTests r =
+    test (not (isRate (r .rate))) 1 0
+    ∷ test (not (eqb (length (r .ratios)) (length (r .positions)))) 2 0
+    ∷ test (ltb maxPoints (length (r .positions))) 3 0
+    ∷ test (ltb (firstHigh (r .positions)) (length (r .positions))) 4 (firstHigh (r .positions))
+    ∷ test (ltb (firstOutside rows (r .positions)) (length (r .positions))) 5 (firstOutside rows (r .positions))
+    ∷ []
+
+-- "The writer accepts a run when no test of writing but 6 applies to it."
+unfoldable pub accepts : Run → Bool
+accepts r = not (refused (firstOf (runTests r)))
+
+-- the tests of writing
+abbrev pub writeTests : Run → List ℕ → List Test
+writeTests r o = runTests r ++ (test (ltb (length o) (length (recordOf r))) 6 0 ∷ [])
+
+-- the refusal of writing, or none
+unfoldable pub writeRefusal : Run → List ℕ → Refusal
+writeRefusal r o = firstOf (writeTests r o)
+
+-- the answer
+unfoldable pub writeAnswer : Run → List ℕ → WriteAnswer
+writeAnswer r o =
+    let f = writeRefusal r o in
+    record { number = f .number; place = f .place; length = cond (refused f) 0 (length (recordOf r)) }
+
+-- the output afterwards
+unfoldable pub writeOutput : Run → List ℕ → List ℕ
+writeOutput r o = cond (refused (writeRefusal r o)) (zeros o) (over (recordOf r) o)

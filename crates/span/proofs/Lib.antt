@@ -1,0 +1,4 @@
+pub mod Parts
+pub mod Signed
+pub mod Milliseconds
+pub mod Answers

@@ -1,0 +1,27 @@
+-- d * 1000 / r in two parts, whole multiples of r and the rest, for products that 64 bits do not hold.
+use mathlib.Core.Path.{_≡_, sym, ap, _∙_}
+use Prim.Native.Nat.{ℕ, _+_, _*_, _/_, _%_, _≤_, _<_}
+use native.Mathlib.Nat.{add-mul, mul-assoc, mul-comm, div-add-mod', mul-add-div-right, div-mul-le-self, mul-le-mul-left, div-lt-iff-lt-mul, mod-lt}
+use native.Mathlib.Omega.{arith}
+
+module _ (d r : ℕ) (r≥ : 1000 ≤ r) where
+  r⁺ : 0 < r
+  r⁺ = omega arith
+
+  -- the two parts add up to the quotient
+  pub in-parts : d / r * 1000 + d % r * 1000 / r ≡ d * 1000 / r
+  in-parts =
+      sym (mul-add-div-right r⁺ (d / r * 1000) (d % r * 1000))
+      ∙ ap (λ (x : ℕ). (x + d % r * 1000) / r) (mul-assoc (d / r) 1000 r ∙ ap (λ (x : ℕ). d / r * x) (mul-comm 1000 r) ∙ sym (mul-assoc (d / r) r 1000))
+      ∙ ap (λ (x : ℕ). x / r) (sym (add-mul (d / r * r) (d % r) 1000))
+      ∙ ap (λ (x : ℕ). x * 1000 / r) (div-add-mod' d r)
+
+  -- the bounds that keep each step within 64 bits
+  pub rest-small : d % r < r
+  rest-small = mod-lt d r⁺
+
+  pub whole-le : d / r * 1000 ≤ d
+  whole-le = omega (arith, mul-le-mul-left (d / r) r≥, div-mul-le-self d r)
+
+  pub rest-lt : d % r * 1000 / r < 1000
+  rest-lt = div-lt-iff-lt-mul r⁺ .1 (omega (arith, rest-small))

@@ -1,1 +1,94 @@
-// Numbers as digits, bytes and bits, most significant first: definitions and laws.
+// Numbers as digits, bytes and bits of a slice, most significant first.
+// The definitions stand in specs/, their laws in proofs/. Internal: callers meet each `requires`.
+ghost use mathlib.Core.Path.{_≡_};
+ghost use mathlib.Core.List.{_++_};
+ghost use Prim.Native.Nat.{ℕ, _+_, _*_, _^_, _≤_, _<_};
+ghost use lib.ListN.{length, take, drop, replicate};
+ghost use Rattle.bits.specs.Digits.{bitsOf, bytesOf, numberOf};
+ghost use Rattle.bits.specs.Packing.{bits};
+ghost use Rattle.bits.specs.Splice.{splice};
+
+// A byte as a wider number.
+pub fn wide(x: u8) -> u64
+    ensures { λ r. ⌜ (r ≡ x) × (r < 256) ⌝ }
+{
+    x as u64
+}
+
+// The low n bytes of x are written at `at`; all other bytes stay.
+pub fn put_bytes(out: &mut [u8], at: usize, n: usize, x: u64)
+    requires { ⌜ at + n ≤ length (now out) ⌝ }
+    ensures { λ _. ⌜ now (out .exit) ≡ splice (now (out .entry)) at n (bytesOf n x) ⌝ }
+{
+    let mut i = n;
+    let mut y = x;
+    while 0 < i {
+        i -= 1;
+        out[at + i] = (y % 256) as u8;
+        y = y / 256;
+    }
+}
+
+// The number of the n bytes at `at`.
+pub fn get_bytes(s: &[u8], at: usize, n: usize) -> u64
+    requires { ⌜ (n ≤ 8) × (at + n ≤ length (now s)) ⌝ }
+    ensures { λ r. ⌜ (r ≡ numberOf 256 (take n (drop at (now (s .entry))))) × (r < 256 ^ n) ⌝ }
+{
+    let mut i = 0;
+    let mut y: u64 = 0;
+    while i < n {
+        y = y * 256 + wide(s[at + i]);
+        i += 1;
+    }
+    y
+}
+
+// The k bits from the bit offset `at` on become those of v; all other bits stay.
+// One word holds the first byte's bits before them, the k bits, and the last byte's bits after them.
+pub fn put_bits(out: &mut [u8], at: usize, k: usize, v: u64)
+    requires { ⌜ (0 < k) × (k ≤ 57) × (v < 2 ^ k) × (at + k ≤ 8 * length (now out)) ⌝ }
+    ensures { λ _. ⌜ bits (now (out .exit)) ≡ splice (bits (now (out .entry))) at k (bitsOf k v) ⌝ }
+{
+    let b = at / 8;
+    let r = at % 8;
+    let e = (r + k + 7) / 8;
+    let pad = 8 * e - (r + k);
+    let head = wide(out[b]) >> (8 - r);
+    let tail = wide(out[b + e - 1]) % (1 << pad);
+    put_bytes(out, b, e, (((head << k) + v) << pad) + tail);
+}
+
+// The number of the k bits from the bit offset `at` on.
+pub fn get_bits(s: &[u8], at: usize, k: usize) -> u64
+    requires { ⌜ (k ≤ 57) × (at + k ≤ 8 * length (now s)) ⌝ }
+    ensures { λ r. ⌜ (r ≡ numberOf 2 (take k (drop at (bits (now (s .entry)))))) × (r < 2 ^ k) ⌝ }
+{
+    let b = at / 8;
+    let r = at % 8;
+    let e = (r + k + 7) / 8;
+    let pad = 8 * e - (r + k);
+    let x = get_bytes(s, b, e);
+    (x >> pad) % (1 << k)
+}
+
+// Every byte becomes 0.
+pub fn clear_bytes(out: &mut [u8])
+    ensures { λ _. ⌜ now (out .exit) ≡ replicate (length (now (out .entry))) 0 ⌝ }
+{
+    let mut i = 0;
+    while i < out.len() {
+        out[i] = 0;
+        i += 1;
+    }
+}
+
+// Every number becomes 0.
+pub fn clear_numbers(out: &mut [u64])
+    ensures { λ _. ⌜ now (out .exit) ≡ replicate (length (now (out .entry))) 0 ⌝ }
+{
+    let mut i = 0;
+    while i < out.len() {
+        out[i] = 0;
+        i += 1;
+    }
+}

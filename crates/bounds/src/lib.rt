@@ -10,6 +10,12 @@ pub struct Refusal {
     pub place: u32,
 }
 
+// What an internal writer did: the number of bytes that it wrote, or that there is no room for them.
+pub enum Wrote {
+    Done(usize),
+    NoRoom,
+}
+
 // The largest number of points of a run.
 pub const MAX_POINTS: usize = 4096;
 

@@ -1,10 +1,10 @@
 -- Document 01, "Bytes to compare": the rows marked P, as one table, proved from the definitions by one statement.
 use mathlib.Core.Path.{_≡_, refl}
-use mathlib.Core.List.{List, [], _∷_, _++_, map, reverse}
-use Prim.Native.Nat.{ℕ, _^_}
+use mathlib.Core.List.{List, [], _∷_, _++_, map}
+use Prim.Native.Nat.{ℕ}
 use lib.IntN.{ℤ, pos}
-use lib.ListN.{drop, getD, replicate}
-use Rattle.bits.specs.Digits.{digitsOf}
+use lib.ListN.{replicate}
+use Rattle.bits.specs.Digits.{digitsOf, bytesOf, numberOf}
 use Rattle.bits.specs.Packing.{eights, pack}
 use Rattle.position_format.specs.Rows.{rows, neg, code}
 use Rattle.position_format.specs.Steps.{stepsFrom}
@@ -12,20 +12,19 @@ use Rattle.position_format.specs.Positions.{stepBits, positionBits, codedPositi
 use Rattle.ratio_format.specs.Zeros.{zerosAt, leadZeros, trailZeros, score}
 use Rattle.ratio_format.specs.Choice.{find, best, form}
 use Rattle.ratio_format.specs.Forms.{written, coded}
-use Rattle.ratio_format.specs.Bodies.{codedFrom}
-use Rattle.bits.specs.Digits.{numberOf}
+use Rattle.ratio_format.specs.Bodies.{codedFrom, codedRatios}
 use Rattle.record_format.specs.Runs.{Run, run, field, recordOf}
 
--- what is coded: a step, the last of some ratios, newest first, against those before it, or a run
+-- what is coded: a step, the ratios of a run, or a run
 pub data Subject : Type 0 where
   step : ℤ → Subject
-  ratio : ℕ → List ℕ → Subject
+  ratios : List ℕ → Subject
   whole : Run → Subject
 
--- its code: bits of a step, else bytes
+-- its code: the bits of a step, the body of field 4, the record
 pub codeOf : Subject → List ℕ
 codeOf (step z) = code rows z
-codeOf (ratio v w) = coded v w
+codeOf (ratios vs) = codedRatios vs
 codeOf (whole r) = recordOf r
 
 -- an example: what is coded, and the code that document 01 prints
@@ -45,11 +44,16 @@ examples =
     ∷ example (step (neg 63)) (1 ∷ 0 ∷ 1 ∷ 0 ∷ 0 ∷ 0 ∷ 0 ∷ 0 ∷ 1 ∷ [])
     ∷ example (step (pos 65)) (1 ∷ 1 ∷ 0 ∷ 0 ∷ 0 ∷ 1 ∷ 0 ∷ 0 ∷ 0 ∷ 0 ∷ 0 ∷ 1 ∷ [])
     ∷ example (step (neg 64)) (1 ∷ 1 ∷ 0 ∷ 1 ∷ 1 ∷ 1 ∷ 0 ∷ 0 ∷ 0 ∷ 0 ∷ 0 ∷ 0 ∷ [])
-    ∷ example (ratio 0xC00E666666666666 (0xC01A666666666666 ∷ [])) (0x80 ∷ 0x61 ∷ 0x14 ∷ [])
-    ∷ example (ratio 0x4027000000000000 (0x402699999999999A ∷ [])) (0xFF ∷ 0x40 ∷ 0x27 ∷ 0 ∷ 0 ∷ 0 ∷ 0 ∷ 0 ∷ 0 ∷ [])
-    ∷ example (ratio 0x0001020304050600 (0 ∷ [])) (0x80 ∷ 0x16 ∷ 1 ∷ 2 ∷ 3 ∷ 4 ∷ 5 ∷ 6 ∷ [])
-    ∷ example (ratio 0x0001020304050607 (0 ∷ [])) (0xFF ∷ 0 ∷ 1 ∷ 2 ∷ 3 ∷ 4 ∷ 5 ∷ 6 ∷ 7 ∷ [])
-    ∷ example (ratio 3 (2 ∷ 1 ∷ [])) (0x80 ∷ 0x01 ∷ 0x01 ∷ [])
+    ∷ example (ratios (0xC01A666666666666 ∷ 0xC00E666666666666 ∷ []))
+    (0xFF ∷ (bytesOf 8 0xC01A666666666666 ++ (0x80 ∷ 0x61 ∷ 0x14 ∷ [])))
+    ∷ example (ratios (0x402699999999999A ∷ 0x4027000000000000 ∷ []))
+    (0xFF ∷ (bytesOf 8 0x402699999999999A ++ (0xFF ∷ bytesOf 8 0x4027000000000000)))
+    ∷ example (ratios (0 ∷ 0x0001020304050600 ∷ []))
+    (0xFF ∷ (replicate 8 0 ++ (0x80 ∷ 0x16 ∷ 0x01 ∷ 0x02 ∷ 0x03 ∷ 0x04 ∷ 0x05 ∷ 0x06 ∷ [])))
+    ∷ example (ratios (0 ∷ 0x0001020304050607 ∷ []))
+    (0xFF ∷ (replicate 8 0 ++ (0xFF ∷ 0x00 ∷ 0x01 ∷ 0x02 ∷ 0x03 ∷ 0x04 ∷ 0x05 ∷ 0x06 ∷ 0x07 ∷ [])))
+    ∷ example (ratios (1 ∷ 2 ∷ 3 ∷ []))
+    (0xFF ∷ (replicate 7 0 ++ (0x01 ∷ 0x80 ∷ 0x01 ∷ 0x03 ∷ 0x80 ∷ 0x01 ∷ 0x01 ∷ [])))
     ∷ example
     (whole (run 96000 (0 ∷ 960 ∷ 1920 ∷ []) (replicate 3 0x3FE0000000000000)))
     (0x01 ∷ 0x00 ∷ 0x04 ∷ 0x00 ∷ 0x01 ∷ 0x77 ∷ 0x00

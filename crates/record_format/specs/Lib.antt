@@ -1,4 +1,6 @@
 pub mod Runs
 pub mod Writing
 pub mod Reading
+pub mod Claims
 pub mod Examples
+pub mod Sizes

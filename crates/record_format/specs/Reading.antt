@@ -9,7 +9,8 @@
 --                         for m positions and n ratios
 --   readWith k e s ts vs  the whole answer, with outputs ts and vs: number, place, rate, count, bytes used, and both outputs afterwards
 --   readStrict, readOpen  the two readings of a record
--- Strict and open reading differ in the reading of field 4 only: strictRatios or openRatios.
+-- Strict and open reading, in standard terms canonical and lenient decoding, differ in the reading of field 4 only: strictRatios or
+-- openRatios.
 use mathlib.Core.Bool.{Bool, true, false, not, cond}
 use mathlib.Core.List.{List, [], _∷_, _++_}
 use mathlib.Core.Option.{Option, none, some}
@@ -90,34 +91,42 @@ lengthTest s n p = test (not (eqb (lengthAt s p) n)) 12 p
 abbrev pub bodyTest : List ℕ → ℕ → Test
 bodyTest s p = test (ltb (length s) (nextAt s p)) 10 p
 
--- the fields in order; in each whole head, tag, length, whole body, and then its contents by number
+-- a field whose length is free: whole head, tag, whole body
+abbrev pub wholeTests : List ℕ → ℕ → ℕ → List Test
+wholeTests s tag p = headTests s tag p ++ (bodyTest s p ∷ [])
+
+-- a field of n bytes: whole head, tag, length, whole body
+abbrev pub fixedTests : List ℕ → ℕ → ℕ → ℕ → List Test
+fixedTests s tag n p = headTests s tag p ++ (lengthTest s n p ∷ bodyTest s p ∷ [])
+
+-- each field, and then its contents by number
 abbrev pub firstTests : ℕ → List ℕ → List Test
 firstTests e s =
-    headTests s 1 0
-    ++ (lengthTest s 4 0
-    ∷ bodyTest s 0
-    ∷ test (not (isRate (rateIn s))) 13 0
+    fixedTests s 1 4 0
+    ++ (test (not (isRate (rateIn s))) 13 0
     ∷ test (both (not (eqb e 0)) (not (eqb e (rateIn s)))) 14 0
     ∷ [])
 
 abbrev pub secondTests : List ℕ → ℕ → ℕ → List Test
 secondTests s m n =
-    headTests s 2 (second s)
-    ++ (lengthTest s 2 (second s)
-    ∷ bodyTest s (second s)
-    ∷ test (ltb maxPoints (countIn s)) 15 (second s)
+    fixedTests s 2 2 (second s)
+    ++ (test (ltb maxPoints (countIn s)) 15 (second s)
     ∷ test (cond (ltb m (countIn s)) true (ltb n (countIn s))) 16 (second s)
     ∷ [])
 
 abbrev pub thirdTests : List ℕ → List Test
-thirdTests s = headTests s 3 (third s) ++ (bodyTest s (third s) ∷ test (missing (positionsIn s)) 17 (third s) ∷ [])
+thirdTests s = wholeTests s 3 (third s) ++ (test (missing (positionsIn s)) 17 (third s) ∷ [])
 
 abbrev pub fourthTests : (ℕ → List ℕ → Option (List ℕ)) → List ℕ → List Test
-fourthTests k s = headTests s 4 (fourth s) ++ (bodyTest s (fourth s) ∷ test (missing (ratiosIn k s)) 18 (fourth s) ∷ [])
+fourthTests k s = wholeTests s 4 (fourth s) ++ (test (missing (ratiosIn k s)) 18 (fourth s) ∷ [])
 
--- the tests of reading
+-- the first two fields
+abbrev pub frontTests : ℕ → List ℕ → ℕ → ℕ → List Test
+frontTests e s m n = firstTests e s ++ secondTests s m n
+
+-- the tests of reading: the fields in order
 abbrev pub readTests : (ℕ → List ℕ → Option (List ℕ)) → ℕ → List ℕ → ℕ → ℕ → List Test
-readTests k e s m n = firstTests e s ++ (secondTests s m n ++ (thirdTests s ++ fourthTests k s))
+readTests k e s m n = frontTests e s m n ++ (thirdTests s ++ fourthTests k s)
 
 -- the whole answer of a reading: what it returns, and the two outputs afterwards
 pub record Answer : Type 0 where
@@ -141,11 +150,15 @@ recordAnswer k s ts vs = record {
   ratios = over (listOf (ratiosIn k s)) vs;
 }
 
+-- the refusal of the first test that applies, or else the answer a
+abbrev pub answerBy : List Test → Answer → List ℕ → List ℕ → Answer
+answerBy tests a ts vs =
+    let f = firstOf tests in
+    cond (refused f) (refusalAnswer f ts vs) a
+
 -- reading the bytes s, with the rate e expected, into the outputs ts and vs
 unfoldable pub readWith : (ℕ → List ℕ → Option (List ℕ)) → ℕ → List ℕ → List ℕ → List ℕ → Answer
-readWith k e s ts vs =
-    let f = firstOf (readTests k e s (length ts) (length vs)) in
-    cond (refused f) (refusalAnswer f ts vs) (recordAnswer k s ts vs)
+readWith k e s ts vs = answerBy (readTests k e s (length ts) (length vs)) (recordAnswer k s ts vs) ts vs
 
 -- strict reading: field 4 must be the coding of its ratios
 abbrev pub readStrict : ℕ → List ℕ → List ℕ → List ℕ → Answer

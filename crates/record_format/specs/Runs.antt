@@ -1,8 +1,10 @@
 -- Document 01, "What a run record holds" and "The record".
---   Run            a rate, positions and ratios
---   field t b      a field: the tag t, the length of the body b in two bytes, and b
---   record of r    recordOf r: the four fields, each once, in this order
-use mathlib.Core.List.{List, [], _∷_, _++_}
+--   Run, run       a rate, positions and ratios. The standard term is a time series; its points are its samples, a sample position and the
+--                  ratio there, the 64 bits of an IEEE 754 double
+--   headSize       how many bytes stand before a field's body
+--   field t b      a field: the tag t, the length of the body b in two bytes, and b. The standard term is tag, length, value
+--   recordOf r     the record of the run r: the four fields, each once, in this order
+use mathlib.Core.List.{List, _∷_, _++_}
 use Prim.Native.Nat.{ℕ}
 use lib.ListN.{length}
 use Rattle.bits.specs.Digits.{bytesOf}

@@ -2,6 +2,7 @@
 --   runTests r       the tests of writing on the run alone, in their order: 1 to 5, each over the whole run
 --   accepts r        none of them applies: the writer accepts the run
 --   writeTests r o   all tests, with 6, which asks for room for the whole record
+--   writeRefusal r o the refusal of writing, or none
 --   writeAnswer r o  the answer: number, place and the record's length
 --   writeOutput r o  the output o afterwards
 use mathlib.Core.Bool.{Bool, not, cond}
@@ -28,7 +29,7 @@ runTests r =
     ∷ test (ltb (firstOutside rows (r .positions)) (length (r .positions))) 5 (firstOutside rows (r .positions))
     ∷ []
 
--- "The writer accepts a run when no test of writing but 6 applies to it."
+-- "What demand 3 compares": "The writer accepts a run when no test of writing but 6 applies to it."
 unfoldable pub accepts : Run → Bool
 accepts r = not (refused (firstOf (runTests r)))
 

@@ -1,0 +1,14 @@
+pub mod Integers
+pub mod Lists
+pub mod Rows
+pub mod Codes
+pub mod Prefixes
+pub mod Steps
+pub mod Valid
+pub mod Raw
+pub mod Positions
+pub mod Sizes
+pub mod Parts
+pub mod Fill
+pub mod Turns
+pub mod Table

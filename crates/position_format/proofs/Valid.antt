@@ -1,0 +1,105 @@
+-- Steps by index, and what it says of each position and of each step that positions are valid.
+use mathlib.Core.Bool.{true}
+use mathlib.Core.List.{List, [], _∷_}
+use mathlib.Core.Path.{_≡_, refl, sym, ap, _∙_}
+use Prim.Native.Nat.{ℕ, zero, suc, _-_, _≤_, _<_}
+use native.Mathlib.Omega.{arith}
+use borrow.Author.Tests.{eqb-true, eq-eqb, ltb-false, le-ltb, not-false}
+use lib.Dec.{eqb}
+use lib.IntN.{ℤ, pos}
+use lib.ListN.{length, getD, take}
+use lib.Seq.{take-nil}
+use Rattle.bits.proofs.Compare.{both-true}
+use Rattle.bounds.specs.Lists.{firstIndex}
+use Rattle.bounds.specs.Points.{maxPosition, tooHigh}
+use Rattle.position_format.specs.Rows.{Row, inTable}
+use Rattle.position_format.specs.Steps.{stepOf, stepsFrom, steps, outside}
+use Rattle.position_format.specs.Positions.{validPositions}
+use Rattle.position_format.proofs.Lists.{cons-none, take-none, none-at}
+
+-- ---- steps by index
+
+pub length-from : (a b : ℕ) (ts : List ℕ) → length (stepsFrom a b ts) ≡ length ts
+unfolding stepsFrom
+length-from a b [] = refl
+length-from a b (t ∷ ts) = ap suc (length-from b t ts)
+
+pub length-steps : (ts : List ℕ) → length (steps ts) ≡ length ts - 2
+unfolding steps
+length-steps [] = refl
+length-steps (a ∷ []) = refl
+length-steps (a ∷ b ∷ ts) = omega (arith, length-from a b ts)
+
+from-at : (d : ℤ) (a b : ℕ) (ts : List ℕ) (i : ℕ) → i < length ts → getD (stepsFrom a b ts) i d ≡ stepOf (getD (a ∷ b ∷ ts) i 0) (getD (b ∷ ts) i 0) (getD ts i 0)
+unfolding stepsFrom
+from-at d a b [] i h = absurd (omega arith)
+from-at d a b (t ∷ ts) zero h = refl
+from-at d a b (t ∷ ts) (suc i) h = from-at d b t ts i (omega arith)
+
+-- the step of index i is that of the positions of index i, i + 1 and i + 2
+pub step-at : (d : ℤ) (ts : List ℕ) (i : ℕ) → suc (suc i) < length ts → getD (steps ts) i d ≡ stepOf (getD ts i 0) (getD ts (suc i) 0) (getD ts (suc (suc i)) 0)
+unfolding steps
+step-at d [] i h = absurd (omega arith)
+step-at d (a ∷ []) i h = absurd (omega arith)
+step-at d (a ∷ b ∷ ts) i h = from-at d a b ts i (omega arith)
+
+pub take-from : (k a b : ℕ) (ts : List ℕ) → stepsFrom a b (take k ts) ≡ take k (stepsFrom a b ts)
+unfolding stepsFrom
+take-from zero a b ts = refl
+take-from (suc k) a b [] = refl
+take-from (suc k) a b (t ∷ ts) = ap (λ (l : List ℤ). stepOf a b t ∷ l) (take-from k b t ts)
+
+-- the steps of the first k positions are the first steps
+pub take-steps : (k : ℕ) (ts : List ℕ) → steps (take k ts) ≡ take (k - 2) (steps ts)
+unfolding steps
+take-steps zero ts = refl
+take-steps (suc zero) [] = refl
+take-steps (suc zero) (a ∷ ts) = refl
+take-steps (suc (suc k)) [] = sym (take-nil (suc (suc k) - 2))
+take-steps (suc (suc k)) (a ∷ []) = sym (take-nil (suc (suc k) - 2))
+take-steps (suc (suc k)) (a ∷ b ∷ ts) =
+    let e : suc (suc k) - 2 ≡ k = omega arith in
+    take-from k a b ts ∙ ap (λ (n : ℕ). take n (stepsFrom a b ts)) (sym e)
+
+-- ---- valid positions
+
+module _ (rs : List Row) where
+  pub valid-parts : (ts : List ℕ) → validPositions rs ts ≡ true → (firstIndex tooHigh ts ≡ length ts) × (firstIndex (outside rs) (steps ts) ≡ length (steps ts))
+  unfolding validPositions
+  valid-parts ts e =
+      let p = both-true (eqb (firstIndex tooHigh ts) (length ts)) _ e in
+      (eqb-true _ _ (p .0), eqb-true _ _ (p .1))
+
+  pub valid-of : (ts : List ℕ) → firstIndex tooHigh ts ≡ length ts → firstIndex (outside rs) (steps ts) ≡ length (steps ts) → validPositions rs ts ≡ true
+  unfolding validPositions
+  valid-of ts e f = rw (eq-eqb _ _ e, eq-eqb _ _ f)
+
+  -- below three positions there is no step
+  pub valid-none : validPositions rs [] ≡ true
+  unfolding steps firstIndex
+  valid-none = valid-of [] refl refl
+
+  pub valid-one : (a : ℕ) → a ≤ maxPosition → validPositions rs (a ∷ []) ≡ true
+  unfolding steps firstIndex
+  valid-one a h = valid-of (a ∷ []) (cons-none tooHigh a [] (le-ltb maxPosition a h) refl) refl
+
+  pub valid-two : (a b : ℕ) → a ≤ maxPosition → b ≤ maxPosition → validPositions rs (a ∷ b ∷ []) ≡ true
+  unfolding steps stepsFrom firstIndex
+  valid-two a b h g = valid-of (a ∷ b ∷ []) (cons-none tooHigh a (b ∷ []) (le-ltb maxPosition a h) (cons-none tooHigh b [] (le-ltb maxPosition b g) refl)) refl
+
+  module _ (ts : List ℕ) (valid : validPositions rs ts ≡ true) where
+    -- each position is in its range
+    pub valid-low : (i : ℕ) → i < length ts → getD ts i 0 ≤ maxPosition
+    valid-low i h = ltb-false maxPosition (getD ts i 0) (none-at tooHigh 0 ts (valid-parts ts valid .0) i h)
+
+    -- each step is in the table
+    pub valid-step : (i : ℕ) → suc (suc i) < length ts → inTable rs (stepOf (getD ts i 0) (getD ts (suc i) 0) (getD ts (suc (suc i)) 0)) ≡ true
+    valid-step i h =
+        rw (← step-at (pos 0) ts i h)
+        (not-false _ (none-at (outside rs) (pos 0) (steps ts) (valid-parts ts valid .1) i (omega (arith, length-steps ts))))
+
+    -- and the first positions are valid
+    pub valid-take : (k : ℕ) → validPositions rs (take k ts) ≡ true
+    valid-take k =
+        let p = valid-parts ts valid in
+        valid-of (take k ts) (take-none tooHigh k ts (p .0)) (rw (take-steps k ts) (take-none (outside rs) (k - 2) (steps ts) (p .1)))

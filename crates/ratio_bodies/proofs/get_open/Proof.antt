@@ -1,0 +1,116 @@
+-- `get_open` meets its contract. The invariant: the first i ratios stand at the front, and reading on from there gives the whole reading.
+use mathlib.Core.Bool.{false}
+use Prim.Native.Nat.{_-_}
+use native.Mathlib.Omega.{arith}
+use borrow.Author.Needs.{needs}
+use lib.Dec.{eqb}
+use lib.ListN.{length}
+use Rattle.ratio_format.specs.Open.{openRead}
+use Rattle.ratio_bodies.proofs.Got.{Got, filled-open, open-within, got-none, got-refused, got-within, got-more, got-all}
+use Rattle.ratio_bodies.proofs.get_open.Statement.{statement}
+use Rattle.ratio_bodies.proofs.get_open.Tie as tie
+
+abbrev Inv-loop : tie.InvT-loop
+Inv-loop body count out₀ at₀ i₀ out at i = Got openRead count body out₀ out at i
+
+abbrev μ-loop : tie.MeasureT-loop
+μ-loop body count out₀ at₀ i₀ out at i = count - i
+
+loop-holds : tie.Need-loop-holds Inv-loop μ-loop
+loop-holds c =
+    let a = c .before .before .args in
+    got-none openRead (a .count) (a .body .now) (a .out .now)
+
+sub-open-nth : tie.Need-sub-open-nth Inv-loop μ-loop
+sub-open-nth c = search needs
+
+part-open-nth-start : tie.Need-part-open-nth-start Inv-loop μ-loop
+part-open-nth-start c = search needs
+
+part-open-nth-end : tie.Need-part-open-nth-end Inv-loop μ-loop
+part-open-nth-end c = search needs
+
+open-nth-requires : tie.Need-open-nth-requires Inv-loop μ-loop
+open-nth-requires c κs = search needs
+
+enum-known-r : tie.Need-enum-known-r Inv-loop μ-loop
+enum-known-r c = search needs
+
+enum-told : tie.Need-enum-told Inv-loop μ-loop
+enum-told c = search needs
+
+same-length : tie.Need-same-length Inv-loop μ-loop
+same-length c = search needs
+
+returns : tie.Need-returns Inv-loop μ-loop
+returns c =
+    let r = c .before .before .open-nth in
+    let l = c .before .before .before .before .before .before .loop in
+    let d = c .before .before .before .before .before .before .before .before in
+    let a = d .before .args in
+    filled-open (a .count) (a .body .now) (a .out .now) (l .out) false
+    (got-refused openRead (a .count) (a .body .now) (a .out .now) (l .out) (l .at) (l .i) (l .inv) (omega arith) (r .result) (r .ensures) (c .enum-told .given .1))
+
+mul-out : tie.Need-mul-out Inv-loop μ-loop
+mul-out c = search needs
+
+slice-write-out : tie.Need-slice-write-out Inv-loop μ-loop
+slice-write-out c = search needs
+
+add-at : tie.Need-add-at Inv-loop μ-loop
+add-at c =
+    let r = c .before .before .before .open-nth in
+    let l = c .before .before .before .before .before .before .before .loop in
+    let a = c .before .before .before .before .before .before .before .before .before .before .args in
+    let g = c .before .r .given in
+    omega (arith, got-within openRead (a .count) (a .body .now) (a .out .now) (l .out) (l .at) (l .i) (l .inv) (omega arith) (r .result) (r .ensures) open-within (g .0 .0) (g .0 .1 .0) (g .1))
+
+add-i : tie.Need-add-i Inv-loop μ-loop
+add-i c = search needs
+
+loop-less : tie.Need-loop-less Inv-loop μ-loop
+loop-less c = search needs
+
+loop-again : tie.Need-loop-again Inv-loop μ-loop
+loop-again c =
+    let r = c .before .before .before .open-nth in
+    let l = c .before .before .before .before .before .before .before .loop in
+    let d = c .before .before .before .before .before .before .before .before .before .before in
+    let a = d .args in
+    let g = c .before .r .given in
+    got-more openRead (a .count) (a .body .now) (a .out .now) (l .out) (l .at) (l .i) (l .inv) (omega arith) (r .result) (r .ensures) open-within (g .0 .0) (g .0 .1 .0) (g .1) (d .pre)
+
+same-length-2 : tie.Need-same-length-2 Inv-loop μ-loop
+same-length-2 c = search needs
+
+returns-2 : tie.Need-returns-2 Inv-loop μ-loop
+returns-2 c =
+    let l = c .before .loop in
+    let d = c .before .before .before in
+    let a = d .before .args in
+    filled-open (a .count) (a .body .now) (a .out .now) (l .out) (eqb (l .at) (length (a .body .now)))
+    (got-all openRead (a .count) (a .body .now) (a .out .now) (l .out) (l .at) (l .i) (l .inv) (omega arith) (d .before .pre))
+
+pub get-open-spec : {M : Type 1} → statement M
+get-open-spec =
+    tie.close
+    (tie.spec
+    Inv-loop
+    μ-loop
+    loop-holds
+    sub-open-nth
+    part-open-nth-start
+    part-open-nth-end
+    open-nth-requires
+    enum-known-r
+    enum-told
+    same-length
+    returns
+    mul-out
+    slice-write-out
+    add-at
+    add-i
+    loop-less
+    loop-again
+    same-length-2
+    returns-2)

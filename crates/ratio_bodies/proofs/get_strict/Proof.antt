@@ -1,0 +1,116 @@
+-- `get_strict` meets its contract. The invariant: the first i ratios stand at the front, and reading on from there gives the whole reading.
+use mathlib.Core.Bool.{false}
+use Prim.Native.Nat.{_-_}
+use native.Mathlib.Omega.{arith}
+use borrow.Author.Needs.{needs}
+use lib.Dec.{eqb}
+use lib.ListN.{length}
+use Rattle.ratio_format.specs.Open.{strictRead}
+use Rattle.ratio_bodies.proofs.Got.{Got, filled-strict, strict-within, got-none, got-refused, got-within, got-more, got-all}
+use Rattle.ratio_bodies.proofs.get_strict.Statement.{statement}
+use Rattle.ratio_bodies.proofs.get_strict.Tie as tie
+
+abbrev Inv-loop : tie.InvT-loop
+Inv-loop body count out₀ at₀ i₀ out at i = Got strictRead count body out₀ out at i
+
+abbrev μ-loop : tie.MeasureT-loop
+μ-loop body count out₀ at₀ i₀ out at i = count - i
+
+loop-holds : tie.Need-loop-holds Inv-loop μ-loop
+loop-holds c =
+    let a = c .before .before .args in
+    got-none strictRead (a .count) (a .body .now) (a .out .now)
+
+sub-strict-nth : tie.Need-sub-strict-nth Inv-loop μ-loop
+sub-strict-nth c = search needs
+
+part-strict-nth-start : tie.Need-part-strict-nth-start Inv-loop μ-loop
+part-strict-nth-start c = search needs
+
+part-strict-nth-end : tie.Need-part-strict-nth-end Inv-loop μ-loop
+part-strict-nth-end c = search needs
+
+strict-nth-requires : tie.Need-strict-nth-requires Inv-loop μ-loop
+strict-nth-requires c κs = search needs
+
+enum-known-r : tie.Need-enum-known-r Inv-loop μ-loop
+enum-known-r c = search needs
+
+enum-told : tie.Need-enum-told Inv-loop μ-loop
+enum-told c = search needs
+
+same-length : tie.Need-same-length Inv-loop μ-loop
+same-length c = search needs
+
+returns : tie.Need-returns Inv-loop μ-loop
+returns c =
+    let r = c .before .before .strict-nth in
+    let l = c .before .before .before .before .before .before .loop in
+    let d = c .before .before .before .before .before .before .before .before in
+    let a = d .before .args in
+    filled-strict (a .count) (a .body .now) (a .out .now) (l .out) false (λ i. d .shared-slice-known .given i .fits)
+    (got-refused strictRead (a .count) (a .body .now) (a .out .now) (l .out) (l .at) (l .i) (l .inv) (omega arith) (r .result) (r .ensures) (c .enum-told .given .1))
+
+mul-out : tie.Need-mul-out Inv-loop μ-loop
+mul-out c = search needs
+
+slice-write-out : tie.Need-slice-write-out Inv-loop μ-loop
+slice-write-out c = search needs
+
+add-at : tie.Need-add-at Inv-loop μ-loop
+add-at c =
+    let r = c .before .before .before .strict-nth in
+    let l = c .before .before .before .before .before .before .before .loop in
+    let a = c .before .before .before .before .before .before .before .before .before .before .args in
+    let g = c .before .r .given in
+    omega (arith, got-within strictRead (a .count) (a .body .now) (a .out .now) (l .out) (l .at) (l .i) (l .inv) (omega arith) (r .result) (r .ensures) strict-within (g .0 .0) (g .0 .1 .0) (g .1))
+
+add-i : tie.Need-add-i Inv-loop μ-loop
+add-i c = search needs
+
+loop-less : tie.Need-loop-less Inv-loop μ-loop
+loop-less c = search needs
+
+loop-again : tie.Need-loop-again Inv-loop μ-loop
+loop-again c =
+    let r = c .before .before .before .strict-nth in
+    let l = c .before .before .before .before .before .before .before .loop in
+    let d = c .before .before .before .before .before .before .before .before .before .before in
+    let a = d .args in
+    let g = c .before .r .given in
+    got-more strictRead (a .count) (a .body .now) (a .out .now) (l .out) (l .at) (l .i) (l .inv) (omega arith) (r .result) (r .ensures) strict-within (g .0 .0) (g .0 .1 .0) (g .1) (d .pre)
+
+same-length-2 : tie.Need-same-length-2 Inv-loop μ-loop
+same-length-2 c = search needs
+
+returns-2 : tie.Need-returns-2 Inv-loop μ-loop
+returns-2 c =
+    let l = c .before .loop in
+    let d = c .before .before .before in
+    let a = d .before .args in
+    filled-strict (a .count) (a .body .now) (a .out .now) (l .out) (eqb (l .at) (length (a .body .now))) (λ i. d .shared-slice-known .given i .fits)
+    (got-all strictRead (a .count) (a .body .now) (a .out .now) (l .out) (l .at) (l .i) (l .inv) (omega arith) (d .before .pre))
+
+pub get-strict-spec : {M : Type 1} → statement M
+get-strict-spec =
+    tie.close
+    (tie.spec
+    Inv-loop
+    μ-loop
+    loop-holds
+    sub-strict-nth
+    part-strict-nth-start
+    part-strict-nth-end
+    strict-nth-requires
+    enum-known-r
+    enum-told
+    same-length
+    returns
+    mul-out
+    slice-write-out
+    add-at
+    add-i
+    loop-less
+    loop-again
+    same-length-2
+    returns-2)

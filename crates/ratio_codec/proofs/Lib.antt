@@ -1,0 +1,5 @@
+pub mod Parts
+pub mod Scan
+pub mod Chosen
+pub mod Front
+pub mod Heads

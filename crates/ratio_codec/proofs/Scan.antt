@@ -1,0 +1,115 @@
+-- A scan of a window from its newest ratio on, as the search goes: the best of the ratios passed, with one more, and where it ends.
+use mathlib.Core.Path.{_≡_, refl, sym, ap, _∙_}
+use mathlib.Core.Bool.{Bool, true, false}
+use mathlib.Core.List.{List, [], _∷_, _++_, append-nil, reverse}
+use Prim.Native.Nat.{ℕ, _+_, _-_, _≤_, _<_}
+use native.Mathlib.Numerals.{add-one}
+use native.Mathlib.Omega.{arith}
+use borrow.Author.Tests.{leb-true, leb-false}
+use lib.Bits.{bitXor}
+use lib.Dec.{leb}
+use lib.ListN.{length, take, drop, getD, length-reverse, take-append-drop}
+use lib.Seq.{take-suc, take-all, length-take-le, append-snoc}
+use Rattle.ratio_format.specs.Zeros.{score}
+use Rattle.ratio_format.specs.Choice.{Best, newer, best}
+use Rattle.ratio_format.proofs.Zeros.{lead-le, trail-le}
+use Rattle.ratio_format.proofs.Score.{score-same}
+use Rattle.ratio_format.proofs.Choice.{best-most, best-wins, best-stays}
+use Rattle.ratio_format.proofs.Windows.{back}
+
+-- no sum is above 16
+score-le : (v u : ℕ) → score v u ≤ 16
+unfolding score
+score-le v u = omega (arith, lead-le (bitXor v u), trail-le (bitXor v u))
+
+module _ (v : ℕ) where
+  -- one ratio more makes the best sum no smaller
+  best-grows : (x : ℕ) (w : List ℕ) → best v w .sum ≤ best v (x ∷ w) .sum
+  best-grows x w = go (leb (best v w .sum) (score v x)) refl
+    where
+      go : (t : Bool) → leb (best v w .sum) (score v x) ≡ t → best v w .sum ≤ best v (x ∷ w) .sum
+      go true e =
+          let h = leb-true (best v w .sum) (score v x) e in
+          omega (arith, ap (λ (b : Best). b .sum) (best-wins v x w refl h))
+      go false e = omega (arith, ap (λ (b : Best). b .sum) (best-stays v x w refl (leb-false (best v w .sum) (score v x) e)))
+
+  -- one older ratio is better by a larger sum only
+  module _ (u : ℕ) where
+    older-wins : (w : List ℕ) → best v w .sum < score v u → best v (w ++ (u ∷ [])) ≡ record { place = length w; sum = score v u }
+    older-wins [] h = best-wins v u [] refl (omega arith)
+    older-wins (x ∷ w) h =
+        best-stays v x (w ++ (u ∷ [])) (older-wins w (omega (arith, best-grows x w))) (omega (arith, best-most v (x ∷ w) 0 (omega arith)))
+        ∙ ap (λ (p : ℕ). record { place = p; sum = score v u }) (add-one (length w))
+
+    older-loses : (w : List ℕ) → score v u ≤ best v w .sum → best v (w ++ (u ∷ [])) ≡ best v w
+    unfolding best
+    older-loses [] h =
+        let e : score v u ≡ 0 = omega arith in
+        best-wins v u [] refl (omega arith) ∙ ap (λ (s : ℕ). record { place = 0; sum = s }) e
+    older-loses (x ∷ w) h =
+        go (older-loses w) (leb (score v u) (best v w .sum)) refl (leb (best v w .sum) (score v x)) refl
+      where
+        go : (score v u ≤ best v w .sum → best v (w ++ (u ∷ [])) ≡ best v w) → (t : Bool) → leb (score v u) (best v w .sum) ≡ t
+            → (r : Bool) → leb (best v w .sum) (score v x) ≡ r → best v (x ∷ (w ++ (u ∷ []))) ≡ best v (x ∷ w)
+        go ih true e r f = ap (newer (score v x)) (ih (leb-true (score v u) (best v w .sum) e))
+        go ih false e true f =
+            let g = best-wins v x w refl (leb-true (best v w .sum) (score v x) f) in
+            best-wins v x (w ++ (u ∷ [])) (older-wins w (leb-false (score v u) (best v w .sum) e)) (omega (arith, ap (λ (b : Best). b .sum) g)) ∙ sym g
+        go ih false e false f =
+            absurd (omega (arith, leb-false (score v u) (best v w .sum) e, ap (λ (b : Best). b .sum) (best-stays v x w refl (leb-false (best v w .sum) (score v x) f))))
+
+  -- older ratios change nothing where the sum is 16
+  best-full : (w rest : List ℕ) → best v w .sum ≡ 16 → best v (w ++ rest) ≡ best v w
+  best-full w [] e = ap (best v) (append-nil w)
+  best-full w (x ∷ rest) e =
+      let l = older-loses x w (omega (arith, score-le v x)) in
+      ap (best v) (sym (append-snoc w x rest)) ∙ best-full (w ++ (x ∷ [])) rest (ap (λ (b : Best). b .sum) l ∙ e) ∙ l
+
+  -- of the slice l, oldest first: the i newest are passed, and p and s are the best of them
+  abbrev pub Scanned : List ℕ → ℕ → ℕ → ℕ → Type 0
+  Scanned l i p s = (i ≤ length l) × (s < 16) × (best v (take i (reverse l)) ≡ record { place = p; sum = s })
+
+  pub scan-none : (l : List ℕ) → Scanned l 0 0 0
+  unfolding best
+  scan-none l = (omega arith, omega arith, refl)
+
+  -- all are passed
+  pub scan-all : (l : List ℕ) (i p s : ℕ) → Scanned l i p s → length l ≤ i → best v (reverse l) ≡ record { place = p; sum = s }
+  scan-all l i p s h g = ap (best v) (sym (take-all i (reverse l) (rw length-reverse g))) ∙ h .2
+
+  -- the next one
+  module _ (l : List ℕ) (i p s : ℕ) (h : Scanned l i p s) (g : i < length l) where
+    abbrev next : ℕ
+    next = getD l (length l - 1 - i) 0
+
+    more : take (i + 1) (reverse l) ≡ take i (reverse l) ++ (next ∷ [])
+    more =
+        ap (λ (n : ℕ). take n (reverse l)) (add-one i)
+        ∙ take-suc (reverse l) i 0 (rw length-reverse g)
+        ∙ ap (λ (u : ℕ). take i (reverse l) ++ (u ∷ [])) (back l i g)
+
+    passed : length (take i (reverse l)) ≡ i
+    passed = length-take-le i (reverse l) (rw length-reverse (omega arith))
+
+    sum-is : best v (take i (reverse l)) .sum ≡ s
+    sum-is = ap (λ (b : Best). b .sum) (h .2)
+
+    wins : s < score v next → best v (take (i + 1) (reverse l)) ≡ record { place = i; sum = score v next }
+    wins k =
+        ap (best v) more ∙ older-wins next (take i (reverse l)) (omega (arith, sum-is))
+        ∙ ap (λ (n : ℕ). record { place = n; sum = score v next }) passed
+
+    pub scan-wins : s < score v next → score v next < 16 → Scanned l (i + 1) i (score v next)
+    scan-wins k m = (omega arith, m, wins k)
+
+    pub scan-loses : score v next ≤ s → Scanned l (i + 1) p s
+    scan-loses k = (omega arith, h .1, ap (best v) more ∙ older-loses next (take i (reverse l)) (omega (arith, sum-is)) ∙ h .2)
+
+    -- an equal one ends the scan
+    pub scan-equal : next ≡ v → best v (reverse l) ≡ record { place = i; sum = 16 }
+    scan-equal e =
+        let q : score v next ≡ 16 = ap (score v) e ∙ score-same v in
+        let b = wins (omega arith) in
+        ap (best v) (sym (take-append-drop (i + 1) (reverse l)))
+        ∙ best-full (take (i + 1) (reverse l)) (drop (i + 1) (reverse l)) (ap (λ (b : Best). b .sum) b ∙ q)
+        ∙ b ∙ ap (λ (n : ℕ). record { place = i; sum = n }) q

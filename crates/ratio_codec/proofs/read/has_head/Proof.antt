@@ -1,0 +1,69 @@
+-- `has_head` meets its contract: each form by the test of its head.
+use mathlib.Core.Path.{sym, ap, _∙_, subst}
+use native.Mathlib.Omega.{arith}
+use Rattle.bits.specs.Compare.{begins}
+use Rattle.ratio_format.specs.declared.Form.{Form}
+use Rattle.ratio_format.proofs.Choice.{Fit}
+use Rattle.ratio_codec.specs.Heads.{head}
+use borrow.Author.Needs.{needs}
+use Rattle.ratio_codec.proofs.read.has_head.Statement.{statement}
+use Rattle.ratio_codec.proofs.read.has_head.Tie as tie
+
+enum-known-f : tie.Need-enum-known-f
+enum-known-f c = search needs
+
+has-one-requires : tie.Need-has-one-requires
+has-one-requires c κs = search needs
+
+enum-known-f-2 : tie.Need-enum-known-f-2
+enum-known-f-2 c = search needs
+
+add-has-two : tie.Need-add-has-two
+add-has-two c = let h = subst (Fit 127) (c .before .f2 .given .1) (c .before .before .before .before .pre) in omega arith
+
+mul-has-two : tie.Need-mul-has-two
+mul-has-two c = let h = subst (Fit 127) (c .before .f2 .given .1) (c .before .before .before .before .pre) in omega arith
+
+add-has-two-2 : tie.Need-add-has-two-2
+add-has-two-2 c = let h = subst (Fit 127) (c .before .f2 .given .1) (c .before .before .before .before .pre) in omega arith
+
+has-two-requires : tie.Need-has-two-requires
+has-two-requires c κs = search needs
+
+enum-told : tie.Need-enum-told
+enum-told c = search needs
+
+has-one-requires-2 : tie.Need-has-one-requires-2
+has-one-requires-2 c κs = search needs
+
+returns : tie.Need-returns
+returns c =
+    let a = c .before .before .before .before .before .args in
+    c .has-one .ensures ∙ ap (λ (f : Form). begins (head f) (a .s .now)) (sym (c .before .before .f .given .1))
+
+returns-2 : tie.Need-returns-2
+returns-2 c =
+    let a = c .before .before .before .before .before .args in
+    c .has-two .ensures ∙ ap (λ (f : Form). begins (head f) (a .s .now)) (sym (c .before .before .f2 .given .1))
+
+returns-3 : tie.Need-returns-3
+returns-3 c =
+    let a = c .before .before .before .before .args in
+    c .has-one2 .ensures ∙ ap (λ (f : Form). begins (head f) (a .s .now)) (sym (c .before .enum-told .given .1))
+
+pub has-head-spec : {M : Type 1} → statement M
+has-head-spec =
+    tie.close
+    (tie.spec
+    enum-known-f
+    has-one-requires
+    enum-known-f-2
+    add-has-two
+    mul-has-two
+    add-has-two-2
+    has-two-requires
+    enum-told
+    has-one-requires-2
+    returns
+    returns-2
+    returns-3)

@@ -1,0 +1,131 @@
+-- `read_open` meets its contract: a law for each outcome.
+use mathlib.Core.List.{reverse}
+use mathlib.Core.Path.{sym, ap, _∙_}
+use Prim.Native.Nat.{_-_}
+use native.Mathlib.Omega.{arith}
+use lib.ListN.{length, getD, length-reverse}
+use Rattle.ratio_format.specs.Open.{openXor}
+use Rattle.ratio_format.proofs.Reading.{open-empty, open-reference, open-far, open-xor, open-away, open-exception, open-cut}
+use Rattle.ratio_format.proofs.Windows.{back}
+use Rattle.ratio_codec.proofs.Parts.{rest-is}
+use borrow.Author.Needs.{needs}
+use Rattle.ratio_codec.proofs.read.read_open.Statement.{statement}
+use Rattle.ratio_codec.proofs.read.read_open.Tie as tie
+
+returns : tie.Need-returns
+returns c =
+    let a = c .before .before .before .args in
+    open-empty (reverse (a .window .now)) (a .s .now) (c .if1 .taken)
+
+shared-slice-read-b : tie.Need-shared-slice-read-b
+shared-slice-read-b c = search needs
+
+cast-b : tie.Need-cast-b
+cast-b c = omega (arith, c .shared-slice-known3 .given 0)
+
+sub-t12 : tie.Need-sub-t12
+sub-t12 c = search needs
+
+sub-t13 : tie.Need-sub-t13
+sub-t13 c = search needs
+
+mul-t14 : tie.Need-mul-t14
+mul-t14 c = search needs
+
+shared-slice-read-t16 : tie.Need-shared-slice-read-t16
+shared-slice-read-t16 c = search needs
+
+returns-2 : tie.Need-returns-2
+returns-2 c =
+    let a = c .before .before .before .before .before .before .before .args in
+    let l = a .window .now in
+    let b = getD (a .s .now) 0 0 in
+    let h = c .before .if3 .taken in
+    open-reference (reverse l) (a .s .now) (getD l (length l - 1 - b) 0) (c .before .before .before .before .if1 .left) (c .before .before .if2 .taken)
+    (rw length-reverse h) (sym (back l b h))
+
+returns-3 : tie.Need-returns-3
+returns-3 c =
+    let a = c .before .before .before .before .before .before .args in
+    open-far (reverse (a .window .now)) (a .s .now) (c .before .before .before .if1 .left) (c .before .if2 .taken) (rw length-reverse (c .if3 .left))
+
+sub-read-xor : tie.Need-sub-read-xor
+sub-read-xor c = search needs
+
+sub-read-xor-2 : tie.Need-sub-read-xor-2
+sub-read-xor-2 c = search needs
+
+mul-read-xor : tie.Need-mul-read-xor
+mul-read-xor c = search needs
+
+shared-slice-read-read-xor : tie.Need-shared-slice-read-read-xor
+shared-slice-read-read-xor c = search needs
+
+sub-read-xor-3 : tie.Need-sub-read-xor-3
+sub-read-xor-3 c = search needs
+
+part-read-xor-start : tie.Need-part-read-xor-start
+part-read-xor-start c = search needs
+
+part-read-xor-end : tie.Need-part-read-xor-end
+part-read-xor-end c = search needs
+
+read-xor-requires : tie.Need-read-xor-requires
+read-xor-requires c κs = search needs
+
+returns-4 : tie.Need-returns-4
+returns-4 c =
+    let d = c .before .before .before in
+    let a = d .before .before .before .before .before .before .before .args in
+    let l = a .window .now in
+    let s = a .s .now in
+    let p = getD s 0 0 - 128 in
+    let u = getD l (length l - 1 - p) 0 in
+    open-xor (reverse l) s u (c .read-xor .result) (d .before .before .before .before .if1 .left) (d .before .before .if2 .left) (d .before .if4 .taken)
+    (rw length-reverse (d .if5 .taken)) (sym (back l p (d .if5 .taken))) (c .read-xor .ensures ∙ ap (openXor u) (rest-is 1 s))
+
+returns-5 : tie.Need-returns-5
+returns-5 c =
+    let a = c .before .before .before .before .before .before .before .args in
+    open-away (reverse (a .window .now)) (a .s .now) (c .before .before .before .before .if1 .left) (c .before .before .if2 .left) (c .before .if4 .taken)
+    (rw length-reverse (c .if5 .left))
+
+get-bytes-requires : tie.Need-get-bytes-requires
+get-bytes-requires c κs = search needs
+
+returns-6 : tie.Need-returns-6
+returns-6 c =
+    let a = c .before .before .before .before .before .before .before .before .args in
+    open-exception (reverse (a .window .now)) (a .s .now) (c .get-bytes .result) (c .before .before .if4 .left) (c .before .if6 .taken) (c .get-bytes .ensures .0)
+
+returns-7 : tie.Need-returns-7
+returns-7 c =
+    let a = c .before .before .before .before .before .before .before .args in
+    open-cut (reverse (a .window .now)) (a .s .now) (c .before .before .before .before .if1 .left) (c .before .if4 .left) (c .if6 .left)
+
+pub read-open-spec : {M : Type 1} → statement M
+read-open-spec =
+    tie.close
+    (tie.spec
+    returns
+    shared-slice-read-b
+    cast-b
+    sub-t12
+    sub-t13
+    mul-t14
+    shared-slice-read-t16
+    returns-2
+    returns-3
+    sub-read-xor
+    sub-read-xor-2
+    mul-read-xor
+    shared-slice-read-read-xor
+    sub-read-xor-3
+    part-read-xor-start
+    part-read-xor-end
+    read-xor-requires
+    returns-4
+    returns-5
+    get-bytes-requires
+    returns-6
+    returns-7)

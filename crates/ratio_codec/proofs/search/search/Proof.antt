@@ -1,0 +1,88 @@
+-- `search` meets its contract. The invariant: the place and the sum are the best of the i newest ratios, and none of them is equal.
+use mathlib.Core.Path.{sym, ap}
+use mathlib.Core.Logic.{⊎-elim}
+use Prim.Native.Nat.{_-_, _<_}
+use native.Mathlib.Omega.{arith}
+use borrow.Author.Needs.{needs}
+use lib.ListN.{length, getD}
+use Rattle.ratio_format.specs.Choice.{Best}
+use Rattle.ratio_format.proofs.Score.{score-other}
+use Rattle.ratio_codec.proofs.Scan.{Scanned, scan-none, scan-wins, scan-loses, scan-equal, scan-all}
+use Rattle.ratio_codec.proofs.search.search.Statement.{statement}
+use Rattle.ratio_codec.proofs.search.search.Tie as tie
+
+abbrev Inv-loop : tie.InvT-loop
+Inv-loop window v place₀ sum₀ i₀ place sum i = Scanned v window i place sum
+
+abbrev μ-loop : tie.MeasureT-loop
+μ-loop window v place₀ sum₀ i₀ place sum i = length window - i
+
+loop-holds : tie.Need-loop-holds Inv-loop μ-loop
+loop-holds c = scan-none (c .before .args .v) (c .before .args .window .now)
+
+sub-u : tie.Need-sub-u Inv-loop μ-loop
+sub-u c = omega arith
+
+sub-u-2 : tie.Need-sub-u-2 Inv-loop μ-loop
+sub-u-2 c = omega arith
+
+mul-u : tie.Need-mul-u Inv-loop μ-loop
+mul-u c = omega arith
+
+shared-slice-read-u : tie.Need-shared-slice-read-u Inv-loop μ-loop
+shared-slice-read-u c = omega arith
+
+returns : tie.Need-returns Inv-loop μ-loop
+returns c =
+    let a = c .before .before .before .before .before .args in
+    let l = c .before .before .before .loop in
+    let e = scan-equal (a .v) (a .window .now) (l .i) (l .place) (l .sum) (l .inv) (omega arith) (c .if1 .taken) in
+    (sym (ap (λ (b : Best). b .place) e), sym (ap (λ (b : Best). b .sum) e))
+
+score-of-requires : tie.Need-score-of-requires Inv-loop μ-loop
+score-of-requires c κs = search needs
+
+add-i : tie.Need-add-i Inv-loop μ-loop
+add-i c = omega arith
+
+loop-less : tie.Need-loop-less Inv-loop μ-loop
+loop-less c = omega arith
+
+loop-again : tie.Need-loop-again Inv-loop μ-loop
+loop-again c =
+    let d = c .before .before .before .before .before .before .before in
+    let a = d .args in
+    let l = c .before .before .before .before .before .loop in
+    let w = a .window .now in
+    let k = c .before .before .before .before .before .before .shared-slice-known .given (length w - 1 - l .i) .fits in
+    let h : l .i < length w = omega arith in
+    let o = score-other (a .v) (getD w (length w - 1 - l .i) 0) (d .fits .v .fits) k (λ q. c .before .before .if1 .left (sym q)) in
+    ⊎-elim
+    (λ t. let n = scan-wins (a .v) w (l .i) (l .place) (l .sum) (l .inv) h (omega arith) (omega arith) in let e = n .2 in (n .0, omega arith, cc))
+    (λ t. let n = scan-loses (a .v) w (l .i) (l .place) (l .sum) (l .inv) h (omega arith) in let e = n .2 in (n .0, omega arith, cc))
+    (c .if2 .came)
+
+returns-2 : tie.Need-returns-2 Inv-loop μ-loop
+returns-2 c =
+    let a = c .before .before .before .args in
+    let l = c .before .loop in
+    let e = scan-all (a .v) (a .window .now) (l .i) (l .place) (l .sum) (l .inv) (omega arith) in
+    (sym (ap (λ (b : Best). b .place) e), sym (ap (λ (b : Best). b .sum) e))
+
+pub search-spec : {M : Type 1} → statement M
+search-spec =
+    tie.close
+    (tie.spec
+    Inv-loop
+    μ-loop
+    loop-holds
+    sub-u
+    sub-u-2
+    mul-u
+    shared-slice-read-u
+    returns
+    score-of-requires
+    add-i
+    loop-less
+    loop-again
+    returns-2)

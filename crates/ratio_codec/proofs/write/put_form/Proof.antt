@@ -1,0 +1,86 @@
+-- `put_form` meets its contract: each form by the function that writes it.
+use mathlib.Core.Path.{_≡_, sym, subst}
+use mathlib.Core.List.{List}
+use Prim.Native.Nat.{ℕ}
+use Rattle.bounds.specs.declared.Wrote.{Wrote}
+use Rattle.bounds.specs.Outputs.{Placed}
+use Rattle.ratio_format.specs.declared.Form.{Form}
+use Rattle.ratio_format.specs.Forms.{written}
+use Rattle.ratio_format.proofs.Choice.{Fit}
+use borrow.Author.Needs.{needs}
+use Rattle.ratio_codec.proofs.write.put_form.Statement.{statement}
+use Rattle.ratio_codec.proofs.write.put_form.Tie as tie
+
+enum-known-f : tie.Need-enum-known-f
+enum-known-f c = search needs
+
+put-reference-requires : tie.Need-put-reference-requires
+put-reference-requires c κs =
+    subst (Fit 127) (c .before .before .f .given .1) (c .before .before .before .before .before .pre)
+
+enum-known-f-2 : tie.Need-enum-known-f-2
+enum-known-f-2 c = search needs
+
+put-xor-requires : tie.Need-put-xor-requires
+put-xor-requires c κs =
+    subst (Fit 127) (c .before .before .f2 .given .1) (c .before .before .before .before .before .pre)
+
+enum-told : tie.Need-enum-told
+enum-told c = search needs
+
+put-exception-requires : tie.Need-put-exception-requires
+put-exception-requires c κs = search needs
+
+same-length : tie.Need-same-length
+same-length c = search needs
+
+-- what is placed for a form that is known is what is placed for f
+same-form : (v : ℕ) {f g : Form} (r : Wrote) (o p : List ℕ) → f ≡ g → Placed (written v g) r o p → Placed (written v f) r o p
+same-form v r o p e h = subst (λ (x : Form). Placed (written v x) r o p) (sym e) h
+
+returns : tie.Need-returns
+unfolding written
+returns c =
+    let d = c .before .before .before .before .before in
+    let a = d .before .before .before .args in
+    let p = c .before .before .put-reference in
+    same-form (a .v) (p .result) (a .out .now) (p .last .0) (d .f .given .1) (p .ensures)
+
+same-length-2 : tie.Need-same-length-2
+same-length-2 c = search needs
+
+returns-2 : tie.Need-returns-2
+unfolding written
+returns-2 c =
+    let d = c .before .before .before .before .before in
+    let a = d .before .before .before .args in
+    let p = c .before .before .put-xor in
+    same-form (a .v) (p .result) (a .out .now) (p .last .0) (d .f2 .given .1) (p .ensures)
+
+same-length-3 : tie.Need-same-length-3
+same-length-3 c = search needs
+
+returns-3 : tie.Need-returns-3
+unfolding written
+returns-3 c =
+    let d = c .before .before .before .before in
+    let a = d .before .before .before .args in
+    let p = c .before .before .put-exception in
+    same-form (a .v) (p .result) (a .out .now) (p .last .0) (d .enum-told .given .1) (p .ensures)
+
+pub put-form-spec : {M : Type 1} → statement M
+put-form-spec =
+    tie.close
+    (tie.spec
+    enum-known-f
+    put-reference-requires
+    enum-known-f-2
+    put-xor-requires
+    enum-told
+    put-exception-requires
+    same-length
+    returns
+    same-length-2
+    returns-2
+    same-length-3
+    returns-3)

@@ -1,0 +1,12 @@
+-- The bytes with which a form begins, before its middle or its ratio.
+--   head f    a place; a place plus 128 and the two counts; 255
+use mathlib.Core.List.{List, [], _∷_}
+use Prim.Native.Nat.{ℕ, _+_, _*_}
+use Rattle.ratio_format.specs.declared.Form.{Form}
+use Rattle.ratio_format.specs.declared.Form.the-variants.{Reference, Xor, Exception}
+
+-- the first byte, and of an xor form the first two
+abbrev pub head : Form → List ℕ
+head (Reference p) = p ∷ []
+head (Xor p t n m) = (p + 128) ∷ (t * 16 + n) ∷ []
+head Exception = 255 ∷ []

@@ -1,0 +1,124 @@
+// Reading one ratio: by the open rule, and strictly.
+ghost use mathlib.Core.Path.{_≡_};
+ghost use mathlib.Core.List.{[], _∷_, reverse};
+ghost use Prim.Native.Nat.{_*_, _^_, _≤_, _<_};
+ghost use lib.ListN.{length};
+ghost use Rattle.bits.specs.Compare.{begins};
+ghost use Rattle.ratio_format.specs.Open.{openXor, openRead, strictRead};
+ghost use Rattle.ratio_format.proofs.Choice.{Fit};
+ghost use Rattle.ratio_codec.specs.Heads.{head};
+use super::write::choose;
+use bits::get_bytes;
+use ratio_format::Form;
+use ratio_format::Read;
+
+// The number m raised by t bytes. By 8 bytes only 0 is raised, and a shift by 64 bits is not allowed.
+pub fn raised(m: u64, t: usize) -> u64
+    requires { ⌜ (t ≤ 8) × (m * 256 ^ t < 2 ^ 64) ⌝ }
+    ensures { λ r. ⌜ r ≡ m * 256 ^ t ⌝ }
+{
+    if t == 8 { 0 } else { m << (8 * t) }
+}
+
+// What stands after the byte of a place that holds u: the two counts, and the middle.
+pub fn read_xor(u: u64, s: &[u8]) -> Read
+    ensures { λ r. ⌜ r ≡ openXor u (now (s .entry)) ⌝ }
+{
+    if s.len() == 0 {
+        return Read::Refused;
+    }
+    let c = s[0] as usize;
+    let trail = c / 16;
+    let len = c % 16;
+    if 8 < trail + len {
+        return Read::Refused;
+    }
+    if s.len() - 1 < len {
+        return Read::Refused;
+    }
+    let m = get_bytes(s, 1, len);
+    Read::Ratio(raised(m, trail) ^ u, len + 2)
+}
+
+// The ratio at the front of the bytes, by the open rule.
+pub fn read_open(window: &[u64], s: &[u8]) -> Read
+    ensures { λ r. ⌜ r ≡ openRead (reverse (now (window .entry))) (now (s .entry)) ⌝ }
+{
+    if s.len() == 0 {
+        return Read::Refused;
+    }
+    let b = s[0] as usize;
+    if b < 128 {
+        if b < window.len() {
+            return Read::Ratio(window[window.len() - 1 - b], 1);
+        }
+        return Read::Refused;
+    }
+    if b < 255 {
+        let p = b - 128;
+        if p < window.len() {
+            return read_xor(window[window.len() - 1 - p], &s[1..]);
+        }
+        return Read::Refused;
+    }
+    if 9 <= s.len() {
+        return Read::Ratio(get_bytes(s, 1, 8), 9);
+    }
+    Read::Refused
+}
+
+// Whether the bytes begin with a.
+pub fn has_one(s: &[u8], a: usize) -> bool
+    ensures { λ r. ⌜ r ≡ begins (a ∷ []) (now (s .entry)) ⌝ }
+{
+    if s.len() < 1 {
+        return false;
+    }
+    a == s[0] as usize
+}
+
+// Whether the bytes begin with a and b.
+pub fn has_two(s: &[u8], a: usize, b: usize) -> bool
+    ensures { λ r. ⌜ r ≡ begins (a ∷ b ∷ []) (now (s .entry)) ⌝ }
+{
+    if s.len() < 2 {
+        return false;
+    }
+    if a != s[0] as usize {
+        return false;
+    }
+    b == s[1] as usize
+}
+
+// Whether the bytes begin as the form does.
+pub fn has_head(f: Form, s: &[u8]) -> bool
+    requires { ⌜ Fit 127 f ⌝ }
+    ensures { λ r. ⌜ r ≡ begins (head f) (now (s .entry)) ⌝ }
+{
+    match f {
+        Form::Reference(place) => has_one(s, place),
+        Form::Xor {
+            place,
+            trail,
+            len,
+            middle: _,
+        } => has_two(s, place + 128, trail * 16 + len),
+        Form::Exception => has_one(s, 255),
+    }
+}
+
+// The ratio at the front of the bytes, where they are those that are written for it: of bytes that are read as a ratio, the head decides.
+pub fn read_strict(window: &[u64], s: &[u8]) -> Read
+    requires { ⌜ length (now window) ≤ 127 ⌝ }
+    ensures { λ r. ⌜ r ≡ strictRead (reverse (now (window .entry))) (now (s .entry)) ⌝ }
+{
+    let r = read_open(window, s);
+    let Read::Ratio(v, n) = r else {
+        return Read::Refused;
+    };
+    let f = choose(window, v);
+    if has_head(f, s) {
+        return Read::Ratio(v, n);
+    }
+    Read::Refused
+}

@@ -1,0 +1,102 @@
+// The form of a ratio, and its bytes: a place; a place plus 128, two counts and the middle; or 255 and the ratio.
+ghost use mathlib.Core.Path.{_≡_};
+ghost use mathlib.Core.List.{[], _∷_, reverse};
+ghost use Prim.Native.Nat.{_+_, _*_, _≤_, _<_};
+ghost use lib.ListN.{length};
+ghost use Rattle.bits.specs.Digits.{bytesOf};
+ghost use Rattle.bounds.specs.Outputs.{Placed};
+ghost use Rattle.ratio_format.specs.Choice.{form};
+ghost use Rattle.ratio_format.specs.Forms.{written, coded};
+ghost use Rattle.ratio_format.proofs.Choice.{Fit};
+use super::search::search;
+use super::search::trail_zeros;
+use bits::put_bytes;
+use bounds::Wrote;
+use ratio_format::Form;
+
+// The form of v.
+pub fn choose(window: &[u64], v: u64) -> Form
+    ensures { λ r. ⌜ r ≡ form v (reverse (now (window .entry))) ⌝ }
+{
+    let b = search(window, v);
+    let place = b.place;
+    let sum = b.sum;
+    if sum == 16 {
+        return Form::Reference(place);
+    }
+    if 2 <= sum {
+        let x = v ^ window[window.len() - 1 - place];
+        let trail = trail_zeros(x);
+        return Form::Xor {
+            place,
+            trail,
+            len: 8 - sum,
+            middle: x >> (8 * trail),
+        };
+    }
+    Form::Exception
+}
+
+// The byte of a place.
+pub fn put_reference(out: &mut [u8], place: usize) -> Wrote
+    requires { ⌜ place < 127 ⌝ }
+    ensures { λ r. ⌜ Placed (place ∷ []) r (now (out .entry)) (now (out .exit)) ⌝ }
+{
+    if out.len() < 1 {
+        return Wrote::NoRoom;
+    }
+    out[0] = place as u8;
+    Wrote::Done(1)
+}
+
+// The bytes of an xor form.
+pub fn put_xor(out: &mut [u8], place: usize, trail: usize, len: usize, middle: u64) -> Wrote
+    requires { ⌜ (place < 127) × (trail ≤ 8) × (len ≤ 6) ⌝ }
+    ensures { λ r. ⌜ Placed ((place + 128) ∷ (trail * 16 + len) ∷ bytesOf len middle) r (now (out .entry)) (now (out .exit)) ⌝ }
+{
+    if out.len() < len + 2 {
+        return Wrote::NoRoom;
+    }
+    out[0] = (place + 128) as u8;
+    out[1] = (trail * 16 + len) as u8;
+    put_bytes(out, 2, len, middle);
+    Wrote::Done(len + 2)
+}
+
+// The bytes of an exception.
+pub fn put_exception(out: &mut [u8], v: u64) -> Wrote
+    ensures { λ r. ⌜ Placed (255 ∷ bytesOf 8 v) r (now (out .entry)) (now (out .exit)) ⌝ }
+{
+    if out.len() < 9 {
+        return Wrote::NoRoom;
+    }
+    out[0] = 255;
+    put_bytes(out, 1, 8, v);
+    Wrote::Done(9)
+}
+
+// The bytes of v in the form f, of a window of at most 127 ratios.
+pub fn put_form(f: Form, v: u64, out: &mut [u8]) -> Wrote
+    requires { ⌜ Fit 127 f ⌝ }
+    ensures { λ r. ⌜ Placed (written v f) r (now (out .entry)) (now (out .exit)) ⌝ }
+{
+    match f {
+        Form::Reference(place) => put_reference(out, place),
+        Form::Xor {
+            place,
+            trail,
+            len,
+            middle,
+        } => put_xor(out, place, trail, len, middle),
+        Form::Exception => put_exception(out, v),
+    }
+}
+
+// The bytes of v at the front of the output.
+pub fn encode(window: &[u64], v: u64, out: &mut [u8]) -> Wrote
+    requires { ⌜ length (now window) ≤ 127 ⌝ }
+    ensures { λ r. ⌜ Placed (coded v (reverse (now (window .entry)))) r (now (out .entry)) (now (out .exit)) ⌝ }
+{
+    let f = choose(window, v);
+    put_form(f, v, out)
+}

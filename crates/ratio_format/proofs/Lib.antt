@@ -1,0 +1,15 @@
+pub mod Zeros
+pub mod Score
+pub mod Windows
+pub mod Choice
+pub mod Forms
+pub mod Reading
+pub mod RoundTrip
+pub mod Opened
+pub mod Bodies
+pub mod ReadFrom
+pub mod Shortest
+pub mod Strict
+pub mod Progress
+pub mod Lengths
+pub mod Exceptions

@@ -1,0 +1,136 @@
+-- The window of ratios that stand oldest first in a slice or in an array: what each place holds, and the window after one ratio more.
+use mathlib.Core.Path.{_≡_, refl, sym, ap, _∙_}
+use mathlib.Core.Bool.{Bool, true, false, cond}
+use mathlib.Core.List.{List, [], _∷_, _++_, reverse, reverse-append, reverse-cons}
+use Prim.Native.Nat.{ℕ, zero, suc, _+_, _-_, _≤_, _<_, min}
+use native.Mathlib.Numerals.{add-one}
+use native.Mathlib.Omega.{arith}
+use lib.Dec.{ltb}
+use lib.ListN.{length, take, drop, set, getD, length-reverse, length-drop, length-append, length-set, length-take}
+use lib.Seq.{take-suc, take-length, take-all, length-take-le, take-add, take-at, take-take, take-suc-set}
+use borrow.Author.Tests.{ltb-true, ltb-false}
+use Rattle.bits.specs.Below.{Below}
+use Rattle.bits.proofs.Below.{below-append, below-take}
+use Rattle.ratio_format.specs.declared.Window.{Window}
+use Rattle.ratio_format.specs.Windows.{push, windowOf, held, pushed}
+
+-- one ratio more of the slice is one newer ratio
+pub reverse-more : (l : List ℕ) (i : ℕ) → i < length l → reverse (take (i + 1) l) ≡ getD l i 0 ∷ reverse (take i l)
+reverse-more l i h = rw (add-one, take-suc l i 0 h, reverse-append)
+
+-- the ratio at a place of the window, in the slice
+pub back-at : (l : List ℕ) (i p : ℕ) → p < i → i ≤ length l → getD (reverse (take i l)) p 0 ≡ getD l (i - 1 - p) 0
+back-at l zero p h g = absurd (omega arith)
+back-at l (suc i) zero h g =
+    rw (← add-one i, reverse-more l i g) (ap (λ (n : ℕ). getD l n 0) (omega arith))
+back-at l (suc i) (suc p) h g =
+    rw (← add-one i, reverse-more l i g) (back-at l i p (omega arith) (omega arith) ∙ ap (λ (n : ℕ). getD l n 0) (omega arith))
+
+pub back : (l : List ℕ) (p : ℕ) → p < length l → getD (reverse l) p 0 ≡ getD l (length l - 1 - p) 0
+back l p h = rw take-length at (back-at l (length l) p h (omega arith))
+
+-- the part of a run from i - size to i is the window at i
+pub window-of : (size : ℕ) (l : List ℕ) (i : ℕ) → i ≤ length l → reverse (take (i - (i - size)) (drop (i - size) l)) ≡ windowOf size (take i l)
+window-of size l i h = go (i - size) refl
+  where
+    go : (a : ℕ) → i - size ≡ a → reverse (take (i - a) (drop a l)) ≡ take size (reverse (take i l))
+    go zero e =
+        let z : i - 0 ≡ i = omega arith in
+        rw z (sym (take-all size (reverse (take i l)) (rw (length-reverse, length-take-le i l h) (omega arith))))
+    go (suc a) e =
+        let z : i - suc a ≡ size = omega arith in
+        let y : i ≡ suc a + size = omega arith in
+        let x = take size (drop (suc a) l) in
+        let n : length (reverse x) ≡ size = length-reverse x ∙ length-take-le size (drop (suc a) l) (rw length-drop (omega arith)) in
+        ap (λ (k : ℕ). reverse (take k (drop (suc a) l))) z
+        ∙ sym (ap (λ (k : ℕ). take size (reverse (take k l))) y ∙ ap (λ (m : List ℕ). take size (reverse m)) (take-add (suc a) size l) ∙ ap (take size) (reverse-append (take (suc a) l) x) ∙ take-at (reverse x) (reverse (take (suc a) l)) size n)
+
+-- what a window of this size drops, it would drop with more ratios in front too
+pub take-late : (m n : ℕ) (a l : List ℕ) → m ≤ n → take m (a ++ take n l) ≡ take m (a ++ l)
+take-late m n [] l h = take-take m n l h
+take-late zero n (x ∷ a) l h = refl
+take-late (suc m) n (x ∷ a) l h = ap (λ (r : List ℕ). x ∷ r) (take-late m n a l (omega arith))
+
+pub push-take : (size v : ℕ) (w : List ℕ) → push size v (take size w) ≡ push size v w
+push-take size v w = take-late size size (v ∷ []) w (omega arith)
+
+-- the window after one ratio more
+pub window-snoc : (size : ℕ) (vs : List ℕ) (v : ℕ) → windowOf size (vs ++ (v ∷ [])) ≡ push size v (windowOf size vs)
+window-snoc size vs v = ap (take size) (reverse-append vs (v ∷ [])) ∙ sym (push-take size v (reverse vs))
+
+-- the window after one ratio more of the run
+pub window-more : (size : ℕ) (l : List ℕ) (i : ℕ) → i < length l → push size (getD l i 0) (windowOf size (take i l)) ≡ windowOf size (take (i + 1) l)
+window-more size l i h = push-take size (getD l i 0) (reverse (take i l)) ∙ sym (ap (take size) (reverse-more l i h))
+
+-- no window has more ratios than its size
+pub push-length : (size v : ℕ) (w : List ℕ) → length (push size v w) ≤ size
+push-length size v w = rw length-take (omega arith)
+
+-- a bound on all its ratios
+pub push-below : (b size v : ℕ) (w : List ℕ) → v < b → Below b w → Below b (push size v w)
+unfolding Below
+push-below b size v w hv ha = below-take b size (v ∷ w) (hv, ha)
+
+pub reverse-below : (b : ℕ) (l : List ℕ) → Below b l → Below b (reverse l)
+unfolding Below
+reverse-below b [] h = tt
+reverse-below b (x ∷ l) h = rw reverse-cons (below-append b (reverse l) (x ∷ []) (reverse-below b l (h .1)) (h .0, tt))
+
+pub window-below : (b size : ℕ) (vs : List ℕ) → Below b vs → Below b (windowOf size vs)
+window-below b size vs h = below-take b size (reverse vs) (reverse-below b vs h)
+
+pub held-below : (b : ℕ) (w : Window) → Below b (w .ratios) → Below b (held w)
+held-below b w h = reverse-below b (take (w .fill) (w .ratios)) (below-take b (w .fill) (w .ratios) h)
+
+-- the fill is how many ratios are held
+pub held-length : (w : Window) → w .fill ≤ length (w .ratios) → length (held w) ≡ w .fill
+held-length w h = length-reverse (take (w .fill) (w .ratios)) ∙ length-take-le (w .fill) (w .ratios) h
+
+-- a ratio more in a kept window: with room, and full
+pub push-room : (l : List ℕ) (n v : ℕ) → n < 127 → length l ≡ 127 → reverse (take (n + 1) (set l n v)) ≡ push 127 v (reverse (take n l))
+push-room l n v h e =
+    ap (λ (k : ℕ). reverse (take k (set l n v))) (add-one n)
+    ∙ ap reverse (take-suc-set l n v (omega arith))
+    ∙ reverse-append (take n l) (v ∷ [])
+    ∙ sym (take-all 127 (v ∷ reverse (take n l)) (omega (arith, length-reverse (take n l), length-take-le n l (omega arith))))
+
+pub push-full : (l : List ℕ) (v : ℕ) → length l ≡ 127 → reverse (take 127 (drop 1 l ++ (v ∷ []))) ≡ push 127 v (reverse (take 127 l))
+push-full [] v e = absurd (omega arith)
+push-full (x ∷ l) v e =
+    let n : length (reverse l) ≡ 126 = omega (arith, length-reverse l) in
+    ap reverse (take-all 127 (l ++ (v ∷ [])) (rw length-append (omega arith)))
+    ∙ reverse-append l (v ∷ [])
+    ∙ sym (ap (λ (r : List ℕ). take 127 (v ∷ reverse r)) (take-all 127 (x ∷ l) (omega arith))
+    ∙ ap (λ (r : List ℕ). take 127 (v ∷ r)) (reverse-cons x l)
+    ∙ ap (λ (r : List ℕ). v ∷ r) (take-at (reverse l) (x ∷ []) 126 n))
+
+module _ (w : Window) (v : ℕ) (fits : w .fill ≤ 127) (size : length (w .ratios) ≡ 127) where
+  abbrev to : Bool → Window
+  to t =
+      cond t (record { ratios = set (w .ratios) (w .fill) v; fill = w .fill + 1 })
+      (record { ratios = drop 1 (w .ratios) ++ (v ∷ []); fill = w .fill })
+
+  -- what a kept window holds after one ratio more
+  pub held-pushed : held (pushed w v) ≡ push 127 v (held w)
+  held-pushed = go (ltb (w .fill) 127) refl
+    where
+      go : (t : Bool) → ltb (w .fill) 127 ≡ t → held (to t) ≡ push 127 v (held w)
+      go true e = push-room (w .ratios) (w .fill) v (ltb-true (w .fill) 127 e) size
+      go false e =
+          let n : w .fill ≡ 127 = omega (arith, ltb-false (w .fill) 127 e) in
+          rw n (push-full (w .ratios) v size)
+
+  -- its array keeps 127 cells, and its fill stays the smaller of 127 and the number of ratios that came
+  pub pushed-size : length (pushed w v .ratios) ≡ 127
+  pushed-size = go (ltb (w .fill) 127)
+    where
+      go : (t : Bool) → length (to t .ratios) ≡ 127
+      go true = length-set (w .ratios) (w .fill) v ∙ size
+      go false = simp (length-append, length-drop) (omega arith)
+
+  pub pushed-fill : (n : ℕ) → w .fill ≡ min 127 n → pushed w v .fill ≡ min 127 (n + 1)
+  pushed-fill n e = go (ltb (w .fill) 127) refl
+    where
+      go : (t : Bool) → ltb (w .fill) 127 ≡ t → to t .fill ≡ min 127 (n + 1)
+      go true h = omega (arith, ltb-true (w .fill) 127 h)
+      go false h = omega (arith, ltb-false (w .fill) 127 h)

@@ -1,0 +1,10 @@
+pub mod Fields
+pub mod Heads
+pub mod Accepted
+pub mod ReadBack
+pub mod ReadOnly
+pub mod Answers
+pub mod Claims
+pub mod Writing
+pub mod Longest
+pub mod Sizes

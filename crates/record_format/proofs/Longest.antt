@@ -1,0 +1,153 @@
+-- The longest run: it is accepted, each of its steps takes 36 bits, and each of its ratios nine bytes.
+-- Assumes nothing.
+use mathlib.Core.Bool.{Bool, true, false, not}
+use mathlib.Core.List.{List, _∷_}
+use mathlib.Core.Path.{_≡_, refl, sym, ap, _∙_}
+use Prim.Native.Nat.{ℕ, zero, suc, _+_, _-_, _*_, _/_, _%_, _^_, _≤_, _<_}
+use native.Mathlib.Nat.{mul-suc, mul-zero}
+use native.Mathlib.Omega.{arith}
+use borrow.Author.Tests.{le-ltb}
+use lib.IntN.{ℤ, pos}
+use lib.ListN.{length, getD, length-append}
+use Rattle.bits.specs.Below.{Below}
+use Rattle.bits.specs.Digits.{digitsOf}
+use Rattle.bounds.specs.Lists.{member, firstIndex}
+use Rattle.bounds.specs.Rates.{rates, isRate}
+use Rattle.bounds.specs.Points.{maxPoints, maxPosition, tooHigh}
+use Rattle.position_format.specs.Rows.{Row, rows, neg, inTable, code}
+use Rattle.position_format.specs.Steps.{stepOf, stepsFrom, steps, outside}
+use Rattle.position_format.specs.Positions.{stepBits, positionBits, codedPositions, validPositions}
+use Rattle.position_format.proofs.Lists.{cons-none}
+use Rattle.position_format.proofs.Valid.{valid-of}
+use Rattle.position_format.proofs.Sizes.{length-coded, length-raw}
+use Rattle.ratio_format.specs.Windows.{windowSize}
+use Rattle.ratio_format.specs.Bodies.{codedRatios}
+use Rattle.ratio_format.proofs.Exceptions.{Apart, all-nine}
+use Rattle.record_format.specs.Claims.{Accepted}
+use Rattle.record_format.specs.Sizes.{firstValues, swing, twoEnds, longest}
+use Rattle.record_format.proofs.Accepted.{Fitting, fitting-accepted}
+
+-- ---- the first values of a function
+
+module _ {A : Type 0} where
+  pub length-values : (f : ℕ → A) (n : ℕ) → length (firstValues f n) ≡ n
+  unfolding firstValues
+  length-values f zero = refl
+  length-values f (suc n) = ap suc (length-values (λ i. f (suc i)) n)
+
+  pub values-at : (f : ℕ → A) (n : ℕ) (d : A) (i : ℕ) → i < n → getD (firstValues f n) i d ≡ f i
+  unfolding firstValues
+  values-at f zero d i h = absurd (omega arith)
+  values-at f (suc n) d zero h = refl
+  values-at f (suc n) d (suc i) h = values-at (λ j. f (suc j)) n d i (omega arith)
+
+  -- a test that holds of no value
+  pub values-none : (p : A → Bool) (f : ℕ → A) (n : ℕ) → ((i : ℕ) → p (f i) ≡ false) → firstIndex p (firstValues f n) ≡ length (firstValues f n)
+  unfolding firstValues firstIndex
+  values-none p f zero h = refl
+  values-none p f (suc n) h = cons-none p (f 0) (firstValues (λ i. f (suc i)) n) (h 0) (values-none p (λ i. f (suc i)) n (λ i. h (suc i)))
+
+pub values-below : (b : ℕ) (f : ℕ → ℕ) (n : ℕ) → ((i : ℕ) → f i < b) → Below b (firstValues f n)
+unfolding firstValues Below
+values-below b f zero h = tt
+values-below b f (suc n) h = (h 0, values-below b (λ i. f (suc i)) n (λ i. h (suc i)))
+
+-- ---- positions by their index
+
+-- the step at the position of index i + 2
+abbrev stepAfter : (ℕ → ℕ) → ℕ → ℤ
+stepAfter f i = stepOf (f i) (f (suc i)) (f (suc (suc i)))
+
+values-steps : (f : ℕ → ℕ) (n : ℕ) → steps (firstValues f (suc (suc n))) ≡ firstValues (stepAfter f) n
+unfolding firstValues steps stepsFrom
+values-steps f zero = refl
+values-steps f (suc n) = ap (λ (l : List ℤ). stepAfter f 0 ∷ l) (values-steps (λ i. f (suc i)) n)
+
+module _ (rs : List Row) where
+  -- steps that take k bits each
+  values-bits : (k : ℕ) (z : ℕ → ℤ) (n : ℕ) → ((i : ℕ) → length (code rs (z i)) ≡ k) → length (stepBits rs (firstValues z n)) ≡ k * n
+  unfolding firstValues stepBits
+  values-bits k z zero h = sym (mul-zero k)
+  values-bits k z (suc n) h =
+      let y : ℕ → ℤ = λ i. z (suc i) in
+      omega (arith, length-append (code rs (z 0)) (stepBits rs (firstValues y n)), h 0, values-bits k y n (λ i. h (suc i)), mul-suc k n)
+
+  module _ (f : ℕ → ℕ) (n : ℕ) where
+    pub positions-bits : (k : ℕ) → ((i : ℕ) → length (code rs (stepAfter f i)) ≡ k) → length (positionBits rs (firstValues f (suc (suc n)))) ≡ 128 + k * n
+    unfolding firstValues positionBits steps
+    positions-bits k h =
+        length-raw (f 0) (f 1) (stepBits rs (steps (firstValues f (suc (suc n)))))
+        ∙ ap (λ (m : ℕ). 128 + m) (ap (λ (l : List ℤ). length (stepBits rs l)) (values-steps f n) ∙ values-bits k (stepAfter f) n h)
+
+    pub positions-valid : ((i : ℕ) → f i ≤ maxPosition) → ((i : ℕ) → inTable rs (stepAfter f i) ≡ true) → validPositions rs (firstValues f (suc (suc n))) ≡ true
+    positions-valid low held =
+        valid-of rs (firstValues f (suc (suc n)))
+        (values-none tooHigh f (suc (suc n)) (λ i. le-ltb maxPosition (f i) (low i)))
+        (rw (values-steps f n) (values-none (outside rs) (stepAfter f) n (λ i. ap not (held i))))
+
+-- ---- the positions of the longest run
+
+swing-step : (P : ℤ → Type 0) → P (neg 10000) → P (pos 10000) → (i : ℕ) → P (stepAfter swing i)
+swing-step P a b i =
+    let one : suc i % 2 ≡ 1 - i % 2 = omega arith in
+    let two : suc (suc i) % 2 ≡ i % 2 = omega arith in
+    rw (one, two) (go (i % 2) (omega arith))
+  where
+    go : (x : ℕ) → x < 2 → P (stepOf (x * 5000) ((1 - x) * 5000) (x * 5000))
+    go zero h = a
+    go (suc zero) h = b
+    go (suc (suc x)) h = absurd (omega arith)
+
+wide-step : (i : ℕ) → length (code rows (stepAfter swing i)) ≡ 36
+unfolding rows code digitsOf
+wide-step = swing-step (λ z. length (code rows z) ≡ 36) refl refl
+
+held-step : (i : ℕ) → inTable rows (stepAfter swing i) ≡ true
+unfolding rows inTable
+held-step = swing-step (λ z. inTable rows z ≡ true) refl refl
+
+pub longest-positions : length (codedPositions rows (longest .positions)) ≡ 18439
+unfolding longest
+longest-positions = omega (arith, length-coded rows (firstValues swing maxPoints), positions-bits rows swing 4094 36 wide-step)
+
+-- ---- its ratios
+
+top-end : (a : ℕ) → a < 128 → a * (2 ^ 56 + 1) / 2 ^ 56 ≡ a
+top-end a h = omega arith
+
+low-end : (a : ℕ) → a < 128 → a * (2 ^ 56 + 1) % 2 ^ 8 ≡ a
+low-end a h = omega arith
+
+two-ends : (i j : ℕ) → j < i → i ≤ j + 127 → Apart (twoEnds i) (twoEnds j)
+two-ends i j h g =
+    let other : (i % 128 ≡ j % 128 → ⊥) = λ e. omega arith in
+    let m : i % 128 < 128 = omega arith in
+    let n : j % 128 < 128 = omega arith in
+    (λ e. other (sym (top-end (i % 128) m) ∙ e ∙ top-end (j % 128) n), λ e. other (sym (low-end (i % 128) m) ∙ e ∙ low-end (j % 128) n))
+
+longest-words : Below (2 ^ 64) (longest .ratios)
+unfolding longest
+longest-words = values-below (2 ^ 64) twoEnds maxPoints (λ i. omega arith)
+
+pub longest-ratios : length (codedRatios (longest .ratios)) ≡ 36864
+unfolding longest
+longest-ratios =
+    all-nine windowSize (firstValues twoEnds maxPoints) longest-words
+    (λ i j h g k.
+    let n : length (firstValues twoEnds maxPoints) ≡ maxPoints = length-values twoEnds maxPoints in
+    rw (values-at twoEnds maxPoints 0 i (omega arith), values-at twoEnds maxPoints 0 j (omega arith)) (two-ends i j g k))
+    ∙ ap (λ (n : ℕ). 9 * n) (length-values twoEnds maxPoints)
+
+-- ---- the run
+
+pub longest-fits : Fitting longest
+unfolding longest isRate rates member
+longest-fits = record {
+  listed = refl;
+  paired = length-values twoEnds maxPoints ∙ sym (length-values swing maxPoints);
+  few = omega (arith, length-values swing maxPoints);
+  valid = positions-valid rows swing 4094 (λ i. omega arith) held-step;
+}
+
+pub longest-accepted : Accepted longest
+longest-accepted = record { words = longest-words; passes = fitting-accepted longest longest-fits }

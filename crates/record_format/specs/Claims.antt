@@ -1,0 +1,104 @@
+-- The demands on records as statements about the definitions, in the terms of document 01, "What demand 3 compares". Each is proved in
+-- proofs/Claims; the calls are tied to them by their contracts.
+--   Accepted r          r is a run that the writer accepts: its ratios have 64 bits, and no test of writing but 6 applies
+--   Beginning a b       the string a is a beginning of b: b is a and then any bytes, or none
+--   joined rs           the records of the runs rs, joined in their order
+--   runAnswer r e ts vs what reading the record of r answers
+use mathlib.Core.Bool.{Bool, true, not, cond}
+use mathlib.Core.List.{List, [], _∷_, _++_}
+use mathlib.Core.Logic.{_↔_}
+use mathlib.Core.Option.{Option, none, some}
+use mathlib.Core.Path.{_≡_}
+use Prim.Native.Nat.{ℕ, _*_, _≤_, _^_}
+use lib.Dec.{ltb, eqb}
+use lib.ListN.{length}
+use Rattle.bits.specs.Below.{Below}
+use Rattle.bits.specs.Compare.{both}
+use Rattle.bounds.specs.Points.{maxPoints}
+use Rattle.bounds.specs.Tests.{Test, test, firstOf, refused, over}
+use Rattle.ratio_format.specs.Bodies.{codedRatios, openRatios}
+use Rattle.record_format.specs.Runs.{Run, recordOf}
+use Rattle.record_format.specs.Writing.{accepts}
+use Rattle.record_format.specs.Reading.{Answer, refusalAnswer, readStrict, readOpen}
+
+-- an accepted run
+pub record Accepted (r : Run) : Type 0 where
+  pub words : Below (2 ^ 64) (r .ratios)
+  pub passes : accepts r ≡ true
+
+-- every run of a list is accepted
+abbrev pub AllAccepted : List Run → Type 0
+AllAccepted [] = Unit {0}
+AllAccepted (r ∷ rs) = Accepted r × AllAccepted rs
+
+-- a string of bytes
+abbrev pub Bytes : List ℕ → Type 0
+Bytes s = Below 256 s
+
+-- a is a beginning of b
+abbrev pub Beginning : List ℕ → List ℕ → Type 0
+Beginning a b = (t : List ℕ) × (b ≡ a ++ t)
+
+-- the empty list gives no bytes
+unfoldable pub joined : List Run → List ℕ
+joined [] = []
+joined (r ∷ rs) = recordOf r ++ joined rs
+
+-- the tests that can apply to the record of an accepted run
+abbrev pub ownTests : Run → ℕ → ℕ → ℕ → List Test
+ownTests r e m n =
+    test (both (not (eqb e 0)) (not (eqb e (r .rate)))) 14 0
+    ∷ test (cond (ltb m (length (r .positions))) true (ltb n (length (r .positions)))) 16 7
+    ∷ []
+
+-- a success: the run, its count and its record's length, each position and each ratio
+abbrev pub ownAnswer : Run → List ℕ → List ℕ → Answer
+ownAnswer r ts vs = record {
+  answer = record { number = 0; place = 0; rate = r .rate; count = length (r .positions); used = length (recordOf r) };
+  positions = over (r .positions) ts;
+  ratios = over (r .ratios) vs;
+}
+
+-- the answer to the record of a run
+abbrev pub runAnswer : Run → ℕ → List ℕ → List ℕ → Answer
+runAnswer r e ts vs =
+    let f = firstOf (ownTests r e (length ts) (length vs)) in
+    cond (refused f) (refusalAnswer f ts vs) (ownAnswer r ts vs)
+
+-- demand 2: whatever follows a run's record, both readings give back that run, or 14 or 16
+abbrev pub ReadsBack : Type 0
+ReadsBack = (r : Run) → Accepted r → (e : ℕ) (rest ts vs : List ℕ)
+    → (readStrict e (recordOf r ++ rest) ts vs ≡ runAnswer r e ts vs) × (readOpen e (recordOf r ++ rest) ts vs ≡ runAnswer r e ts vs)
+
+-- demand 2: what strict reading accepts begins with a run's record, and the answer is that run
+abbrev pub ReadsOnly : Type 0
+ReadsOnly = (e : ℕ) (s ts vs : List ℕ) → Bytes s → readStrict e s ts vs .answer .number ≡ 0
+    → (r : Run) × Accepted r × Beginning (recordOf r) s × (readStrict e s ts vs ≡ ownAnswer r ts vs)
+
+-- demand 2, with room for every run and no rate expected: accepted exactly when the input begins with some run's record
+abbrev pub AcceptsExactly : Type 0
+AcceptsExactly = (s ts vs : List ℕ) → Bytes s → maxPoints ≤ length ts → maxPoints ≤ length vs
+    → (readStrict 0 s ts vs .answer .number ≡ 0) ↔ ((r : Run) × Accepted r × Beginning (recordOf r) s)
+
+-- demand 3: of two runs that differ, neither record is a beginning of the other
+abbrev pub PrefixFree : Type 0
+PrefixFree = (r q : Run) → Accepted r → Accepted q → (r ≡ q → ⊥)
+    → (Beginning (recordOf r) (recordOf q) → ⊥) × (Beginning (recordOf q) (recordOf r) → ⊥)
+
+-- demand 3: for every two lists of runs the joined records are the same exactly when the lists are the same
+abbrev pub ListsApart : Type 0
+ListsApart = (rs qs : List Run) → AllAccepted rs → AllAccepted qs → (joined rs ≡ joined qs) ↔ (rs ≡ qs)
+
+-- demand 3: whatever bytes follow a record, both readings answer as for the record alone
+abbrev pub TrailingBytes : Type 0
+TrailingBytes = (r : Run) → Accepted r → (e : ℕ) (rest ts vs : List ℕ)
+    → (readStrict e (recordOf r ++ rest) ts vs ≡ readStrict e (recordOf r) ts vs)
+    × (readOpen e (recordOf r ++ rest) ts vs ≡ readOpen e (recordOf r) ts vs)
+
+-- demand 3: a string that the open rule reads as the same ratios, at the same count, is at least as long as ours
+abbrev pub Shortest : Type 0
+Shortest = (vs s : List ℕ) → Below (2 ^ 64) vs → Bytes s → openRatios (length vs) s ≡ some vs → length (codedRatios vs) ≤ length s
+
+-- demand 3: ours takes at most nine bytes for each ratio
+abbrev pub NineEach : Type 0
+NineEach = (vs : List ℕ) → Below (2 ^ 64) vs → length (codedRatios vs) ≤ 9 * length vs

@@ -1,0 +1,49 @@
+-- Document 01, "Numbers that bound it": the sizes of a record and of its bodies, as statements. Each is proved in proofs/Sizes.
+--   Within          an accepted run's record has 18 to 55,321 bytes, its third body at most 18,439 and its fourth at most 36,864
+--   NoPoints        the record of no points has 18 bytes
+--   firstValues f n the values f 0, f 1, .., n of them
+--   longest         a run whose record has 55,321 bytes
+--   Reached         it is accepted, and its record has that length
+use mathlib.Core.List.{List, [], _∷_}
+use mathlib.Core.Path.{_≡_}
+use Prim.Native.Nat.{ℕ, zero, suc, _+_, _*_, _%_, _^_, _≤_}
+use lib.ListN.{length}
+use Rattle.bounds.specs.Points.{maxPoints}
+use Rattle.position_format.specs.Rows.{rows}
+use Rattle.position_format.specs.Positions.{codedPositions}
+use Rattle.ratio_format.specs.Bodies.{codedRatios}
+use Rattle.record_format.specs.Runs.{Run, run, recordOf}
+use Rattle.record_format.specs.Claims.{Accepted}
+
+-- the bounds, for every accepted run
+abbrev pub Within : Type 0
+Within = (r : Run) → Accepted r
+    → (18 ≤ length (recordOf r))
+    × (length (recordOf r) ≤ 55321)
+    × (length (codedPositions rows (r .positions)) ≤ 18439)
+    × (length (codedRatios (r .ratios)) ≤ 36864)
+
+-- no points, at any rate: the lower bound
+abbrev pub NoPoints : Type 0
+NoPoints = (rate : ℕ) → length (recordOf (run rate [] [])) ≡ 18
+
+-- n values of f, from f 0 on
+unfoldable pub firstValues : {A : Type 0} → (ℕ → A) → ℕ → List A
+firstValues f zero = []
+firstValues f (suc n) = f 0 ∷ firstValues (λ i. f (suc i)) n
+
+-- positions 0, 5,000, 0, 5,000, ..: every step is -10,000 or 10,000 and takes 36 bits
+abbrev pub swing : ℕ → ℕ
+swing i = i % 2 * 5000
+
+-- i modulo 128 in the top byte and in the lowest: any two of 128 in a row differ in both bytes, so that each is an exception
+abbrev pub twoEnds : ℕ → ℕ
+twoEnds i = i % 128 * (2 ^ 56 + 1)
+
+-- as many points as a run can have, each as long as it can be
+unfoldable pub longest : Run
+longest = run 44100 (firstValues swing maxPoints) (firstValues twoEnds maxPoints)
+
+-- the upper bound is reached
+abbrev pub Reached : Type 0
+Reached = Accepted longest × (length (recordOf longest) ≡ 55321)

@@ -1,4 +1,4 @@
--- Tests that compare two lists of numbers.
+-- Tests that compare two lists of numbers; `begins` is the beginning of document 01, "What demand 3 compares".
 --   both a b      a and b
 --   begins a s    the list s begins with the list a: s is a, and then anything or nothing
 --   same a s      the lists are equal

@@ -1,5 +1,5 @@
--- What internal functions say of an output that is lent to them. They leave it as they please where they fail, and the call above them then
--- fills it with zeros.
+-- What internal functions say of an output that is lent to them: document 01 says nothing of them. They leave it as they please where they
+-- fail, and the call above them then fills it with zeros; a slice keeps its length in any case.
 --   Placed bs w o p   the bytes bs were put at the front of o, which is now p; or there was no room for them
 --   Filled l b o p    the list l was put at the front of o, which is now p; or there is no such list
 use mathlib.Core.Bool.{Bool, true, false}

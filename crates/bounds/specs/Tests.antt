@@ -6,7 +6,7 @@
 --   refused f      f is a refusal: its number is not 0
 --   zeros l        as many zeros as l is long: a lent output after a refusal
 --   over bs o      bs at the front of the output o, whose rest stays: a lent output after a success
--- What document 01 calls a place beside a number is an error position: an index, or a field's offset.
+-- In standard terms a refusal is an error, its number an error code, and the place beside it an error position: an index, or a field's offset.
 use mathlib.Core.Bool.{Bool, not, cond}
 use mathlib.Core.List.{List, [], _∷_, _++_}
 use Prim.Native.Nat.{ℕ}

@@ -1,4 +1,5 @@
--- Document 01, "Kinds and span": what kind of double a ratio is.
+-- Document 01, "Kinds and span": what kind of double a ratio is. The standard term is the class of a floating-point number.
+--   kindAt n v the kind by the value v of the bits n
 --   kindOf n   the kind of the double whose 64 bits are n
 -- It has no test, so it never refuses, and it gives back no number and no place.
 use Prim.Native.Nat.{ℕ}

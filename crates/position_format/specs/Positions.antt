@@ -3,16 +3,19 @@
 --   positionBits rs ts       the bits of the positions ts: the first two raw, then the codes of the steps
 --   codedPositions rs ts     those bits laid in bytes
 --   validPositions rs ts     every position is in its range, and every step in the table
+--   Taken                    a step and the bits after its code
 --   stepAt rs ds             the step whose code stands at the front of the bits ds, and the bits after it
+--   after a b z              the position after a and b whose step is z, and 0 where it would be negative
 --   decodedSteps rs n a b ds the n positions after a and b whose steps stand in ds
+--   decodedBits rs n ds      the n positions that the bits ds give
 --   decoded rs n body        the n positions that a body gives, if it is a coding at all
 --   readPositions rs n body  the n positions that the body is the coding of, or nothing
--- A body is read by decoding it and coding the result again. So a row other than the first that holds a step, a 1 among the fill bits,
+-- Fill bits are, in the standard term, padding. A body is read by decoding it and coding the result again. So a row other than the first that holds a step, a 1 among the fill bits,
 -- a byte too many, bits too few and a position outside its range are each refused, whatever the decoding makes of them.
-use mathlib.Core.Bool.{Bool, true, false, cond}
+use mathlib.Core.Bool.{Bool, cond}
 use mathlib.Core.List.{List, [], _∷_, _++_}
 use mathlib.Core.Option.{Option, none, some}
-use Prim.Native.Nat.{ℕ, zero, suc, _+_, _-_}
+use Prim.Native.Nat.{ℕ, zero, suc}
 use lib.Dec.{eqb}
 use lib.IntN.{ℤ, pos, negsuc, _+ℤ_, _-ℤ_}
 use lib.ListN.{length, take, drop}
@@ -20,7 +23,7 @@ use Rattle.bits.specs.Compare.{both, begins, same}
 use Rattle.bits.specs.Digits.{bitsOf, numberOf}
 use Rattle.bits.specs.Packing.{bits, pack}
 use Rattle.bounds.specs.Lists.{firstIndex}
-use Rattle.bounds.specs.Points.{tooHigh}
+use Rattle.bounds.specs.Points.{firstHigh}
 use Rattle.position_format.specs.Rows.{Row, code, reading}
 use Rattle.position_format.specs.Steps.{steps, stepsFrom, outside}
 
@@ -41,7 +44,7 @@ codedPositions rs ts = pack (positionBits rs ts)
 
 -- tests 4 and 5 of writing do not apply
 unfoldable pub validPositions : List Row → List ℕ → Bool
-validPositions rs ts = both (eqb (firstIndex tooHigh ts) (length ts)) (eqb (firstIndex (outside rs) (steps ts)) (length (steps ts)))
+validPositions rs ts = both (eqb (firstHigh ts) (length ts)) (eqb (firstIndex (outside rs) (steps ts)) (length (steps ts)))
 
 -- a step and the bits after its code
 pub record Taken : Type 0 where

@@ -1,13 +1,15 @@
 -- Document 01, "Positions": the table of steps.
 --   Row             a row: the prefix's bits, how many bits follow, the lowest and the highest step that it holds
 --   rows            the table
+--   row, neg        a row by its parts; -n
 --   holds r z       the row r holds the step z
 --   inTable rs z    some row holds it
 --   residue k z     z modulo 2 ^ k
 --   codeIn r z      the code of z by the row r: the prefix, then z modulo 2 ^ width
 --   code rs z       the code of z by the first row that holds it
---   reading r x     the one number inside the row's range that is x modulo 2 ^ width
--- Each definition takes the table, so that all of its laws hold of every table of such rows.
+--   reading r x     the one number inside the row's range that is x modulo 2 ^ width, of a row that holds 2 ^ width numbers, 0 among them
+-- The definitions that go by a table take it as an argument, and their laws are proved of every table that passes one computed test: no
+-- prefix begins another, and each row holds 2 ^ width numbers, 0 among them (proofs/Rows, goodTable).
 use mathlib.Core.Bool.{Bool, true, false, cond}
 use mathlib.Core.List.{List, [], _∷_, _++_}
 use Prim.Native.Nat.{ℕ, suc, _-_, _%_, _^_}

@@ -2,7 +2,9 @@
 --   stepOf a b t        the step at a point t after the points a and b: (t - b) - (b - a), exactly
 --   stepsFrom a b ts    the steps at the points ts after the points a and b
 --   steps ts            the steps of a list of positions, from the third on
---   firstOutside rs ts  the index of the first point whose step the table does not hold
+--   outside rs z        the table does not hold the step z
+--   firstOutside rs ts  the index of the first point whose step the table does not hold; where there is none, the number of positions, or 2
+--                       for fewer than two
 use mathlib.Core.Bool.{Bool, not}
 use mathlib.Core.List.{List, [], _∷_}
 use Prim.Native.Nat.{ℕ, _+_}

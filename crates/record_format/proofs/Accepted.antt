@@ -1,28 +1,27 @@
 -- What the writer's acceptance of a run says, and what makes a run accepted.
 -- Assumes nothing.
-use mathlib.Core.Path.{_≡_, refl, sym, ap, ap₂, _∙_, subst}
-use mathlib.Core.Bool.{Bool, true, false, not, cond}
-use mathlib.Core.List.{List, [], _∷_, _++_}
-use Prim.Native.Nat.{ℕ, zero, suc, _+_, _-_, _*_, _≤_, _<_, _^_}
+use mathlib.Core.Path.{_≡_, ap, _∙_}
+use mathlib.Core.Bool.{true, not}
+use mathlib.Core.List.{List}
+use Prim.Native.Nat.{ℕ, _≤_}
 use native.Mathlib.Omega.{arith}
-use borrow.Author.Tests.{eqb-true, eqb-false, eq-eqb, ltb-false, le-ltb, not-false, not-true}
+use borrow.Author.Tests.{eqb-true, eq-eqb, ltb-false, le-ltb, not-false, not-true}
 use lib.IntN.{ℤ}
-use lib.Dec.{ltb, eqb, lit<}
+use lib.Dec.{eqb, lit<}
 use lib.ListN.{length}
 use Rattle.bounds.specs.declared.Refusal.{Refusal}
 use Rattle.bounds.specs.Lists.{firstIndex}
 use Rattle.bounds.specs.Rates.{isRate}
 use Rattle.bounds.specs.Points.{maxPoints, tooHigh, firstHigh}
-use Rattle.bounds.specs.Tests.{Test, test, firstOf, refused}
+use Rattle.bounds.specs.Tests.{firstOf}
 use Rattle.bounds.proofs.Lists.{first-le}
 use Rattle.bounds.proofs.Tests.{first-clear, first-skip, first-end}
-use Rattle.bits.specs.Compare.{both}
 use Rattle.bits.proofs.Compare.{both-true}
 use Rattle.position_format.specs.Rows.{rows}
 use Rattle.position_format.specs.Steps.{steps, outside, firstOutside}
 use Rattle.position_format.specs.Positions.{validPositions}
 use Rattle.position_format.proofs.Valid.{length-steps}
-use Rattle.record_format.specs.Runs.{Run, run}
+use Rattle.record_format.specs.Runs.{Run}
 use Rattle.record_format.specs.Writing.{runTests, accepts}
 
 -- the run's parts in their ranges

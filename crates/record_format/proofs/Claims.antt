@@ -1,30 +1,28 @@
 -- The demands on records, proved of the definitions. Assumes nothing.
-use mathlib.Core.Path.{_≡_, refl, sym, ap, ap₂, _∙_, subst}
-use mathlib.Core.Bool.{Bool, true, false, not, cond}
-use mathlib.Core.List.{List, [], _∷_, _++_, append-assoc, append-nil}
-use mathlib.Core.Option.{Option, none, some}
-use Prim.Native.Nat.{ℕ, zero, suc, _+_, _≤_, _<_, _^_}
+use mathlib.Core.Path.{_≡_, refl, sym, ap, ap₂, _∙_}
+use mathlib.Core.Bool.{Bool, true, cond}
+use mathlib.Core.List.{List, [], _∷_, _++_, append-nil}
+use Prim.Native.Nat.{ℕ, _≤_}
 use native.Mathlib.Omega.{arith}
 use borrow.Author.Tests.{le-ltb}
-use lib.Dec.{ltb, eqb, lit≤}
-use lib.ListN.{length, drop, length-append}
+use lib.Dec.{lit≤}
+use lib.ListN.{length, drop}
 use lib.Seq.{drop-append-seam}
 use Rattle.bits.specs.Below.{Below}
-use Rattle.bounds.specs.Points.{maxPoints}
-use Rattle.bounds.specs.Tests.{firstOf, refused}
-use Rattle.bounds.proofs.Tests.{first-skip, first-end}
+use Rattle.bounds.specs.Tests.{firstOf}
+use Rattle.bounds.proofs.Tests.{first-skip}
 use Rattle.ratio_format.specs.Bodies.{openRatios, strictRatios}
 use Rattle.record_format.specs.Runs.{Run, run, field, recordOf}
-use Rattle.record_format.specs.Reading.{Answer, refusalAnswer, readWith, readStrict, readOpen, rateIn, positionsIn, ratiosIn, listOf}
-use Rattle.record_format.specs.Claims.{Accepted, AllAccepted, Bytes, Beginning, joined, ownTests, ownAnswer, runAnswer, ReadsBack, ReadsOnly, AcceptsExactly, PrefixFree, ListsApart, TrailingBytes, Shortest, NineEach}
+use Rattle.record_format.specs.Reading.{Answer, readStrict, readOpen, rateIn, positionsIn, ratiosIn, listOf}
+use Rattle.record_format.specs.Claims.{Accepted, AllAccepted, joined, ownTests, ownAnswer, runAnswer, ReadsBack, ReadsOnly, AcceptsExactly, PrefixFree, ListsApart, TrailingBytes, Shortest, NineEach}
 use Rattle.ratio_format.specs.Windows.{windowSize}
 use Rattle.ratio_format.proofs.Bodies.{nine-bytes}
 use Rattle.ratio_format.proofs.ReadFrom.{open-coded}
 use Rattle.ratio_format.proofs.Shortest.{shortest}
 use Rattle.ratio_format.proofs.Strict.{strict-coded}
-use Rattle.record_format.proofs.Accepted.{Fitting, accepted-fits, fitting-accepted}
+use Rattle.record_format.proofs.Accepted.{accepted-fits, fitting-accepted}
 use Rattle.record_format.proofs.ReadBack.{read-record, rate-is, positions-are, ratios-are}
-use Rattle.record_format.proofs.ReadOnly.{Begins, quiet, accepted-begins}
+use Rattle.record_format.proofs.ReadOnly.{quiet, accepted-begins}
 
 -- ---- demand 2
 

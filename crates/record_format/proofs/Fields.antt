@@ -1,16 +1,15 @@
 -- A field where it stands in a record: its parts, read back; and the bytes of a whole field, put together again.
 -- Assumes nothing.
 use mathlib.Core.Path.{_≡_, refl, sym, ap, ap₂, _∙_, subst}
-use mathlib.Core.List.{List, [], _∷_, _++_, append-assoc}
-use Prim.Native.Nat.{ℕ, zero, suc, _+_, _-_, _*_, _≤_, _<_, _^_}
-use native.Mathlib.Nat.{add-comm, add-assoc}
+use mathlib.Core.List.{List, _∷_, _++_, append-assoc}
+use Prim.Native.Nat.{ℕ, suc, _+_, _-_, _≤_, _<_}
 use native.Mathlib.Numerals.{add-one}
 use native.Mathlib.Omega.{arith}
 use lib.Dec.{lit<}
-use lib.ListN.{length, take, drop, getD, length-append, length-drop, length-take, take-append-drop}
-use lib.Seq.{take-at, drop-at, drop-append-add, getD-append-seam, drop-cons, drop-drop, length-take-le}
+use lib.ListN.{length, take, drop, getD, length-append, length-drop, take-append-drop}
+use lib.Seq.{take-at, drop-at, getD-append-seam, drop-cons, drop-drop, length-take-le}
 use Rattle.bits.specs.Digits.{digitsOf, bytesOf, numberOf}
-use Rattle.record_format.specs.Runs.{field, headSize}
+use Rattle.record_format.specs.Runs.{field}
 use Rattle.record_format.specs.Reading.{tagAt, lengthAt, bodyAt, nextAt}
 use Rattle.bits.specs.Below.{Below}
 use Rattle.bits.proofs.Below.{below-take, below-drop}

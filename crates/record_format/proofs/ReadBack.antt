@@ -1,10 +1,10 @@
 -- Reading the record of a run gives that run, whatever bytes follow, and whatever rate is expected and room is lent.
 -- Assumes nothing.
 use mathlib.Core.Path.{_≡_, refl, sym, ap, ap₂, _∙_, subst}
-use mathlib.Core.Bool.{Bool, true, false, not, cond}
+use mathlib.Core.Bool.{true, not, cond}
 use mathlib.Core.List.{List, [], _∷_, _++_, append-assoc}
-use mathlib.Core.Option.{Option, none, some}
-use Prim.Native.Nat.{ℕ, zero, suc, _+_, _-_, _*_, _≤_, _<_, _^_}
+use mathlib.Core.Option.{Option, some}
+use Prim.Native.Nat.{ℕ, _+_, _≤_, _^_}
 use native.Mathlib.Omega.{arith}
 use borrow.Author.Tests.{eq-eqb, le-ltb}
 use lib.Dec.{ltb, eqb, lit<}
@@ -12,17 +12,17 @@ use lib.ListN.{length, length-append}
 use Rattle.bounds.specs.declared.Refusal.{Refusal}
 use Rattle.bounds.specs.Rates.{isRate}
 use Rattle.bounds.specs.Points.{maxPoints}
-use Rattle.bounds.specs.Tests.{Test, test, firstOf, refused, zeros, over}
+use Rattle.bounds.specs.Tests.{Test, test, firstOf, refused}
 use Rattle.bounds.proofs.Rates.{rate-high}
 use Rattle.bounds.proofs.Tests.{first-skip}
 use Rattle.bits.specs.Compare.{both}
-use Rattle.bits.specs.Digits.{digitsOf, bytesOf, numberOf}
+use Rattle.bits.specs.Digits.{bytesOf, numberOf}
 use Rattle.position_format.specs.Rows.{rows}
-use Rattle.position_format.specs.Positions.{codedPositions, validPositions, readPositions}
-use Rattle.ratio_format.specs.Bodies.{codedRatios, openRatios, strictRatios}
-use Rattle.record_format.specs.Runs.{Run, run, field, recordOf}
+use Rattle.position_format.specs.Positions.{codedPositions, readPositions}
+use Rattle.ratio_format.specs.Bodies.{codedRatios}
+use Rattle.record_format.specs.Runs.{Run, field, recordOf}
 use Rattle.record_format.specs.Claims.{ownTests, ownAnswer, runAnswer}
-use Rattle.record_format.specs.Reading.{Answer, refusalAnswer, recordAnswer, readTests, readWith, lengthAt, nextAt, bodyAt, tagAt, second, third, fourth, end, rateIn, countIn, positionsIn, ratiosIn, missing, listOf, fourthTests, thirdTests, secondTests, firstTests, headTests, bodyTest, lengthTest}
+use Rattle.record_format.specs.Reading.{Answer, refusalAnswer, recordAnswer, readTests, readWith, nextAt, bodyAt, second, third, fourth, end, rateIn, countIn, positionsIn, ratiosIn, missing, listOf, fourthTests, thirdTests, secondTests, headTests, bodyTest, lengthTest}
 use Rattle.bits.specs.Below.{Below}
 use Rattle.bits.proofs.Digits.{length-digits, number-digits-lt}
 use Rattle.ratio_format.specs.Windows.{windowSize}

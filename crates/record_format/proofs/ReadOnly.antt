@@ -1,25 +1,25 @@
 -- Strict reading accepts only records: bytes that it accepts begin with the record of a run that the writer accepts.
 -- Assumes nothing.
 use mathlib.Core.Path.{_≡_, refl, sym, ap, ap₂, _∙_, subst}
-use mathlib.Core.Bool.{Bool, true, false, not, cond}
-use mathlib.Core.List.{List, [], _∷_, _++_, append-assoc}
+use mathlib.Core.Bool.{true, false, not, cond}
+use mathlib.Core.List.{List, _++_, append-assoc}
 use mathlib.Core.Option.{Option, none, some}
-use Prim.Native.Nat.{ℕ, zero, suc, _+_, _-_, _*_, _≤_, _<_, _^_}
+use Prim.Native.Nat.{ℕ, zero, suc, _+_, _≤_, _^_}
 use native.Mathlib.Omega.{arith}
 use borrow.Author.Tests.{eqb-true, ltb-false, not-false}
 use lib.Dec.{ltb, eqb, lit<, eqb·suc-zero}
-use lib.ListN.{length, take, drop}
+use lib.ListN.{length, drop}
 use Rattle.bounds.specs.declared.Refusal.{Refusal}
 use Rattle.bounds.specs.Rates.{isRate}
 use Rattle.bounds.specs.Points.{maxPoints}
-use Rattle.bounds.specs.Tests.{Test, test, firstOf, refused}
+use Rattle.bounds.specs.Tests.{firstOf, refused}
 use Rattle.bounds.proofs.Tests.{first-clear}
 use Rattle.bits.specs.Digits.{digitsOf, bytesOf, numberOf}
 use Rattle.position_format.specs.Rows.{rows}
-use Rattle.position_format.specs.Positions.{codedPositions, validPositions, readPositions}
-use Rattle.ratio_format.specs.Bodies.{codedRatios, openRatios, strictRatios}
+use Rattle.position_format.specs.Positions.{codedPositions, validPositions}
+use Rattle.ratio_format.specs.Bodies.{codedRatios, strictRatios}
 use Rattle.record_format.specs.Runs.{Run, run, field, recordOf}
-use Rattle.record_format.specs.Reading.{Answer, refusalAnswer, recordAnswer, readTests, readWith, readStrict, lengthAt, nextAt, bodyAt, tagAt, second, third, fourth, end, rateIn, countIn, positionsIn, ratiosIn, missing, listOf, fourthTests, thirdTests, secondTests, firstTests, headTests, bodyTest, lengthTest}
+use Rattle.record_format.specs.Reading.{Answer, refusalAnswer, recordAnswer, readTests, readWith, readStrict, lengthAt, nextAt, bodyAt, tagAt, second, third, fourth, end, rateIn, countIn, positionsIn, ratiosIn, missing}
 use Rattle.bits.specs.Below.{Below}
 use Rattle.bits.proofs.Below.{below-take, below-drop}
 use Rattle.bits.proofs.Digits.{digits-number}

@@ -1,7 +1,7 @@
 -- The answer of writing, by the test at which it stops: what a writer that makes the tests in turn has to show.
 -- Assumes nothing.
-use mathlib.Core.Path.{_≡_, refl, sym, ap, ap₂, _∙_, subst}
-use mathlib.Core.Bool.{true, false, not, cond}
+use mathlib.Core.Path.{_≡_, refl, sym, ap, _∙_}
+use mathlib.Core.Bool.{true, false, not}
 use mathlib.Core.List.{List, [], _∷_, _++_}
 use Prim.Native.Nat.{ℕ, _≤_, _<_}
 use native.Mathlib.Omega.{arith}
@@ -10,7 +10,7 @@ use lib.ListN.{length, drop}
 use Rattle.bounds.specs.declared.Refusal.{Refusal}
 use Rattle.bounds.specs.Points.{maxPoints, firstHigh}
 use Rattle.bounds.specs.Rates.{isRate}
-use Rattle.bounds.specs.Tests.{Test, firstOf, refused, zeros, over, test}
+use Rattle.bounds.specs.Tests.{firstOf, zeros, over, test}
 use Rattle.bounds.proofs.Tests.{first-here, first-skip, first-end, first-append-none, first-append-some}
 use Rattle.position_format.specs.Rows.{rows}
 use Rattle.position_format.specs.Steps.{firstOutside}

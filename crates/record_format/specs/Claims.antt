@@ -4,10 +4,10 @@
 --   Beginning a b       the string a is a beginning of b: b is a and then any bytes, or none
 --   joined rs           the records of the runs rs, joined in their order
 --   runAnswer r e ts vs what reading the record of r answers
-use mathlib.Core.Bool.{Bool, true, not, cond}
+use mathlib.Core.Bool.{true, not, cond}
 use mathlib.Core.List.{List, [], _∷_, _++_}
 use mathlib.Core.Logic.{_↔_}
-use mathlib.Core.Option.{Option, none, some}
+use mathlib.Core.Option.{some}
 use mathlib.Core.Path.{_≡_}
 use Prim.Native.Nat.{ℕ, _*_, _≤_, _^_}
 use lib.Dec.{ltb, eqb}

@@ -1,7 +1,8 @@
--- Document 01, "Kinds and span": the span of a run. The standard term is its duration, signed, in milliseconds.
+-- Document 01, "Kinds and span" and "Numbers that come back": the span of a run. The standard term is its duration, signed, in milliseconds.
 --   towardZero z r        z divided by r, rounded toward zero
 --   milliseconds r ts     last minus first position, times 1,000, divided by the rate r
 --   spanTests r ts        the tests of a span in their order: 1, 3, 4
+--   spanAnswer f z        the answer by the refusal f, or the milliseconds z
 --   spanned r ts          the whole answer
 use mathlib.Core.Bool.{not, cond}
 use mathlib.Core.List.{List, [], _∷_}

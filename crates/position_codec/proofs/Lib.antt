@@ -1,0 +1,11 @@
+pub mod Differences
+pub mod Modulo
+pub mod Tables
+pub mod Points
+pub mod Laid
+pub mod Peek
+pub mod Ends
+pub mod Front
+pub mod Follow
+pub mod Stand
+pub mod Reading

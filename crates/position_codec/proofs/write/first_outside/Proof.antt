@@ -1,0 +1,73 @@
+-- `first_outside` meets its contract. The loop's invariant: the table holds the step at each point passed.
+-- The measure is what is left of the length.
+use mathlib.Core.Path.{_≡_, ap, _∙_}
+use Prim.Native.Nat.{_≤_, _-_}
+use native.Mathlib.Omega.{arith}
+use borrow.Author.Needs.{needs}
+use lib.ListN.{length}
+use mir.Syntax.{w64}
+use mir.ValLaws.{toZ-ofZ}
+use Rattle.position_format.specs.Rows.{rows, inTable}
+use Rattle.position_format.specs.Steps.{firstOutside}
+use Rattle.position_format.proofs.Parts.{stepHere}
+use Rattle.position_codec.proofs.Points.{outside-here, outside-later, outside-none}
+use Rattle.position_codec.proofs.write.first_outside.Statement.{statement}
+use Rattle.position_codec.proofs.write.first_outside.Tie as tie
+
+abbrev Inv-loop : tie.InvT-loop
+Inv-loop positions i₀ i = (2 ≤ i) × (i ≤ firstOutside rows positions)
+
+abbrev μ-loop : tie.MeasureT-loop
+μ-loop positions i₀ i = length positions - i
+
+loop-holds : tie.Need-loop-holds Inv-loop μ-loop
+loop-holds c = (omega arith, omega arith)
+
+step-at-requires : tie.Need-step-at-requires Inv-loop μ-loop
+step-at-requires c κs = omega arith
+
+in-table-requires : tie.Need-in-table-requires Inv-loop μ-loop
+in-table-requires c κs = search needs
+
+-- the test is whether the table holds the step at point i
+tested : (c : tie.After-in-table Inv-loop μ-loop) → c .in-table .result ≡ inTable rows (stepHere (c .before .before .before .before .before .args .positions .now) (c .before .before .before .loop .i))
+tested c = c .in-table .ensures ∙ ap (inTable rows) (toZ-ofZ w64 (c .before .step-at .result) (record { sfits = c .before .step-at .ok }) ∙ c .before .step-at .ensures)
+
+returns : tie.Need-returns Inv-loop μ-loop
+returns c =
+    let ts = c .before .before .before .before .before .before .args .positions .now in
+    let l = c .before .before .before .before .loop in
+    outside-here ts (l .i) (l .inv .0) (c .before .before .before .loop-test .taken) (l .inv .1) (c .before .in-table .result) (tested (c .before)) (c .if1 .taken)
+
+add-i : tie.Need-add-i Inv-loop μ-loop
+add-i c = omega arith
+
+loop-less : tie.Need-loop-less Inv-loop μ-loop
+loop-less c = omega arith
+
+loop-again : tie.Need-loop-again Inv-loop μ-loop
+loop-again c =
+    let ts = c .before .before .before .before .before .before .args .positions .now in
+    let l = c .before .before .before .before .loop in
+    let h = outside-later ts (l .i) (l .inv .0) (c .before .before .before .loop-test .taken) (l .inv .1) (c .before .in-table .result) (tested (c .before)) (c .if1 .left) in
+    (omega arith, omega (arith, h))
+
+returns-2 : tie.Need-returns-2 Inv-loop μ-loop
+returns-2 c =
+    let l = c .before .loop in
+    outside-none (c .before .before .before .args .positions .now) (l .i) (l .inv .0) (c .loop-test .left) (l .inv .1)
+
+pub first-outside-spec : {M : Type 1} → statement M
+first-outside-spec =
+    tie.close
+    (tie.spec
+    Inv-loop
+    μ-loop
+    loop-holds
+    step-at-requires
+    in-table-requires
+    returns
+    add-i
+    loop-less
+    loop-again
+    returns-2)

@@ -1,0 +1,13 @@
+// The coder and the reader of positions (document 01, "Positions"): the first two positions take 64 bits each, every other point the code
+// of its step by the first row of the table that holds it, and 0 bits fill the last byte. Internal: callers meet each `requires`.
+mod table; // the table of steps, the row of a step, and its code as one word
+mod write; // positions written
+mod read; // positions read
+
+pub use read::get_positions;
+pub use table::Code;
+pub use table::code_of;
+pub use table::in_table;
+pub use table::step;
+pub use write::first_outside;
+pub use write::put_positions;

@@ -1,0 +1,35 @@
+use borrow.Author.Needs.{needs}
+use Rattle.record_codec.proofs.Placing.{number-none, number-done, number-on}
+use Rattle.record_codec.proofs.writer.put_number.Statement.{statement}
+use Rattle.record_codec.proofs.writer.put_number.Tie as tie
+
+add-if1 : tie.Need-add-if1
+add-if1 c = search needs
+
+returns : tie.Need-returns
+returns c =
+    let a = c .before .before .args in
+    number-none (a .out .now) (a .tag) (a .n) (a .x) (c .if1 .taken)
+
+put-head-requires : tie.Need-put-head-requires
+put-head-requires c κs = search needs
+
+put-bytes-requires : tie.Need-put-bytes-requires
+put-bytes-requires c κs = search needs
+
+add-t5 : tie.Need-add-t5
+add-t5 c = search needs
+
+same-length : tie.Need-same-length
+same-length c = search needs
+
+returns-2 : tie.Need-returns-2
+returns-2 c =
+    let a = c .before .before .before .before .before .before .before .before .before .before .args in
+    number-done (a .out .now) _ (a .tag) (a .n) (a .x) (c .before .before .before .before .before .before .before .before .if1 .left)
+    (number-on (a .out .now) _ _ (a .tag) (a .n) (a .x) (c .before .before .before .before .before .before .put-head .ensures) (c .before .before .put-bytes .ensures))
+
+pub put-number-spec : {M : Type 1} → statement M
+put-number-spec =
+    tie.close
+    (tie.spec add-if1 returns put-head-requires put-bytes-requires add-t5 same-length returns-2)

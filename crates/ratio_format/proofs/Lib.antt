@@ -1,6 +1,7 @@
 pub mod Zeros
 pub mod Score
 pub mod Windows
+pub mod Moved
 pub mod Choice
 pub mod Forms
 pub mod Reading
@@ -11,5 +12,7 @@ pub mod ReadFrom
 pub mod Shortest
 pub mod Strict
 pub mod Progress
+pub mod Lives
+pub mod Stepping
 pub mod Lengths
 pub mod Exceptions

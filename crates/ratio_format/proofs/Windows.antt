@@ -104,33 +104,36 @@ push-full (x ∷ l) v e =
     ∙ ap (λ (r : List ℕ). take 127 (v ∷ r)) (reverse-cons x l)
     ∙ ap (λ (r : List ℕ). v ∷ r) (take-at (reverse l) (x ∷ []) 126 n))
 
-module _ (w : Window) (v : ℕ) (fits : w .fill ≤ 127) (size : length (w .ratios) ≡ 127) where
-  abbrev to : Bool → Window
-  to t =
-      cond t (record { ratios = set (w .ratios) (w .fill) v; fill = w .fill + 1 })
-      (record { ratios = drop 1 (w .ratios) ++ (v ∷ []); fill = w .fill })
+-- a kept window after one ratio more, by whether it has room
+abbrev pushedTo : Window → ℕ → Bool → Window
+pushedTo w v t =
+    cond t (record { ratios = set (w .ratios) (w .fill) v; fill = w .fill + 1 })
+    (record { ratios = drop 1 (w .ratios) ++ (v ∷ []); fill = w .fill })
 
-  -- what a kept window holds after one ratio more
-  pub held-pushed : held (pushed w v) ≡ push 127 v (held w)
-  held-pushed = go (ltb (w .fill) 127) refl
-    where
-      go : (t : Bool) → ltb (w .fill) 127 ≡ t → held (to t) ≡ push 127 v (held w)
-      go true e = push-room (w .ratios) (w .fill) v (ltb-true (w .fill) 127 e) size
-      go false e =
-          let n : w .fill ≡ 127 = omega (arith, ltb-false (w .fill) 127 e) in
-          rw n (push-full (w .ratios) v size)
-
-  -- its array keeps 127 cells, and its fill stays the smaller of 127 and the number of ratios that came
-  pub pushed-size : length (pushed w v .ratios) ≡ 127
-  pushed-size = go (ltb (w .fill) 127)
-    where
-      go : (t : Bool) → length (to t .ratios) ≡ 127
-      go true = length-set (w .ratios) (w .fill) v ∙ size
-      go false = simp (length-append, length-drop) (omega arith)
-
+module _ (w : Window) (v : ℕ) where
+  -- its fill stays the smaller of 127 and the number of ratios that came
   pub pushed-fill : (n : ℕ) → w .fill ≡ min 127 n → pushed w v .fill ≡ min 127 (n + 1)
   pushed-fill n e = go (ltb (w .fill) 127) refl
     where
-      go : (t : Bool) → ltb (w .fill) 127 ≡ t → to t .fill ≡ min 127 (n + 1)
+      go : (t : Bool) → ltb (w .fill) 127 ≡ t → pushedTo w v t .fill ≡ min 127 (n + 1)
       go true h = omega (arith, ltb-true (w .fill) 127 h)
       go false h = omega (arith, ltb-false (w .fill) 127 h)
+
+  module _ (size : length (w .ratios) ≡ 127) where
+    -- its array keeps 127 cells
+    pub pushed-size : length (pushed w v .ratios) ≡ 127
+    pushed-size = go (ltb (w .fill) 127)
+      where
+        go : (t : Bool) → length (pushedTo w v t .ratios) ≡ 127
+        go true = length-set (w .ratios) (w .fill) v ∙ size
+        go false = simp (length-append, length-drop) (omega arith)
+
+    -- what it holds
+    pub held-pushed : w .fill ≤ 127 → held (pushed w v) ≡ push 127 v (held w)
+    held-pushed fits = go (ltb (w .fill) 127) refl
+      where
+        go : (t : Bool) → ltb (w .fill) 127 ≡ t → held (pushedTo w v t) ≡ push 127 v (held w)
+        go true e = push-room (w .ratios) (w .fill) v (ltb-true (w .fill) 127 e) size
+        go false e =
+            let n : w .fill ≡ 127 = omega (arith, ltb-false (w .fill) 127 e) in
+            rw n (push-full (w .ratios) v size)

@@ -5,4 +5,5 @@ pub mod Forms
 pub mod Open
 pub mod Bodies
 pub mod Lives
-pub mod Steps
+pub mod Stepping
+pub mod Claims

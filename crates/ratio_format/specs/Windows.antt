@@ -25,7 +25,7 @@ windowOf n vs = take n (reverse vs)
 
 -- a fresh window holds none; all its cells are 0
 abbrev pub freshWindow : Window
-freshWindow = record { ratios = replicate 127 0; fill = 0 }
+freshWindow = record { ratios = replicate windowSize 0; fill = 0 }
 
 -- the ratios that a kept window holds, newest first: its cells stand oldest first, and those past the fill hold none
 abbrev pub held : Window → List ℕ

@@ -1,4 +1,9 @@
-// The coding of ratios: the types that its calls answer, definitions and laws.
+// The coding of ratios: the types that its calls answer, the window that is kept, definitions and laws.
+ghost use mathlib.Core.Path.{_≡_};
+ghost use mathlib.Core.List.{[], _∷_, _++_};
+ghost use lib.ListN.{drop};
+ghost use Rattle.ratio_format.specs.Windows.{freshWindow, pushed};
+ghost use Rattle.ratio_format.specs.Lives.{freshLive};
 
 // How one ratio is written: a place of the window; the xor with the ratio at a place, by its trailing zero bytes, the middle's length
 // and the middle as a number; or the ratio itself.
@@ -22,8 +27,56 @@ pub enum Read {
 // The preceding ratios, oldest first, and how many of the cells are filled.
 #[repr(C)]
 pub struct Window {
-    pub ratios: [u64; 127],
+    pub ratios: [u64; Window::SIZE],
     pub fill: u64,
+}
+
+impl Window {
+    // How many ratios it holds.
+    pub const SIZE: usize = 127;
+
+    // A window that holds none.
+    pub fn fresh() -> Self
+        ensures { λ r. ⌜ r ≡ freshWindow ⌝ }
+    {
+        Window {
+            ratios: [0; Window::SIZE],
+            fill: 0,
+        }
+    }
+
+    // The window after the ratio v.
+    pub fn push(self, v: u64) -> Self
+        ensures { λ r. ⌜ r ≡ pushed self v ⌝ }
+    {
+        let fill = self.fill;
+        let cells = self.ratios;
+        if fill < Window::SIZE as u64 {
+            let at = fill as usize;
+            let mut ratios = cells;
+            ratios[at] = v;
+            return Window {
+                ratios,
+                fill: fill + 1,
+            };
+        }
+        let ratios = shifted(cells, v);
+        Window { ratios, fill }
+    }
+}
+
+// The cells moved down by one, and v in the last.
+fn shifted(cells: [u64; Window::SIZE], v: u64) -> [u64; Window::SIZE]
+    ensures { λ r. ⌜ r ≡ drop 1 cells ++ (v ∷ []) ⌝ }
+{
+    let mut moved = cells;
+    let mut i: usize = 0;
+    while i < Window::SIZE - 1 {
+        moved[i] = moved[i + 1];
+        i += 1;
+    }
+    moved[Window::SIZE - 1] = v;
+    moved
 }
 
 // What a live coding keeps between additions: the window and the number of ratios seen.
@@ -31,6 +84,16 @@ pub struct Window {
 pub struct Live {
     pub window: Window,
     pub seen: u64,
+}
+
+impl Live {
+    // Where a live coding starts.
+    pub fn fresh() -> Self
+        ensures { λ r. ⌜ r ≡ freshLive ⌝ }
+    {
+        let window = Window::fresh();
+        Live { window, seen: 0 }
+    }
 }
 
 // The answer of a live addition: number and place of the refusal, or 0 and 0 with the number of bytes written.

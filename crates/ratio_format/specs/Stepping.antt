@@ -58,11 +58,12 @@ abbrev pub isRefused : Read → Bool
 isRefused Refused = true
 isRefused (Ratio v k) = false
 
--- the ratio that was read, and how many bytes it took
+-- the ratio that was read
 abbrev pub ratioOf : Read → ℕ
 ratioOf Refused = 0
 ratioOf (Ratio v k) = v
 
+-- how many bytes it took
 abbrev pub usedOf : Read → ℕ
 usedOf Refused = 0
 usedOf (Ratio v k) = k

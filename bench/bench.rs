@@ -1,0 +1,383 @@
+//! A benchmark of the library beside a straightforward implementation (plain.rs) and a plain
+//! memory copy of the same positions and ratios, all in one run.
+//!
+//! Usage: bench [samples]
+//!
+//! Each sample of the library is timed between two of the straightforward implementation. A
+//! ratio says how many times as fast the library is as the mean of these two; printed are
+//! medians over the samples. MB/s count 8 bytes for each ratio.
+
+#[path = "../tests/rust/answers.rs"]
+mod answers;
+#[allow(dead_code)]
+#[path = "../tests/rust/library.rs"]
+mod library;
+mod plain;
+
+use answers::{Live, Reading, Written};
+use std::hint::black_box;
+
+const POINTS: usize = 4_096;
+const SHORT: usize = 8;
+const RATE: u32 = 96_000;
+const LONGEST_RECORD: usize = 55_321;
+const SAMPLES: usize = 21;
+/// How many seconds a sample of the straightforward implementation should take at least.
+const SAMPLE: f64 = 0.000_8;
+
+const KINDS: [&str; 9] = [
+    "constant, rare changes",
+    "walk over 50 values",
+    "decimals, drifting",
+    "two sines",
+    "random bits",
+    "equal top two bytes",
+    "whole numbers",
+    "one plus noise",
+    "mixture of all",
+];
+
+// Data
+
+/// A xorshift64* generator.
+struct Random(u64);
+
+impl Random {
+    fn bits(&mut self) -> u64 {
+        self.0 ^= self.0 >> 12;
+        self.0 ^= self.0 << 25;
+        self.0 ^= self.0 >> 27;
+        self.0.wrapping_mul(0x2545_f491_4f6c_dd1d)
+    }
+
+    fn below(&mut self, bound: u64) -> u64 {
+        (self.bits() >> 16) % bound
+    }
+
+    /// Uniform from -1 to 1.
+    fn fraction(&mut self) -> f64 {
+        self.bits() as i64 as f64 / (1_u64 << 63) as f64
+    }
+}
+
+fn ratios(kind: usize) -> Vec<u64> {
+    let random = &mut Random(kind as u64 + 1);
+    if kind == 8 {
+        let all: Vec<Vec<u64>> = (0..8).map(ratios).collect();
+        return (0..POINTS).map(|n| all[n / 32 % 8][n]).collect();
+    }
+    let values: Vec<u64> = (0..50).map(|_| random.fraction().to_bits()).collect();
+    let mut index = 25;
+    let mut level = 1.0;
+    let mut ratio = 1.0_f64.to_bits();
+    let next = |n: usize| {
+        let angle = n as f64 * 0.01;
+        ratio = match kind {
+            0 if random.below(50) != 0 => ratio,
+            0 => (1.0 + random.fraction()).to_bits(),
+            1 => {
+                index = (index + 49 + random.below(3) as usize) % 50;
+                values[index]
+            }
+            2 => {
+                level += random.fraction() * 0.01;
+                let places = [100.0, 1_000.0, 10_000.0][random.below(3) as usize];
+                ((level * places).round() / places).to_bits()
+            }
+            3 => (1.0 + 0.1 * angle.sin() + 0.01 * (7.3 * angle).sin()).to_bits(),
+            4 => random.bits(),
+            5 => 0x3ff0 << 48 | random.bits() >> 16,
+            6 => (random.below(2_000) as f64).to_bits(),
+            _ => (1.0 + random.fraction() * 1e-3).to_bits(),
+        };
+        ratio
+    };
+    (0..POINTS).map(next).collect()
+}
+
+/// Positions 960 apart, each off by nothing or by an irregular amount.
+fn positions(regular: bool) -> Vec<u64> {
+    let mut random = Random(77);
+    let mut off = || match random.below(8) {
+        _ if regular => 0,
+        0 => random.below(900),
+        1 | 2 => random.below(200),
+        _ => random.below(30),
+    };
+    (0..POINTS as u64).map(|n| 960 * n + off()).collect()
+}
+
+struct Run<'a> {
+    positions: &'a [u64],
+    ratios: &'a [u64],
+    record: Vec<u8>,
+}
+
+fn runs<'a>(positions: &'a [u64], ratios: &'a [u64], length: usize) -> Vec<Run<'a>> {
+    let run = |(positions, ratios)| {
+        let mut record = vec![0; LONGEST_RECORD];
+        let written = plain::write(RATE, positions, ratios, &mut record);
+        record.truncate(written.length as usize);
+        Run {
+            positions,
+            ratios,
+            record,
+        }
+    };
+    let chunks = positions.chunks(length).zip(ratios.chunks(length));
+    chunks.map(run).collect()
+}
+
+// Calls
+
+/// The outputs lent to all calls.
+struct Output {
+    bytes: Vec<u8>,
+    positions: Vec<u64>,
+    ratios: Vec<u64>,
+}
+
+impl Output {
+    fn new() -> Output {
+        Output {
+            bytes: vec![0; LONGEST_RECORD],
+            positions: vec![0; POINTS],
+            ratios: vec![0; POINTS],
+        }
+    }
+}
+
+/// One implementation's calls.
+struct Calls {
+    write: fn(u32, &[u64], &[u64], &mut [u8]) -> Written,
+    read_strict: fn(u32, &[u8], &mut [u64], &mut [u64]) -> Reading,
+    read_open: fn(u32, &[u8], &mut [u64], &mut [u64]) -> Reading,
+    live_new: fn() -> Live,
+    live_add: fn(&mut Live, u64, &mut [u8]) -> Written,
+}
+
+const LIBRARY: Calls = Calls {
+    write: library::write,
+    read_strict: library::read_strict,
+    read_open: library::read_open,
+    live_new: library::live_new,
+    live_add: library::live_add,
+};
+
+const PLAIN: Calls = Calls {
+    write: plain::write,
+    read_strict: plain::read_strict,
+    read_open: plain::read_open,
+    live_new: plain::live_new,
+    live_add: plain::live_add,
+};
+
+#[derive(Clone, Copy, PartialEq)]
+enum Call {
+    Write,
+    Strict,
+    Open,
+    Live,
+}
+
+fn name(call: Call) -> &'static str {
+    match call {
+        Call::Write => "write",
+        Call::Strict => "strict read",
+        Call::Open => "open read",
+        Call::Live => "live addition",
+    }
+}
+
+/// Does one call on a run, or for live coding one addition for each of its ratios.
+fn work(calls: &Calls, call: Call, run: &Run, out: &mut Output) {
+    match call {
+        Call::Write => {
+            let written = (calls.write)(RATE, run.positions, run.ratios, &mut out.bytes);
+            assert_eq!(written.length, run.record.len() as u64);
+        }
+        Call::Strict | Call::Open => {
+            let read = if call == Call::Strict {
+                calls.read_strict
+            } else {
+                calls.read_open
+            };
+            let read = read(RATE, &run.record, &mut out.positions, &mut out.ratios);
+            assert_eq!(read.used, run.record.len() as u64);
+        }
+        Call::Live => {
+            let mut state = (calls.live_new)();
+            let mut at = 0;
+            for &ratio in run.ratios {
+                let added = (calls.live_add)(&mut state, ratio, &mut out.bytes[at..]);
+                at += added.length as usize;
+            }
+            assert_eq!(state.seen, run.ratios.len() as u64);
+        }
+    }
+}
+
+/// Compares what a call gives with the run and its record.
+fn check(calls: &Calls, call: Call, run: &Run, out: &mut Output) {
+    work(calls, call, run, out);
+    let record = &run.record;
+    let count = run.ratios.len();
+    let same = match call {
+        Call::Write => out.bytes.starts_with(record),
+        Call::Strict | Call::Open => {
+            out.positions.starts_with(run.positions) && out.ratios.starts_with(run.ratios)
+        }
+        Call::Live => {
+            let field = 15 + usize::from(u16::from_be_bytes([record[13], record[14]]));
+            out.bytes.starts_with(&record[field + 3..])
+        }
+    };
+    assert!(same, "{} differs on a run of {count} points", name(call));
+}
+
+fn copy(call: Call, run: &Run, out: &mut Output) {
+    let count = run.ratios.len();
+    if call != Call::Live {
+        out.positions[..count].copy_from_slice(run.positions);
+    }
+    out.ratios[..count].copy_from_slice(run.ratios);
+}
+
+// Timing
+
+/// Seconds of processor time of this thread (Linux), which other programs disturb less.
+fn now() -> f64 {
+    #[repr(C)]
+    struct Time {
+        seconds: i64,
+        nanoseconds: i64,
+    }
+    unsafe extern "C" {
+        fn clock_gettime(clock: i32, time: *mut Time) -> i32;
+    }
+    const THREAD_CPU_TIME: i32 = 3;
+    let mut time = Time {
+        seconds: 0,
+        nanoseconds: 0,
+    };
+    // SAFETY: the time is lent to be written, and laid out as C has it on 64-bit Linux.
+    let failed = unsafe { clock_gettime(THREAD_CPU_TIME, &mut time) };
+    assert_eq!(failed, 0, "no clock of processor time");
+    time.seconds as f64 + time.nanoseconds as f64 * 1e-9
+}
+
+fn time(repeats: usize, mut work: impl FnMut()) -> f64 {
+    let start = now();
+    for _ in 0..repeats {
+        work();
+    }
+    (now() - start) / repeats as f64
+}
+
+fn median(mut numbers: Vec<f64>) -> f64 {
+    numbers.sort_by(f64::total_cmp);
+    numbers[numbers.len() / 2]
+}
+
+/// Medians for one call on one kind of data.
+struct Cell {
+    copy: f64,
+    plain: f64,
+    library: f64,
+    ratio: f64,
+}
+
+fn measure(call: Call, runs: &[Run], samples: usize) -> Cell {
+    for calls in [&PLAIN, &LIBRARY] {
+        let out = &mut Output::new();
+        for run in runs {
+            check(calls, call, run, out);
+        }
+    }
+    let out = &mut Output::new();
+    let mut all = |calls: &Calls, repeats: usize| {
+        time(repeats, || {
+            for run in runs {
+                work(calls, call, black_box(run), out);
+                black_box(&mut *out);
+            }
+        })
+    };
+    let once = all(&PLAIN, 3);
+    let repeats = (SAMPLE / once).ceil() as usize;
+    let (mut plains, mut libraries, mut ratios) = (Vec::new(), Vec::new(), Vec::new());
+    for _ in 0..samples {
+        let before = all(&PLAIN, repeats);
+        let library = all(&LIBRARY, repeats);
+        let after = all(&PLAIN, repeats);
+        let plain = (before + after) / 2.0;
+        plains.push(plain);
+        libraries.push(library);
+        ratios.push(plain / library);
+    }
+    let copies = (0..samples).map(|_| {
+        time(10 * repeats, || {
+            for run in runs {
+                copy(call, black_box(run), out);
+                black_box(&mut *out);
+            }
+        })
+    });
+    let megabytes = (8 * POINTS) as f64 / 1e6;
+    Cell {
+        copy: megabytes / median(copies.collect()),
+        plain: megabytes / median(plains),
+        library: megabytes / median(libraries),
+        ratio: median(ratios),
+    }
+}
+
+fn table(call: Call, length: usize, samples: usize) {
+    println!("\n{}, {length} points", name(call));
+    print!("{:24}", "MB/s");
+    // Live additions take no positions.
+    let steps: &[&str] = match call {
+        Call::Live => &[""],
+        _ => &["regular", "irregular"],
+    };
+    for steps in steps {
+        print!(" | {steps:9} copy   plain library   ratio");
+    }
+    println!();
+    let mut all_ratios = vec![Vec::new(); steps.len()];
+    for (kind, name) in KINDS.iter().enumerate() {
+        print!("{name:24}");
+        let ratios = ratios(kind);
+        for (steps, all_ratios) in steps.iter().zip(&mut all_ratios) {
+            let positions = positions(*steps != "irregular");
+            let cell = measure(call, &runs(&positions, &ratios, length), samples);
+            print!(" | {:14.0} {:7.0}", cell.copy, cell.plain);
+            print!(" {:7.0} {:7.2}", cell.library, cell.ratio);
+            all_ratios.push(cell.ratio);
+        }
+        println!();
+    }
+    print!("{:24}", "median of the ratios");
+    for ratios in all_ratios {
+        print!(" | {:38.2}", median(ratios));
+    }
+    println!();
+}
+
+fn main() {
+    let samples = match std::env::args().nth(1).map(|samples| samples.parse()) {
+        None => SAMPLES,
+        Some(Ok(samples)) if samples > 0 => samples,
+        Some(_) => {
+            println!("the number of samples must be a whole number above 0");
+            std::process::exit(2);
+        }
+    };
+    println!("copy: the positions and ratios (live: ratios) copied; plain: straightforward");
+    println!("ratio: how many times as fast as plain the library is; medians of {samples} samples");
+    for length in [POINTS, SHORT] {
+        for call in [Call::Write, Call::Strict, Call::Open, Call::Live] {
+            table(call, length, samples);
+        }
+    }
+}

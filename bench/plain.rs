@@ -1,0 +1,403 @@
+//! A straightforward implementation of writing, reading and live addition, to be timed beside
+//! the library. It scans the window newest first, stops at an equal ratio, and takes both counts
+//! at each entry; the run's own slice is the window. Its calls are not inlined, since those of
+//! the library cannot be.
+
+use crate::answers::WINDOW;
+use crate::answers::{Live, Reading, Written};
+
+const RATES: [u32; 6] = [44_100, 48_000, 88_200, 96_000, 176_400, 192_000];
+const MOST_POINTS: usize = 4_096;
+const LAST_POSITION: u64 = (1 << 62) - 1;
+const STEPS: std::ops::RangeInclusive<i64> = -(1 << 31) + 1..=1 << 31;
+
+/// A refusal's number and place.
+type Refusal = (u32, usize);
+
+// Ratios
+
+#[derive(PartialEq)]
+enum Form {
+    Reference(usize),
+    Xor(usize, u32, u32),
+    Exception,
+}
+
+/// The form to write for a ratio: a place, or a place with the trailing count and the length.
+fn choose(window: &[u64], ratio: u64) -> Form {
+    let mut best = Form::Exception;
+    let mut best_sum = 1;
+    for (place, &earlier) in window.iter().rev().enumerate() {
+        let x = ratio ^ earlier;
+        if x == 0 {
+            return Form::Reference(place);
+        }
+        let leading = x.leading_zeros() / 8;
+        let trailing = x.trailing_zeros() / 8;
+        if leading + trailing > best_sum {
+            best_sum = leading + trailing;
+            best = Form::Xor(place, trailing, 8 - best_sum);
+        }
+    }
+    best
+}
+
+/// Writes a ratio's form and answers its length, or nothing where there is no room.
+fn put_ratio(window: &[u64], ratio: u64, out: &mut [u8]) -> Option<usize> {
+    match choose(window, ratio) {
+        Form::Reference(place) => {
+            *out.first_mut()? = place as u8;
+            Some(1)
+        }
+        Form::Xor(place, trailing, length) => {
+            let x = ratio ^ window[window.len() - 1 - place];
+            let form = out.get_mut(..2 + length as usize)?;
+            form[0] = place as u8 + 128;
+            form[1] = (trailing << 4 | length) as u8;
+            let middle = x >> (8 * trailing) << (64 - 8 * length);
+            form[2..].copy_from_slice(&middle.to_be_bytes()[..length as usize]);
+            Some(2 + length as usize)
+        }
+        Form::Exception => {
+            let form = out.get_mut(..9)?;
+            form[0] = 255;
+            form[1..].copy_from_slice(&ratio.to_be_bytes());
+            Some(9)
+        }
+    }
+}
+
+/// Reads one form: the ratio and the form's length.
+fn take_ratio(window: &[u64], bytes: &[u8], strict: bool) -> Option<(u64, usize)> {
+    let first = *bytes.first()?;
+    if first == 255 {
+        let ratio = u64::from_be_bytes(bytes.get(1..9)?.try_into().unwrap());
+        let good = !strict || choose(window, ratio) == Form::Exception;
+        return good.then_some((ratio, 9));
+    }
+    let place = usize::from(first & 127);
+    let cell = window.len().checked_sub(1 + place)?;
+    if first < 128 {
+        let good = !strict || !window[cell + 1..].contains(&window[cell]);
+        return good.then_some((window[cell], 1));
+    }
+    let counts = u32::from(*bytes.get(1)?);
+    let (trailing, length) = (counts >> 4, counts & 15);
+    if trailing + length > 8 {
+        return None;
+    }
+    let mut middle = 0;
+    for &byte in bytes.get(2..2 + length as usize)? {
+        middle = middle << 8 | u64::from(byte);
+    }
+    let x = middle.checked_shl(8 * trailing).unwrap_or(0);
+    let ratio = window[cell] ^ x;
+    let good = !strict || choose(window, ratio) == Form::Xor(place, trailing, length);
+    good.then_some((ratio, 2 + length as usize))
+}
+
+// Positions
+
+/// Lays bits into an output; without room it lays nothing but counts on.
+struct Bits<'a> {
+    out: &'a mut [u8],
+    at: usize,
+    held: u64,
+    width: u32,
+}
+
+impl Bits<'_> {
+    fn lay(&mut self, number: u64, width: u32) {
+        self.held = self.held << width | number;
+        self.width += width;
+        while self.width >= 8 {
+            self.width -= 8;
+            self.byte((self.held >> self.width) as u8);
+        }
+    }
+
+    fn byte(&mut self, byte: u8) {
+        if let Some(cell) = self.out.get_mut(self.at) {
+            *cell = byte;
+        }
+        self.at += 1;
+    }
+}
+
+/// Codes the positions and answers the length, or the index of a step outside the table.
+fn put_positions(positions: &[u64], out: &mut [u8]) -> Result<usize, usize> {
+    let mut bits = Bits {
+        out,
+        at: 0,
+        held: 0,
+        width: 0,
+    };
+    for &position in positions.iter().take(2) {
+        bits.lay(position >> 32, 32);
+        bits.lay(position & 0xffff_ffff, 32);
+    }
+    for (n, three) in positions.windows(3).enumerate() {
+        let (before, last, position) = (three[0] as i64, three[1] as i64, three[2] as i64);
+        let step = (position - last) - (last - before);
+        let low = |width: u32| step as u64 & ((1 << width) - 1);
+        match step {
+            0 => bits.lay(0, 1),
+            -63..=64 => bits.lay(0b10 << 7 | low(7), 9),
+            -255..=256 => bits.lay(0b110 << 9 | low(9), 12),
+            -2047..=2048 => bits.lay(0b1110 << 12 | low(12), 16),
+            _ if STEPS.contains(&step) => bits.lay(0b1111 << 32 | low(32), 36),
+            _ => return Err(n + 2),
+        }
+    }
+    if bits.width > 0 {
+        bits.lay(0, 8 - bits.width);
+    }
+    Ok(bits.at)
+}
+
+/// Decodes positions into a slice of their count, or nothing where the body is no coding.
+fn take_positions(body: &[u8], positions: &mut [u64]) -> Option<()> {
+    let raw = positions.len().min(2);
+    let (first, rest) = body.split_at_checked(8 * raw)?;
+    for (position, bytes) in positions.iter_mut().zip(first.chunks(8)) {
+        *position = u64::from_be_bytes(bytes.try_into().unwrap());
+        if *position > LAST_POSITION {
+            return None;
+        }
+    }
+    // Bits not yet taken stand at the top of `held`, with zeros below them.
+    let mut bytes = rest.iter();
+    let (mut held, mut width) = (0_u64, 0);
+    for n in 2..positions.len() {
+        while width <= 56 {
+            let Some(&byte) = bytes.next() else { break };
+            held |= u64::from(byte) << (56 - width);
+            width += 8;
+        }
+        let ones = (!held).leading_zeros().min(4);
+        let (prefix, after) = [(1, 0), (2, 7), (3, 9), (4, 12), (4, 32)][ones as usize];
+        if width < prefix + after {
+            return None;
+        }
+        let mut step = 0;
+        if ones > 0 {
+            let low = (held << prefix >> (64 - after)) as i64;
+            step = if low > 1 << (after - 1) {
+                low - (1 << after)
+            } else {
+                low
+            };
+            let held_before = [0..=0, 0..=0, -63..=64, -255..=256, -2047..=2048];
+            if held_before[ones as usize].contains(&step) {
+                return None;
+            }
+        }
+        held <<= prefix + after;
+        width -= prefix + after;
+        let last = positions[n - 1] as i64;
+        let difference = (last - positions[n - 2] as i64) + step;
+        if difference < -last || difference > LAST_POSITION as i64 - last {
+            return None;
+        }
+        positions[n] = (last + difference) as u64;
+    }
+    (held == 0 && width < 8 && bytes.next().is_none()).then_some(())
+}
+
+// Records
+
+fn try_write(
+    rate: u32,
+    positions: &[u64],
+    ratios: &[u64],
+    out: &mut [u8],
+) -> Result<usize, Refusal> {
+    if !RATES.contains(&rate) {
+        return Err((1, 0));
+    }
+    if positions.len() != ratios.len() {
+        return Err((2, 0));
+    }
+    if positions.len() > MOST_POINTS {
+        return Err((3, 0));
+    }
+    if let Some(index) = positions.iter().position(|&t| t > LAST_POSITION) {
+        return Err((4, index));
+    }
+    let (head, rest) = out.split_at_mut(out.len().min(15));
+    let length = put_positions(positions, rest).map_err(|index| (5, index))?;
+    if rest.len() < length + 3 {
+        return Err((6, 0));
+    }
+    head[..3].copy_from_slice(&[1, 0, 4]);
+    head[3..7].copy_from_slice(&rate.to_be_bytes());
+    head[7..10].copy_from_slice(&[2, 0, 2]);
+    head[10..12].copy_from_slice(&(positions.len() as u16).to_be_bytes());
+    head[12] = 3;
+    head[13..].copy_from_slice(&(length as u16).to_be_bytes());
+    let (head, body) = rest[length..].split_at_mut(3);
+    let mut at = 0;
+    for (n, &ratio) in ratios.iter().enumerate() {
+        let window = &ratios[n.saturating_sub(WINDOW)..n];
+        at += put_ratio(window, ratio, &mut body[at..]).ok_or((6, 0))?;
+    }
+    head[0] = 4;
+    head[1..].copy_from_slice(&(at as u16).to_be_bytes());
+    Ok(15 + length + 3 + at)
+}
+
+#[inline(never)]
+pub fn write(rate: u32, positions: &[u64], ratios: &[u64], out: &mut [u8]) -> Written {
+    match try_write(rate, positions, ratios, out) {
+        Ok(length) => written(0, 0, length),
+        Err((number, place)) => {
+            out.fill(0);
+            written(number, place, 0)
+        }
+    }
+}
+
+fn written(number: u32, place: usize, length: usize) -> Written {
+    Written {
+        number,
+        place: place as u32,
+        length: length as u64,
+    }
+}
+
+fn body(record: &[u8], at: usize, tag: u8, length: Option<usize>) -> Result<&[u8], Refusal> {
+    let rest = &record[at..];
+    let [found, high, low, rest @ ..] = rest else {
+        return Err((10, at));
+    };
+    if *found != tag {
+        return Err((11, at));
+    }
+    let stated = usize::from(u16::from_be_bytes([*high, *low]));
+    if length.is_some_and(|length| length != stated) {
+        return Err((12, at));
+    }
+    rest.get(..stated).ok_or((10, at))
+}
+
+fn try_read(
+    expected: u32,
+    record: &[u8],
+    positions: &mut [u64],
+    ratios: &mut [u64],
+    strict: bool,
+) -> Result<(u32, usize, usize), Refusal> {
+    let rate = u32::from_be_bytes(body(record, 0, 1, Some(4))?.try_into().unwrap());
+    if !RATES.contains(&rate) {
+        return Err((13, 0));
+    }
+    if expected != 0 && expected != rate {
+        return Err((14, 0));
+    }
+    let count = u16::from_be_bytes(body(record, 7, 2, Some(2))?.try_into().unwrap());
+    let count = usize::from(count);
+    if count > MOST_POINTS {
+        return Err((15, 7));
+    }
+    if count > positions.len() || count > ratios.len() {
+        return Err((16, 7));
+    }
+    let coded = body(record, 12, 3, None)?;
+    take_positions(coded, &mut positions[..count]).ok_or((17, 12))?;
+    let field = 15 + coded.len();
+    let coded = body(record, field, 4, None)?;
+    let mut at = 0;
+    for n in 0..count {
+        let window = &ratios[n.saturating_sub(WINDOW)..n];
+        let (ratio, length) = take_ratio(window, &coded[at..], strict).ok_or((18, field))?;
+        ratios[n] = ratio;
+        at += length;
+    }
+    if at != coded.len() {
+        return Err((18, field));
+    }
+    Ok((rate, count, field + 3 + at))
+}
+
+fn read(
+    expected: u32,
+    record: &[u8],
+    positions: &mut [u64],
+    ratios: &mut [u64],
+    strict: bool,
+) -> Reading {
+    let (number, place, rate, count, used) =
+        match try_read(expected, record, positions, ratios, strict) {
+            Ok((rate, count, used)) => (0, 0, rate, count, used),
+            Err((number, place)) => {
+                positions.fill(0);
+                ratios.fill(0);
+                (number, place, 0, 0, 0)
+            }
+        };
+    Reading {
+        number,
+        place: place as u32,
+        rate,
+        count: count as u32,
+        used: used as u64,
+    }
+}
+
+#[inline(never)]
+pub fn read_strict(
+    expected: u32,
+    record: &[u8],
+    positions: &mut [u64],
+    ratios: &mut [u64],
+) -> Reading {
+    read(expected, record, positions, ratios, true)
+}
+
+#[inline(never)]
+pub fn read_open(
+    expected: u32,
+    record: &[u8],
+    positions: &mut [u64],
+    ratios: &mut [u64],
+) -> Reading {
+    read(expected, record, positions, ratios, false)
+}
+
+// Live coding
+
+#[inline(never)]
+pub fn live_new() -> Live {
+    Live {
+        ratios: [0; WINDOW],
+        fill: 0,
+        seen: 0,
+    }
+}
+
+#[inline(never)]
+pub fn live_add(state: &mut Live, ratio: u64, out: &mut [u8]) -> Written {
+    let refuse = |number, out: &mut [u8]| {
+        out.fill(0);
+        written(number, 0, 0)
+    };
+    let fill = state.seen.min(WINDOW as u64) as usize;
+    if state.fill != fill as u64 || state.seen > MOST_POINTS as u64 {
+        return refuse(7, out);
+    }
+    if state.seen == MOST_POINTS as u64 {
+        return refuse(3, out);
+    }
+    let Some(length) = put_ratio(&state.ratios[..fill], ratio, out) else {
+        return refuse(6, out);
+    };
+    if fill == WINDOW {
+        state.ratios.copy_within(1.., 0);
+        state.ratios[WINDOW - 1] = ratio;
+    } else {
+        state.ratios[fill] = ratio;
+        state.fill += 1;
+    }
+    state.seen += 1;
+    written(0, 0, length)
+}

@@ -1,0 +1,190 @@
+/* farigolenc: run records and live coding of ratios, as document 01 says.
+ *
+ * A run is a rate, a list of positions (0 to 2^62 - 1) and as many ratios, at
+ * most 4096 of each. A ratio is the 64 bits of an IEEE 754 double; all calls
+ * work on the bits, so that 0 and -0 differ and every not-a-number is kept.
+ * Rates are 44100, 48000, 88200, 96000, 176400 and 192000. A record that is
+ * written has 18 to 55321 bytes.
+ *
+ * Answers begin with a number, 0 for success or the number of a refusal, and a
+ * place, 0 on success:
+ *
+ *   no.  given when                                            place
+ *    1   rate not in the list                                  0
+ *    2   as many ratios as positions are not given             0
+ *    3   more than 4096 points                                 0
+ *    4   a position above 2^62 - 1                             first such index
+ *    5   a step outside -2^31 + 1 to 2^31                      first such index
+ *    6   output shorter than what would be written             0
+ *    7   a kept state is bad                                   0
+ *    8   stepping: all given, body used up                     0
+ *   10   bytes end inside a field                              field
+ *   11   wrong tag                                             field
+ *   12   field 1 not 4 long, or field 2 not 2                  field
+ *   13   rate in the record not in the list                    field
+ *   14   a rate was expected (not 0) and differs               field
+ *   15   count above 4096                                      field, or 0 in
+ *                                                              making a reader
+ *   16   an output has room for fewer than count numbers       field
+ *   17   field 3 is not the coding of count positions          field
+ *   18   field 4 is not the coding (or open form) of count     field, or 0 in
+ *        ratios                                                stepping
+ *
+ * Indices count from 0; the step at index n is
+ * (t[n] - t[n-1]) - (t[n-1] - t[n-2]). "Field" is the offset of the field's tag
+ * in the record.
+ *
+ * On success an output keeps what it held past the part that was written. On a
+ * refusal every other returned number is 0, a kept state is unchanged, and all
+ * outputs are 0 from end to end.
+ *
+ * What a caller owes: each pointer is not null and is aligned for its type,
+ * also where the length beside it is 0; the whole length, counted in elements,
+ * is valid to read, and for outputs and the live state valid to write; what a
+ * call writes overlaps nothing else that is lent to it, and no other thread
+ * uses it meanwhile. Outputs may hold anything before the call.
+ *
+ * What no input can do: where that is kept, no record, number or state, however
+ * damaged or made up, makes a call read or write memory that was not lent to
+ * it, stop the program, or fail to return. Answers depend on the arguments
+ * alone; nothing is kept between calls but the states below.
+ */
+
+#ifndef FARIGOLENC_H
+#define FARIGOLENC_H
+
+#include <stddef.h>
+#include <stdint.h>
+
+#ifdef __cplusplus
+extern "C" {
+#endif
+
+/* Largest number of points, ratios in a window, bytes in a record that
+ * farigolenc_write writes, and bytes that farigolenc_live_add writes. */
+#define FARIGOLENC_POINTS 4096
+#define FARIGOLENC_WINDOW 127
+#define FARIGOLENC_RECORD 55321
+#define FARIGOLENC_FORM 9
+
+/* Writes the record of a run. Tests 1 to 6 in order. */
+typedef struct {
+    uint32_t number, place;
+    uint64_t length; /* bytes written */
+} farigolenc_write_answer;
+
+farigolenc_write_answer farigolenc_write(
+    uint32_t rate,
+    const uint64_t *positions, size_t positions_length,
+    const uint64_t *ratios, size_t ratios_length,
+    uint8_t *out, size_t out_length);
+
+/* Reads the record at the start of `record`; bytes after it are not looked at.
+ * `expected` is the rate that the record must have, or 0 for any. Strict
+ * reading accepts only what farigolenc_write writes; open reading accepts any
+ * open form in field 4. Takes the fields in order, and in each tests 10 (head),
+ * 11, 12, 10 (body), then 13 and 14, 15 and 16, 17, or 18. */
+typedef struct {
+    uint32_t number, place;
+    uint32_t rate, count;
+    uint64_t used; /* bytes of the record */
+} farigolenc_read_answer;
+
+farigolenc_read_answer farigolenc_read_strict(
+    uint32_t expected,
+    const uint8_t *record, size_t record_length,
+    uint64_t *positions, size_t positions_length,
+    uint64_t *ratios, size_t ratios_length);
+
+farigolenc_read_answer farigolenc_read_open(
+    uint32_t expected,
+    const uint8_t *record, size_t record_length,
+    uint64_t *positions, size_t positions_length,
+    uint64_t *ratios, size_t ratios_length);
+
+/* The time from the first position to the last, rounded toward zero; 0 for no
+ * position or one. Tests 1, 3 and 4, the last over all positions. */
+typedef struct {
+    uint32_t number, place;
+    int64_t milliseconds;
+} farigolenc_span_answer;
+
+farigolenc_span_answer farigolenc_span(
+    uint32_t rate,
+    const uint64_t *positions, size_t positions_length);
+
+/* The state of live coding. The cells hold the window, oldest ratio first; those
+ * from `fill` on mean nothing. A state is bad, and refused by 7, if `fill` is
+ * not the smaller of 127 and `seen`, or `seen` is above 4096. */
+typedef struct {
+    uint64_t ratios[FARIGOLENC_WINDOW];
+    uint64_t fill;
+    uint64_t seen; /* ratios added so far */
+} farigolenc_live;
+
+/* A fresh state, all zeros. */
+farigolenc_live farigolenc_live_new(void);
+
+/* Writes the bytes of one more ratio (1 to 9) and adds it to the window: with
+ * room the cell at `fill` takes it, else all cells move down by one and the last
+ * takes it. The bytes of successive additions, joined, are the body of field 4.
+ * Tests 7, 3 (where 4096 were seen) and 6. */
+farigolenc_write_answer farigolenc_live_add(
+    farigolenc_live *state,
+    uint64_t ratio,
+    uint8_t *out, size_t out_length);
+
+/* The state of stepping through the body of a field 4, with the window as in
+ * farigolenc_live. A state is bad, and refused by 7, if `fill` is not the
+ * smaller of 127 and `seen`, `seen` is above `count`, `count` is above 4096, or
+ * `place` is past the body. */
+typedef struct {
+    uint64_t place; /* offset in the body */
+    uint64_t count; /* ratios that the body should give */
+    uint64_t seen;  /* ratios given so far */
+    uint64_t ratios[FARIGOLENC_WINDOW];
+    uint64_t fill;
+} farigolenc_cursor;
+
+/* A fresh state for a body of `count` ratios. Tests 15, and on a refusal gives
+ * the fresh state of count 0. */
+typedef struct {
+    uint32_t number, place;
+    farigolenc_cursor cursor;
+} farigolenc_cursor_answer;
+
+farigolenc_cursor_answer farigolenc_cursor_new(uint64_t count);
+
+/* Reads the next ratio, strictly. `next` is the state after it, and on a refusal
+ * the state that was given. Tests 7; where `count` were given, 8 if the body is
+ * used up, else 18; before that, 18 if the bytes at `place` begin with no form
+ * that would be written for a next ratio. */
+typedef struct {
+    uint32_t number, place;
+    uint64_t ratio;
+    farigolenc_cursor next;
+} farigolenc_step_answer;
+
+farigolenc_step_answer farigolenc_step(
+    const uint8_t *body, size_t body_length,
+    farigolenc_cursor cursor);
+
+/* What kind of double a ratio is. Never refuses. */
+#define FARIGOLENC_NUMBER 0
+#define FARIGOLENC_INFINITY 1
+#define FARIGOLENC_NAN 2
+
+typedef struct {
+    uint32_t kind;
+    uint32_t negative; /* 1 for a negative infinity, else 0 */
+    double value;      /* of a number, else 0 */
+    uint64_t bits;     /* of a not-a-number, else 0 */
+} farigolenc_kind_answer;
+
+farigolenc_kind_answer farigolenc_kind(uint64_t ratio);
+
+#ifdef __cplusplus
+}
+#endif
+
+#endif

@@ -1,0 +1,345 @@
+/* Calls every function of farigolenc.h from C99: writes a run, reads it, adds its
+ * ratios live, steps through them, and tries kinds, spans and refusals.
+ * Prints "ok" and returns 0, or says what differs and returns 1. */
+
+#include "farigolenc.h"
+
+#include <stdio.h>
+#include <string.h>
+
+#define POINTS 300
+#define ROOM (POINTS + 5)
+#define DIRT 0xA5
+
+/* The states have no padding. */
+typedef char live_is_packed[sizeof(farigolenc_live) == 129 * 8 ? 1 : -1];
+typedef char cursor_is_packed[sizeof(farigolenc_cursor) == 131 * 8 ? 1 : -1];
+
+static int differences = 0;
+
+static void check(int same, const char *what)
+{
+    if (!same) {
+        printf("differs: %s\n", what);
+        differences++;
+    }
+}
+
+static int all_are(const void *memory, size_t length, int byte)
+{
+    const unsigned char *bytes = (const unsigned char *)memory;
+    size_t i;
+    for (i = 0; i < length; i++) {
+        if (bytes[i] != byte) {
+            return 0;
+        }
+    }
+    return 1;
+}
+
+static uint64_t bits_of(double value)
+{
+    uint64_t bits;
+    memcpy(&bits, &value, sizeof bits);
+    return bits;
+}
+
+/* The listing example of document 01. */
+static const uint8_t example[46] = {
+    1, 0, 4, 0, 1, 0x77, 0, 2, 0, 2, 0, 3, 3, 0, 0x11,
+    0, 0, 0, 0, 0, 0, 0, 0, 0, 0, 0, 0, 0, 0, 3, 0xC0, 0,
+    4, 0, 0x0B, 0xFF, 0x3F, 0xE0, 0, 0, 0, 0, 0, 0, 0, 0};
+
+static void check_example(void)
+{
+    const uint64_t positions[3] = {0, 960, 1920};
+    const uint64_t half = UINT64_C(0x3FE0000000000000);
+    const uint64_t ratios[3] = {UINT64_C(0x3FE0000000000000), UINT64_C(0x3FE0000000000000),
+                                UINT64_C(0x3FE0000000000000)};
+    uint8_t out[50];
+    uint64_t read_positions[3], read_ratios[3];
+    farigolenc_write_answer written;
+    farigolenc_read_answer read;
+    farigolenc_span_answer span;
+
+    memset(out, DIRT, sizeof out);
+    memset(read_positions, DIRT, sizeof read_positions);
+    memset(read_ratios, DIRT, sizeof read_ratios);
+    written = farigolenc_write(96000, positions, 3, ratios, 3, out, sizeof out);
+    check(written.number == 0 && written.place == 0 && written.length == 46, "example, written");
+    check(memcmp(out, example, 46) == 0, "example, bytes");
+    check(all_are(out + 46, 4, DIRT), "example, bytes past the record");
+
+    read = farigolenc_read_strict(0, example, 46, read_positions, 3, read_ratios, 3);
+    check(read.number == 0 && read.place == 0 && read.rate == 96000 && read.count == 3 &&
+              read.used == 46,
+          "example, read");
+    check(memcmp(read_positions, positions, sizeof positions) == 0, "example, positions");
+    check(read_ratios[0] == half && read_ratios[1] == half && read_ratios[2] == half,
+          "example, ratios");
+
+    span = farigolenc_span(96000, positions, 3);
+    check(span.number == 0 && span.place == 0 && span.milliseconds == 20, "example, span");
+}
+
+/* A run with references, xor forms and exceptions, and steps of several rows. */
+static void make_run(uint64_t *positions, uint64_t *ratios)
+{
+    uint64_t noise = 88172645463325252u, position = 1000;
+    size_t i;
+    for (i = 0; i < POINTS; i++) {
+        noise ^= noise << 13;
+        noise ^= noise >> 7;
+        noise ^= noise << 17;
+        position += 480 + (i % 3 == 0 ? noise % 4000 : 0);
+        positions[i] = position;
+        switch (i % 4) {
+        case 0:
+            ratios[i] = noise;
+            break;
+        case 1:
+            ratios[i] = bits_of((double)(noise % 100) / 10.0);
+            break;
+        case 2:
+            ratios[i] = bits_of((double)(i / 40));
+            break;
+        default:
+            ratios[i] = ratios[i - 1 - noise % 3];
+        }
+    }
+}
+
+static void check_reading(const char *which, farigolenc_read_answer read, uint64_t length,
+                          const uint64_t *positions, const uint64_t *ratios,
+                          const uint64_t *read_positions, const uint64_t *read_ratios)
+{
+    check(read.number == 0 && read.place == 0 && read.rate == 48000 && read.count == POINTS &&
+              read.used == length,
+          which);
+    check(memcmp(read_positions, positions, POINTS * 8) == 0, "positions that were read");
+    check(memcmp(read_ratios, ratios, POINTS * 8) == 0, "ratios that were read");
+    check(all_are(read_positions + POINTS, (ROOM - POINTS) * 8, DIRT), "positions past the run");
+    check(all_are(read_ratios + POINTS, (ROOM - POINTS) * 8, DIRT), "ratios past the run");
+}
+
+static void check_run(void)
+{
+    static uint64_t positions[POINTS], ratios[POINTS];
+    static uint64_t read_positions[ROOM], read_ratios[ROOM];
+    static uint8_t record[FARIGOLENC_RECORD], joined[POINTS * FARIGOLENC_FORM];
+    farigolenc_write_answer written;
+    farigolenc_live live;
+    farigolenc_cursor_answer making;
+    farigolenc_step_answer step;
+    farigolenc_cursor cursor;
+    const uint8_t *body;
+    size_t field, length, total = 0, i;
+
+    make_run(positions, ratios);
+    written = farigolenc_write(48000, positions, POINTS, ratios, POINTS, record, sizeof record);
+    check(written.number == 0 && written.place == 0 && written.length > 18, "run, written");
+    if (written.number != 0) {
+        return;
+    }
+
+    memset(read_positions, DIRT, sizeof read_positions);
+    memset(read_ratios, DIRT, sizeof read_ratios);
+    check_reading("strict reading",
+                  farigolenc_read_strict(48000, record, sizeof record, read_positions, ROOM,
+                                         read_ratios, ROOM),
+                  written.length, positions, ratios, read_positions, read_ratios);
+    memset(read_positions, DIRT, sizeof read_positions);
+    memset(read_ratios, DIRT, sizeof read_ratios);
+    check_reading("open reading",
+                  farigolenc_read_open(0, record, (size_t)written.length, read_positions, ROOM,
+                                       read_ratios, ROOM),
+                  written.length, positions, ratios, read_positions, read_ratios);
+
+    /* Field 4 stands after fields 1 and 2 (12 bytes) and field 3. */
+    field = 15 + ((size_t)record[13] << 8 | record[14]);
+    length = (size_t)record[field + 1] << 8 | record[field + 2];
+    body = record + field + 3;
+    check(record[field] == 4 && field + 3 + length == written.length, "run, field 4");
+
+    live = farigolenc_live_new();
+    check(all_are(&live, sizeof live, 0), "fresh live state");
+    for (i = 0; i < POINTS; i++) {
+        written = farigolenc_live_add(&live, ratios[i], joined + total, sizeof joined - total);
+        check(written.number == 0 && written.place == 0, "live addition");
+        total += (size_t)written.length;
+    }
+    check(total == length && memcmp(joined, body, length) == 0, "joined live additions");
+    check(live.seen == POINTS && live.fill == FARIGOLENC_WINDOW, "live state");
+    check(memcmp(live.ratios, ratios + POINTS - FARIGOLENC_WINDOW, sizeof live.ratios) == 0,
+          "live window");
+
+    making = farigolenc_cursor_new(POINTS);
+    check(making.number == 0 && making.place == 0 && making.cursor.count == POINTS, "making");
+    cursor = making.cursor;
+    for (i = 0; i < POINTS; i++) {
+        step = farigolenc_step(body, length, cursor);
+        check(step.number == 0 && step.place == 0 && step.ratio == ratios[i], "step");
+        check(step.next.seen == i + 1 && step.next.place > cursor.place, "cursor after a step");
+        cursor = step.next;
+    }
+    step = farigolenc_step(body, length, cursor);
+    check(step.number == 8 && step.place == 0 && step.ratio == 0, "end of stepping");
+    check(memcmp(&step.next, &cursor, sizeof cursor) == 0, "cursor at the end");
+    step = farigolenc_step(body, length - 1, cursor);
+    check(step.number == 7 && step.ratio == 0, "cursor past the body");
+}
+
+static void check_kind(uint64_t ratio, uint32_t kind, uint32_t negative, uint64_t value,
+                       uint64_t bits, const char *what)
+{
+    farigolenc_kind_answer answer = farigolenc_kind(ratio);
+    check(answer.kind == kind && answer.negative == negative &&
+              bits_of(answer.value) == value && answer.bits == bits,
+          what);
+}
+
+static void check_kinds(void)
+{
+    const uint64_t sign = UINT64_C(1) << 63;
+    const uint64_t infinity = UINT64_C(0x7FF0000000000000);
+    check_kind(bits_of(1.5), FARIGOLENC_NUMBER, 0, bits_of(1.5), 0, "kind of 1.5");
+    check_kind(sign, FARIGOLENC_NUMBER, 0, sign, 0, "kind of -0");
+    check_kind(1, FARIGOLENC_NUMBER, 0, 1, 0, "kind of a subnormal");
+    check_kind(infinity, FARIGOLENC_INFINITY, 0, 0, 0, "kind of infinity");
+    check_kind(infinity | sign, FARIGOLENC_INFINITY, 1, 0, 0, "kind of -infinity");
+    check_kind(infinity + 1, FARIGOLENC_NAN, 0, 0, infinity + 1, "kind of a not-a-number");
+    check_kind(UINT64_MAX, FARIGOLENC_NAN, 0, 0, UINT64_MAX, "kind of all ones");
+}
+
+static void check_spans(void)
+{
+    const uint64_t back[2] = {1000, 0};
+    const uint64_t above[2] = {0, UINT64_C(1) << 62};
+    farigolenc_span_answer span;
+
+    span = farigolenc_span(48000, back, 2);
+    check(span.number == 0 && span.place == 0 && span.milliseconds == -20, "span backwards");
+    span = farigolenc_span(48000, back, 0);
+    check(span.number == 0 && span.place == 0 && span.milliseconds == 0, "span of nothing");
+    span = farigolenc_span(48001, back, 2);
+    check(span.number == 1 && span.place == 0 && span.milliseconds == 0, "span, unlisted rate");
+    span = farigolenc_span(48000, above, 2);
+    check(span.number == 4 && span.place == 1 && span.milliseconds == 0, "span, large position");
+}
+
+static void refuse_writing(uint32_t rate, const uint64_t *positions, size_t points, size_t ratios,
+                           size_t room, uint32_t number, uint32_t place, const char *what)
+{
+    static const uint64_t values[3] = {1, 2, 3};
+    uint8_t out[200];
+    farigolenc_write_answer written;
+
+    memset(out, DIRT, sizeof out);
+    written = farigolenc_write(rate, positions, points, values, ratios, out, room);
+    check(written.number == number && written.place == place && written.length == 0, what);
+    check(all_are(out, room, 0) && all_are(out + room, sizeof out - room, DIRT), what);
+}
+
+static void refuse_reading(uint32_t expected, const uint8_t *record, size_t length, size_t room,
+                           uint32_t number, uint32_t place, const char *what)
+{
+    uint64_t positions[8], ratios[8];
+    farigolenc_read_answer read;
+    int open;
+
+    for (open = 0; open < 2; open++) {
+        memset(positions, DIRT, sizeof positions);
+        memset(ratios, DIRT, sizeof ratios);
+        read = (open ? farigolenc_read_open : farigolenc_read_strict)(
+            expected, record, length, positions, room, ratios, 8);
+        check(read.number == number && read.place == place, what);
+        check(read.rate == 0 && read.count == 0 && read.used == 0, what);
+        check(all_are(positions, room * 8, 0) && all_are(ratios, sizeof ratios, 0), what);
+        check(all_are(positions + room, (8 - room) * 8, DIRT), what);
+    }
+}
+
+static void check_refusals(void)
+{
+    const uint64_t sound[3] = {0, 10, 20};
+    const uint64_t above[3] = {0, 10, UINT64_C(1) << 62};
+    const uint64_t far[3] = {0, 0, (UINT64_C(1) << 31) + 1};
+    uint8_t damaged[46], out[20];
+    uint64_t positions[4], ratios[4];
+    farigolenc_live live = farigolenc_live_new(), before;
+    farigolenc_write_answer written;
+    farigolenc_cursor_answer making;
+    farigolenc_read_answer read;
+
+    refuse_writing(0, sound, 3, 3, 200, 1, 0, "writing, unlisted rate");
+    refuse_writing(48000, sound, 3, 2, 200, 2, 0, "writing, a ratio missing");
+    refuse_writing(48000, above, 3, 3, 200, 4, 2, "writing, large position");
+    refuse_writing(48000, far, 3, 3, 200, 5, 2, "writing, large step");
+    refuse_writing(48000, sound, 3, 3, 40, 6, 0, "writing, short output");
+    refuse_writing(48000, sound, 3, 3, 0, 6, 0, "writing, no output");
+
+    refuse_reading(0, example, 0, 8, 10, 0, "reading nothing");
+    refuse_reading(0, example, 45, 8, 10, 32, "reading, field 4 cut");
+    refuse_reading(44100, example, 46, 8, 14, 0, "reading, another rate expected");
+    refuse_reading(0, example, 46, 2, 16, 7, "reading, short output");
+    memcpy(damaged, example, 46);
+    damaged[6] = 1;
+    refuse_reading(0, damaged, 46, 8, 13, 0, "reading, unlisted rate");
+    memcpy(damaged, example, 46);
+    damaged[7] = 3;
+    refuse_reading(0, damaged, 46, 8, 11, 7, "reading, wrong tag");
+    memcpy(damaged, example, 46);
+    damaged[31] = 1;
+    refuse_reading(0, damaged, 46, 8, 17, 12, "reading, a fill bit");
+    memcpy(damaged, example, 46);
+    damaged[45] = 2;
+    refuse_reading(0, damaged, 46, 8, 18, 32, "reading, no such place");
+
+    /* Place 1 holds the same ratio as place 0: good openly, refused strictly. */
+    damaged[45] = 1;
+    memset(positions, DIRT, sizeof positions);
+    memset(ratios, DIRT, sizeof ratios);
+    read = farigolenc_read_open(0, damaged, 46, positions, 4, ratios, 4);
+    check(read.number == 0 && read.used == 46, "open reading of another place");
+    read = farigolenc_read_strict(0, damaged, 46, positions, 4, ratios, 4);
+    check(read.number == 18 && read.place == 32, "strict reading of another place");
+    check(all_are(positions, sizeof positions, 0) && all_are(ratios, sizeof ratios, 0),
+          "strict reading of another place");
+
+    memset(out, DIRT, sizeof out);
+    before = live;
+    written = farigolenc_live_add(&live, 7, out, 8);
+    check(written.number == 6 && written.place == 0 && written.length == 0, "live, short output");
+    check(all_are(out, 8, 0) && all_are(out + 8, 12, DIRT), "live, short output");
+    check(memcmp(&live, &before, sizeof live) == 0, "live, state after a refusal");
+    live.fill = 128;
+    live.seen = 128;
+    before = live;
+    written = farigolenc_live_add(&live, 7, out, sizeof out);
+    check(written.number == 7 && written.place == 0 && written.length == 0, "live, bad state");
+    check(all_are(out, sizeof out, 0), "live, bad state");
+    check(memcmp(&live, &before, sizeof live) == 0, "live, bad state after a refusal");
+    live = farigolenc_live_new();
+    live.fill = FARIGOLENC_WINDOW;
+    live.seen = FARIGOLENC_POINTS;
+    written = farigolenc_live_add(&live, 7, out, sizeof out);
+    check(written.number == 3 && written.place == 0 && written.length == 0, "live, too many");
+
+    making = farigolenc_cursor_new(FARIGOLENC_POINTS + 1);
+    check(making.number == 15 && making.place == 0, "making, count too large");
+    check(all_are(&making.cursor, sizeof making.cursor, 0), "making, count too large");
+}
+
+int main(void)
+{
+    check_example();
+    check_run();
+    check_kinds();
+    check_spans();
+    check_refusals();
+    if (differences != 0) {
+        return 1;
+    }
+    printf("ok\n");
+    return 0;
+}

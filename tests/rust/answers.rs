@@ -1,0 +1,82 @@
+//! The answers and kept states of the C functions, laid out as in include/farigolenc.h.
+
+/// How many ratios a window holds.
+pub const WINDOW: usize = 127;
+
+/// What writing a run and adding a ratio answer.
+#[repr(C)]
+#[derive(Clone, Copy, Debug, PartialEq)]
+pub struct Written {
+    pub number: u32,
+    pub place: u32,
+    pub length: u64,
+}
+
+/// What strict and open reading answer.
+#[repr(C)]
+#[derive(Clone, Copy, Debug, PartialEq)]
+pub struct Reading {
+    pub number: u32,
+    pub place: u32,
+    pub rate: u32,
+    pub count: u32,
+    pub used: u64,
+}
+
+/// What the span call answers.
+#[repr(C)]
+#[derive(Clone, Copy, Debug, PartialEq)]
+pub struct Span {
+    pub number: u32,
+    pub place: u32,
+    pub milliseconds: i64,
+}
+
+/// The state that live coding keeps: the window, oldest ratio first, and the number seen.
+#[repr(C)]
+#[derive(Clone, Copy, Debug, PartialEq)]
+pub struct Live {
+    pub ratios: [u64; WINDOW],
+    pub fill: u64,
+    pub seen: u64,
+}
+
+/// The state that stepping keeps: the place in the body, the count, and the window as in `Live`.
+#[repr(C)]
+#[derive(Clone, Copy, Debug, PartialEq)]
+pub struct Cursor {
+    pub place: u64,
+    pub count: u64,
+    pub seen: u64,
+    pub ratios: [u64; WINDOW],
+    pub fill: u64,
+}
+
+/// What making a reader answers.
+#[repr(C)]
+#[derive(Clone, Copy, Debug, PartialEq)]
+pub struct Making {
+    pub number: u32,
+    pub place: u32,
+    pub cursor: Cursor,
+}
+
+/// What a step answers.
+#[repr(C)]
+#[derive(Clone, Copy, Debug, PartialEq)]
+pub struct Stepped {
+    pub number: u32,
+    pub place: u32,
+    pub ratio: u64,
+    pub next: Cursor,
+}
+
+/// What the kind call answers; `kind` is 0 for a number, 1 for an infinity, 2 for a not-a-number.
+#[repr(C)]
+#[derive(Clone, Copy, Debug)]
+pub struct Kind {
+    pub kind: u32,
+    pub negative: u32,
+    pub value: f64,
+    pub bits: u64,
+}

@@ -1,0 +1,708 @@
+//! A differential test of the library (library.rs) against document 01 (reference.rs).
+//!
+//! Usage: differential [seed [trace]]
+//!
+//! Each case runs both on the same inputs and compares every returned number, every output from
+//! end to end with some memory around it, and every byte of a state. On a difference it prints
+//! the case in hex and ends with 1. With `trace` it prints each case before it runs.
+
+mod answers;
+mod inputs;
+mod library;
+mod reference;
+
+use answers::WINDOW;
+use answers::{Cursor, Kind, Live, Making, Reading, Span, Stepped, Written};
+use inputs::*;
+use std::collections::BTreeMap;
+use std::fmt::Debug;
+use std::process::exit;
+
+const SEED: u64 = 20_260_101;
+const ROUNDS: usize = 10;
+
+// Comparing
+
+struct Test {
+    seed: u64,
+    trace: bool,
+    random: Random,
+    cases: u64,
+    /// How often each call returned each number.
+    numbers: BTreeMap<(&'static str, u32), u64>,
+}
+
+type Write = fn(u32, &[u64], &[u64], &mut [u8]) -> Written;
+type Read = fn(u32, &[u8], &mut [u64], &mut [u64]) -> Reading;
+type Add = fn(&mut Live, u64, &mut [u8]) -> Written;
+
+fn hex(bytes: &[u8]) -> String {
+    bytes.iter().map(|byte| format!("{byte:02x}")).collect()
+}
+
+impl Test {
+    /// Runs a case with the reference and with the library, and compares the outcomes.
+    fn case<F, O: PartialEq + Debug>(
+        &mut self,
+        call: &'static str,
+        inputs: impl Fn() -> String,
+        run: impl Fn(F) -> O,
+        [reference, library]: [F; 2],
+        number: impl Fn(&O) -> u32,
+    ) -> O {
+        if self.trace {
+            println!("{call} {}", inputs());
+        }
+        let expected = run(reference);
+        let outcome = run(library);
+        self.cases += 1;
+        *self.numbers.entry((call, number(&expected))).or_default() += 1;
+        if outcome != expected {
+            println!("difference in case {} of seed {}", self.cases, self.seed);
+            println!("call: {call}\ninputs: {}", inputs());
+            println!("reference: {expected:x?}\nlibrary: {outcome:x?}");
+            exit(1);
+        }
+        expected
+    }
+
+    fn write(&mut self, rate: u32, positions: &[u64], ratios: &[u64], room: usize) {
+        let memory = self.random.memory::<u8>(room);
+        self.case::<Write, _>(
+            "write",
+            || {
+                let run = format!("positions {positions:x?} ratios {ratios:x?}");
+                format!("rate {rate:x} {run} room {room} memory {}", hex(&memory))
+            },
+            |write| {
+                let mut memory = memory.clone();
+                let written = write(rate, positions, ratios, lent(&mut memory));
+                (written, memory)
+            },
+            [reference::write, library::write],
+            |outcome| outcome.0.number,
+        );
+    }
+
+    /// Reads strictly and openly.
+    fn read(&mut self, expected: u32, record: &[u8], rooms: [usize; 2]) {
+        let strict: [Read; 2] = [reference::read_strict, library::read_strict];
+        let open: [Read; 2] = [reference::read_open, library::read_open];
+        for (call, sides) in [("read_strict", strict), ("read_open", open)] {
+            let memory = rooms.map(|room| self.random.memory::<u64>(room));
+            self.case(
+                call,
+                || {
+                    let outputs = format!("rooms {rooms:?} memory {memory:x?}");
+                    format!("expected {expected:x} record {} {outputs}", hex(record))
+                },
+                |read| {
+                    let [mut positions, mut ratios] = memory.clone();
+                    let reading = read(expected, record, lent(&mut positions), lent(&mut ratios));
+                    (reading, positions, ratios)
+                },
+                sides,
+                |outcome| outcome.0.number,
+            );
+        }
+    }
+
+    fn span(&mut self, rate: u32, positions: &[u64]) {
+        self.case::<fn(u32, &[u64]) -> Span, _>(
+            "span",
+            || format!("rate {rate:x} positions {positions:x?}"),
+            |span| span(rate, positions),
+            [reference::span, library::span],
+            |span| span.number,
+        );
+    }
+
+    fn live_new(&mut self) -> Live {
+        self.case::<fn() -> Live, _>(
+            "live_new",
+            String::new,
+            |new| new(),
+            [reference::live_new, library::live_new],
+            |_| 0,
+        )
+    }
+
+    /// Adds a ratio; answers the state afterwards and the bytes written.
+    fn live_add(&mut self, state: Live, ratio: u64, room: usize) -> (Live, Vec<u8>) {
+        let memory = self.random.memory::<u8>(room);
+        let (written, after, memory) = self.case::<Add, _>(
+            "live_add",
+            || {
+                let memory = hex(&memory);
+                format!("state {state:x?} ratio {ratio:x} room {room} memory {memory}")
+            },
+            |add| {
+                let (mut state, mut memory) = (state, memory.clone());
+                let written = add(&mut state, ratio, lent(&mut memory));
+                (written, state, memory)
+            },
+            [reference::live_add, library::live_add],
+            |outcome| outcome.0.number,
+        );
+        let length = written.length as usize;
+        (after, memory[GUARD..GUARD + length].to_vec())
+    }
+
+    fn cursor_new(&mut self, count: u64) -> Cursor {
+        let making = self.case::<fn(u64) -> Making, _>(
+            "cursor_new",
+            || format!("count {count:x}"),
+            |new| new(count),
+            [reference::cursor_new, library::cursor_new],
+            |making| making.number,
+        );
+        making.cursor
+    }
+
+    fn step(&mut self, body: &[u8], cursor: Cursor) -> Stepped {
+        self.case::<fn(&[u8], Cursor) -> Stepped, _>(
+            "step",
+            || format!("body {} cursor {cursor:x?}", hex(body)),
+            |step| step(body, cursor),
+            [reference::step, library::step],
+            |stepped| stepped.number,
+        )
+    }
+
+    fn kind(&mut self, ratio: u64) {
+        self.case::<fn(u64) -> Kind, _>(
+            "kind",
+            || format!("ratio {ratio:x}"),
+            |kind| {
+                let kind = kind(ratio);
+                (kind.kind, kind.negative, kind.value.to_bits(), kind.bits)
+            },
+            [reference::kind, library::kind],
+            |outcome| outcome.0,
+        );
+    }
+}
+
+// Cases
+
+impl Test {
+    /// Writes a run into outputs of several lengths, and reads its record.
+    fn write_and_read(&mut self, run: &Run) {
+        let record = run.record();
+        let (length, count) = (record.len(), run.ratios.len());
+        let long = length + 1 + self.random.below(20);
+        let short = self.random.below(length);
+        for room in [length, length - 1, long, short, 0] {
+            self.write(run.rate, &run.positions, &run.ratios, room);
+        }
+        self.read(0, &record, [count, count]);
+        self.read(run.rate, &record, [count + 3, count + 1]);
+        self.read_in_many_ways(&record, run);
+    }
+
+    /// Reads with some expected rate and some room, and with bytes after the record.
+    fn read_in_many_ways(&mut self, record: &[u8], run: &Run) {
+        let random = &mut self.random;
+        let stated = record.get(10..12).map_or(0, |bytes| {
+            usize::from(u16::from_be_bytes([bytes[0], bytes[1]]))
+        });
+        let mut count = run.ratios.len();
+        if stated <= MOST_POINTS + 3 && random.one_in(2) {
+            count = stated;
+        }
+        let in_record = record.get(3..7).map_or(0, |bytes| {
+            u32::from_be_bytes([bytes[0], bytes[1], bytes[2], bytes[3]])
+        });
+        let (listed, unlisted) = (random.pick(&RATES), unlisted_rate(random));
+        let expected = [0, 0, 0, run.rate, in_record, listed, unlisted];
+        let expected = random.pick(&expected);
+        let long = count + 1 + random.below(10);
+        let short = random.below(count + 1);
+        let rooms = random.pick(&[
+            [count, count],
+            [count, count],
+            [long, long],
+            [count, long],
+            [long, count],
+            [short, count],
+            [count, short],
+            [count.saturating_sub(1), count],
+            [count, count.saturating_sub(1)],
+            [short, long],
+            [0, 0],
+            [MOST_POINTS + 5, MOST_POINTS],
+        ]);
+        if random.one_in(2) {
+            self.read(expected, record, rooms);
+        } else {
+            let after = random.below(12);
+            let after = random.bytes(after);
+            self.read(expected, &[record, &after].concat(), rooms);
+        }
+    }
+
+    fn spoiled_writes(&mut self, run: &Run) {
+        for _ in 0..6 {
+            let mut run = run.clone();
+            for _ in 0..1 + self.random.below(3) {
+                run.spoil(&mut self.random);
+            }
+            let room = 18 + 18 * run.ratios.len();
+            let room = self.random.pick(&[room, room, room / 2, 0]);
+            self.write(run.rate, &run.positions, &run.ratios, room);
+        }
+    }
+
+    fn spoiled_reads(&mut self, run: &Run) {
+        let fields = Fields::split(&run.record());
+        for _ in 0..12 {
+            let mut fields = fields.clone();
+            for _ in 0..1 + self.random.below(3) {
+                fields.spoil(&mut self.random, run.ratios.len());
+            }
+            let mut record = fields.join();
+            if self.random.one_in(6) {
+                record.truncate(self.random.below(record.len() + 1));
+            }
+            self.read_in_many_ways(&record, run);
+        }
+    }
+
+    /// Cuts a record at every byte; what was cut off still stands behind it in memory.
+    fn cut_everywhere(&mut self, run: &Run) {
+        let record = run.record();
+        let count = run.ratios.len();
+        for cut in 0..record.len() {
+            self.read(0, &record[..cut], [count, count]);
+        }
+    }
+
+    /// Damages a record at every byte, or at every so many bytes.
+    fn damage_everywhere(&mut self, run: &Run, values: usize, stride: usize) {
+        let record = run.record();
+        let count = run.ratios.len();
+        let mut at = self.random.below(stride);
+        while at < record.len() {
+            for _ in 0..values {
+                let mut record = record.clone();
+                record[at] = damage(&mut self.random, record[at]);
+                self.read(0, &record, [count + 1, count + 1]);
+            }
+            at += stride;
+        }
+    }
+
+    /// Sound heads around bodies made by hand.
+    fn made_bodies(&mut self, count: usize) {
+        let random = &mut self.random;
+        let run = Run::short(random, count);
+        let mut fields = Fields::split(&run.record());
+        fields.set_body(2, positions_body(random, count));
+        let record = fields.join();
+        self.read(0, &record, [count, count]);
+
+        let random = &mut self.random;
+        let fault = random.pick(&[1_000_000, 1_000_000, 40, 5]);
+        let wrong = random.pick(&[1, 3, count.max(1), 2 * count.max(1)]);
+        let body = if random.one_in(2) {
+            open_body(random, count, fault)
+        } else {
+            chosen_body(random, &run.ratios, wrong)
+        };
+        let mut fields = Fields::split(&run.record());
+        fields.set_body(3, body.clone());
+        let record = fields.join();
+        self.read(0, &record, [count, count + 1]);
+        self.step_through(&body, count);
+    }
+
+    /// Steps through a body, or a beginning of it whose rest still stands behind it in memory.
+    fn step_through(&mut self, body: &[u8], count: usize) {
+        let cut = self.random.below(body.len() + 1);
+        let body = if self.random.one_in(4) {
+            &body[..cut]
+        } else {
+            body
+        };
+        let choices = [count, count, count, count + 1, count.saturating_sub(1)];
+        let count = self.random.pick(&choices);
+        let mut cursor = self.cursor_new(count as u64);
+        loop {
+            let stepped = self.step(body, cursor);
+            if stepped.number != 0 {
+                break;
+            }
+            if self.random.one_in(16) {
+                self.spoiled_step(body, cursor);
+            }
+            cursor = stepped.next;
+        }
+        self.spoiled_step(body, cursor);
+    }
+
+    /// Steps from a state with another place, count, number seen, fill or window.
+    fn spoiled_step(&mut self, body: &[u8], cursor: Cursor) {
+        let random = &mut self.random;
+        let mut cursor = cursor;
+        let length = body.len() as u64;
+        for _ in 0..1 + random.below(2) {
+            match random.below(8) {
+                0 => cursor.fill = other_number(random, cursor.fill),
+                1 => cursor.seen = other_number(random, cursor.seen),
+                2 => cursor.count = other_number(random, cursor.count),
+                3 => cursor.place = other_number(random, length),
+                4 => cursor.place = random.pick(&[length, length + 1, length / 2, 0]),
+                5 => cursor.seen = cursor.count,
+                6 => {
+                    cursor.count = random.pick(&[cursor.count, 4_096, 4_097, 200]);
+                    cursor.seen = random.below(cursor.count as usize % 5_000 + 1) as u64;
+                    cursor.fill = cursor.seen.min(WINDOW as u64);
+                    cursor.ratios.fill_with(|| random.bits());
+                }
+                _ => {
+                    let cell = random.below(WINDOW);
+                    cursor.ratios[cell] = random.pick(&[0, 1, 1 << 63]);
+                }
+            }
+        }
+        self.step(body, cursor);
+    }
+
+    /// Steps from every place of a body with a window of its own.
+    fn step_everywhere(&mut self, body: &[u8]) {
+        let random = &mut self.random;
+        let count = random.pick(&[200, 4_096]);
+        let seen = random.below(count);
+        let mut cursor = self.cursor_new(count as u64);
+        cursor.seen = seen as u64;
+        cursor.fill = seen.min(WINDOW) as u64;
+        let kind = self.random.below(Ratios::KINDS);
+        let ratios = Ratios::list(&mut self.random, kind, WINDOW);
+        cursor.ratios.copy_from_slice(&ratios);
+        for place in 0..=body.len() as u64 + 1 {
+            cursor.place = place;
+            self.step(body, cursor);
+        }
+    }
+
+    /// Adds ratios one by one; the bytes joined must be those of field 4.
+    fn live_run(&mut self, run: &Run) {
+        let mut state = self.live_new();
+        let mut joined = Vec::new();
+        for &ratio in &run.ratios {
+            // First into an output that may be too short.
+            if self.random.one_in(6) {
+                let room = self.random.below(10);
+                let (after, bytes) = self.live_add(state, ratio, room);
+                if after.seen > state.seen {
+                    state = after;
+                    joined.extend(bytes);
+                    continue;
+                }
+            }
+            if self.random.one_in(12) {
+                self.spoiled_addition(state, ratio);
+            }
+            let room = self.random.pick(&[9, 9, 10, 30]);
+            let (after, bytes) = self.live_add(state, ratio, room);
+            state = after;
+            joined.extend(bytes);
+        }
+        if joined != Fields::split(&run.record()).0[3].2 {
+            println!(
+                "live additions do not join to field 4\nratios {:x?}",
+                run.ratios
+            );
+            exit(1);
+        }
+        if state.seen == MOST_POINTS as u64 {
+            for room in [0, 1, 9, 20] {
+                self.live_add(state, run.ratios[0], room);
+                self.spoiled_addition(state, 1);
+            }
+        }
+    }
+
+    /// Adds to a state with another number seen, fill or window.
+    fn spoiled_addition(&mut self, state: Live, ratio: u64) {
+        let random = &mut self.random;
+        let mut state = state;
+        for _ in 0..1 + random.below(2) {
+            match random.below(5) {
+                0 => state.fill = other_number(random, state.fill),
+                1 => state.seen = other_number(random, state.seen),
+                2 => {
+                    state.seen = random.pick(&[0, 1, 126, 127, 128, 4_095, 4_096, 4_097, 1 << 32]);
+                    state.fill = state.seen.min(WINDOW as u64);
+                }
+                3 => state.ratios.fill_with(|| random.bits()),
+                _ => {
+                    let cell = random.below(WINDOW);
+                    state.ratios[cell] = change_bytes(random, ratio);
+                }
+            }
+        }
+        let room = random.pick(&[9, 9, 9, 12, 3, 0]);
+        self.live_add(state, ratio, room);
+    }
+
+    fn spans(&mut self) {
+        let random = &mut self.random;
+        let any = |random: &mut Random| random.below(LAST_POSITION as usize + 1) as u64;
+        let count = match random.below(40) {
+            0 => random.pick(&[4_095, 4_096, 4_097, 5_000]),
+            1..=10 => random.below(20),
+            _ => random.below(4),
+        };
+        let mut rate = random.pick(&RATES);
+        let mut positions: Vec<u64> = match random.below(3) {
+            0 => (0..count).map(|_| any(random)).collect(),
+            1 => any_positions(random, count),
+            _ => (0..count)
+                .map(|_| random.pick(&[0, LAST_POSITION, 1, 1 << 61]))
+                .collect(),
+        };
+        // Close to a whole number of milliseconds, forwards or backwards.
+        if count > 1 && random.one_in(2) {
+            let whole = random.below(1 << 40) as u64 * u64::from(rate) / 1_000;
+            let far = whole + random.below(3) as u64;
+            let (first, last) = random.pick(&[(0, far), (far, 0)]);
+            positions[0] = first;
+            positions[count - 1] = last;
+        }
+        if count > 0 && random.one_in(4) {
+            for _ in 0..1 + random.below(2) {
+                let above = LAST_POSITION + random.bits() / 2;
+                let choices = [LAST_POSITION + 1, u64::MAX, above, LAST_POSITION];
+                positions[random.below(count)] = random.pick(&choices);
+            }
+        }
+        if random.one_in(8) {
+            rate = unlisted_rate(random);
+        }
+        self.span(rate, &positions);
+    }
+
+    fn kinds(&mut self) {
+        let special = special_bits(&mut self.random);
+        self.kind(special);
+        let bits = self.random.bits();
+        self.kind(bits);
+        self.kind(bits | 0x7ff << 52);
+        let height = self.random.below(64);
+        self.kind(bits >> height);
+    }
+
+    /// The steps and ratios that document 01 lists.
+    fn document_cases(&mut self) {
+        let start = 1_u64 << 40;
+        let beyond = [MOST_STEP + 1, LEAST_STEP - 1];
+        for step in EDGE_STEPS.into_iter().chain(beyond) {
+            let positions = [start, start, start.wrapping_add_signed(step)];
+            self.write(96_000, &positions, &[1, 2, 3], 100);
+        }
+        let pairs: [&[u64]; 6] = [
+            &[0xC01A_6666_6666_6666, 0xC00E_6666_6666_6666],
+            &[0x4026_9999_9999_999A, 0x4027_0000_0000_0000],
+            &[0, 0x0001_0203_0405_0600],
+            &[0, 0x0001_0203_0405_0607],
+            &[1, 2, 3],
+            &[0, 1 << 63],
+        ];
+        for ratios in pairs {
+            let run = Run {
+                rate: 44_100,
+                positions: any_positions(&mut self.random, ratios.len()),
+                ratios: ratios.to_vec(),
+            };
+            self.write_and_read(&run);
+            self.damage_everywhere(&run, 20, 1);
+        }
+        let listing = Run {
+            rate: 96_000,
+            positions: vec![0, 960, 1_920],
+            ratios: vec![0x3fe0 << 48; 3],
+        };
+        self.write_and_read(&listing);
+        self.cut_everywhere(&listing);
+        self.damage_everywhere(&listing, 20, 1);
+        for count in [0, 1, 4_095, 4_096, 4_097, 1 << 32, u64::MAX] {
+            let cursor = self.cursor_new(count);
+            self.step(&[], cursor);
+            self.step(&[255; 9], cursor);
+        }
+    }
+
+    /// Runs of the greatest length and next to it, of one kind.
+    fn long_runs(&mut self, kind: usize) {
+        let run = Run::new(&mut self.random, kind, MOST_POINTS);
+        self.write_and_read(&run);
+        self.live_run(&run);
+        self.span(run.rate, &run.positions);
+        let record = run.record();
+        let fields = Fields::split(&record);
+        self.step_through(&fields.0[3].2, MOST_POINTS);
+        for _ in 0..6 {
+            let mut record = record.clone();
+            let at = self.random.below(record.len());
+            record[at] = damage(&mut self.random, record[at]);
+            self.read(0, &record, [MOST_POINTS, MOST_POINTS + 2]);
+            let cut = self.random.below(record.len());
+            self.read(0, &record[..cut], [MOST_POINTS, MOST_POINTS]);
+        }
+        let mut longer = run.clone();
+        longer.positions.push(longer.positions[MOST_POINTS - 1]);
+        self.write(run.rate, &longer.positions, &run.ratios, 60_000);
+        longer.ratios.push(1);
+        self.write(run.rate, &longer.positions, &longer.ratios, 60_000);
+        let shorter = &longer.positions[..MOST_POINTS - 1];
+        self.write(run.rate, shorter, &run.ratios[1..], LONGEST_RECORD);
+        self.spoiled_writes(&run);
+        self.made_bodies(MOST_POINTS);
+    }
+
+    /// The longest open body has ten bytes for each ratio but the first.
+    fn longest_open_record(&mut self) {
+        let mut body = vec![255; 9];
+        for _ in 1..MOST_POINTS {
+            body.extend([128, 8]);
+            body.extend(self.random.bytes(8));
+        }
+        let positions = (0..MOST_POINTS as u64).map(|n| n % 2 << 29).collect();
+        let ratios = vec![0; MOST_POINTS];
+        let run = Run {
+            rate: 48_000,
+            positions,
+            ratios,
+        };
+        let mut fields = Fields::split(&run.record());
+        fields.set_body(3, body);
+        let record = fields.join();
+        assert_eq!(record.len(), 59_416);
+        self.read(48_000, &record, [MOST_POINTS, MOST_POINTS]);
+        self.read(0, &record[..LONGEST_RECORD], [MOST_POINTS, MOST_POINTS]);
+    }
+
+    /// Fields 3 and 4 with the greatest length that can be stated.
+    fn longest_fields(&mut self) {
+        for count in [0, 1, 3, 4_096] {
+            let zeros = vec![0; 65_535];
+            let long = Fields::new(48_000, count, zeros.clone(), Vec::new()).join();
+            self.read(0, &long, [MOST_POINTS, MOST_POINTS]);
+            self.read(0, &long[..long.len() - 4], [MOST_POINTS, MOST_POINTS]);
+            let run = Run::short(&mut self.random, usize::from(count));
+            let mut fields = Fields::split(&run.record());
+            fields.set_body(
+                3,
+                [fields.0[3].2.clone(), zeros].concat()[..65_535].to_vec(),
+            );
+            let long = fields.join();
+            self.read(0, &long, [MOST_POINTS, MOST_POINTS]);
+            self.read(0, &long[..long.len() - 1], [MOST_POINTS, MOST_POINTS]);
+        }
+    }
+
+    fn round(&mut self) {
+        for _ in 0..5_000 {
+            self.kinds();
+            self.spans();
+            let count = other_number(&mut self.random, 4_096);
+            self.cursor_new(count);
+        }
+        for _ in 0..2_500 {
+            let run = Run::any(&mut self.random);
+            self.write_and_read(&run);
+            self.spoiled_writes(&run);
+            self.spoiled_reads(&run);
+        }
+        for _ in 0..150 {
+            let count = self.random.below(10);
+            let run = Run::short(&mut self.random, count);
+            self.cut_everywhere(&run);
+            self.damage_everywhere(&run, 4, 1);
+        }
+        for _ in 0..8 {
+            let count = 120 + self.random.below(40);
+            let run = Run::short(&mut self.random, count);
+            self.damage_everywhere(&run, 1, 3);
+        }
+        for _ in 0..500 {
+            let count = 120 + self.random.below(150);
+            self.made_bodies(count);
+            for _ in 0..11 {
+                let count = self.random.below(14);
+                self.made_bodies(count);
+            }
+        }
+        for _ in 0..250 {
+            let run = Run::any(&mut self.random);
+            self.live_run(&run);
+            let fields = Fields::split(&run.record());
+            let body = &fields.0[3].2;
+            self.step_through(body, run.ratios.len());
+            if body.len() < 200 {
+                self.step_everywhere(body);
+            }
+        }
+        for kind in 0..Ratios::KINDS {
+            self.long_runs(kind);
+        }
+        self.longest_open_record();
+        self.longest_fields();
+    }
+
+    /// Prints how often each call returned each number; each must have come up.
+    fn report(&self) {
+        let reading = &[0, 10, 11, 12, 13, 14, 15, 16, 17, 18][..];
+        let calls: [(_, &[u32]); 9] = [
+            ("write", &[0, 1, 2, 3, 4, 5, 6]),
+            ("read_strict", reading),
+            ("read_open", reading),
+            ("span", &[0, 1, 3, 4]),
+            ("live_new", &[0]),
+            ("live_add", &[0, 3, 6, 7]),
+            ("cursor_new", &[0, 15]),
+            ("step", &[0, 7, 8, 18]),
+            ("kind", &[0, 1, 2]),
+        ];
+        let mut missing = false;
+        for (call, numbers) in calls {
+            print!("{call}:");
+            for &number in numbers {
+                let times = self.numbers.get(&(call, number)).copied().unwrap_or(0);
+                print!(" {number}:{times}");
+                missing |= times == 0;
+            }
+            println!();
+        }
+        println!("{} cases of seed {}, no difference", self.cases, self.seed);
+        if missing || self.cases < 100_000 {
+            println!("but too few: a number never came up, or cases are missing");
+            exit(1);
+        }
+    }
+}
+
+fn main() {
+    let arguments: Vec<String> = std::env::args().skip(1).collect();
+    let seed = match arguments.first().map(|seed| seed.parse()) {
+        None => SEED,
+        Some(Ok(seed)) => seed,
+        Some(Err(_)) => {
+            println!("the seed must be a whole number");
+            exit(2);
+        }
+    };
+    let mut test = Test {
+        seed,
+        trace: arguments.get(1).is_some_and(|word| word == "trace"),
+        random: Random::new(seed),
+        cases: 0,
+        numbers: BTreeMap::new(),
+    };
+    test.document_cases();
+    for _ in 0..ROUNDS {
+        test.round();
+    }
+    test.report();
+}

@@ -1,0 +1,606 @@
+//! Random inputs for the differential test: runs, records, bodies and outputs, sound and faulty.
+
+use crate::answers::WINDOW;
+use crate::reference;
+
+pub const RATES: [u32; 6] = [44_100, 48_000, 88_200, 96_000, 176_400, 192_000];
+pub const MOST_POINTS: usize = 4_096;
+pub const LAST_POSITION: u64 = (1 << 62) - 1;
+pub const LONGEST_RECORD: usize = 55_321;
+/// Cells on each side of an output that no call may touch.
+pub const GUARD: usize = 9;
+
+// Random numbers
+
+/// A xorshift64* generator.
+pub struct Random(u64);
+
+impl Random {
+    pub fn new(seed: u64) -> Random {
+        Random(seed.wrapping_mul(0x9e37_79b9_7f4a_7c15).max(1))
+    }
+
+    pub fn bits(&mut self) -> u64 {
+        self.0 ^= self.0 >> 12;
+        self.0 ^= self.0 << 25;
+        self.0 ^= self.0 >> 27;
+        self.0.wrapping_mul(0x2545_f491_4f6c_dd1d)
+    }
+
+    pub fn below(&mut self, bound: usize) -> usize {
+        ((u128::from(self.bits()) * bound as u128) >> 64) as usize
+    }
+
+    pub fn between(&mut self, least: i64, most: i64) -> i64 {
+        least + self.below((most - least + 1) as usize) as i64
+    }
+
+    pub fn one_in(&mut self, times: usize) -> bool {
+        self.below(times) == 0
+    }
+
+    pub fn pick<T: Copy>(&mut self, choices: &[T]) -> T {
+        choices[self.below(choices.len())]
+    }
+
+    /// Uniform from -1 to 1.
+    pub fn fraction(&mut self) -> f64 {
+        self.bits() as i64 as f64 / (1_u64 << 63) as f64
+    }
+
+    pub fn bytes(&mut self, length: usize) -> Vec<u8> {
+        (0..length).map(|_| self.bits() as u8).collect()
+    }
+
+    /// An output of the given length with random contents, and guards around it.
+    pub fn memory<T: Cell>(&mut self, length: usize) -> Vec<T> {
+        (0..length + 2 * GUARD)
+            .map(|_| T::from_bits(self.bits()))
+            .collect()
+    }
+}
+
+pub trait Cell {
+    fn from_bits(bits: u64) -> Self;
+}
+
+impl Cell for u8 {
+    fn from_bits(bits: u64) -> u8 {
+        bits as u8
+    }
+}
+
+impl Cell for u64 {
+    fn from_bits(bits: u64) -> u64 {
+        bits
+    }
+}
+
+/// The output between the guards.
+pub fn lent<T>(memory: &mut [T]) -> &mut [T] {
+    let end = memory.len() - GUARD;
+    &mut memory[GUARD..end]
+}
+
+// Inputs
+
+/// Makes ratios of one kind after another.
+pub struct Ratios {
+    kind: usize,
+    table: Vec<u64>,
+    index: usize,
+    level: f64,
+    places: f64,
+}
+
+impl Ratios {
+    pub const KINDS: usize = 15;
+
+    pub fn new(random: &mut Random, kind: usize) -> Ratios {
+        let period = random.between(124, 130) as usize;
+        Ratios {
+            kind,
+            table: (0..period).map(|_| random.bits()).collect(),
+            index: 0,
+            level: random.fraction() * 100.0,
+            places: random.pick(&[100.0, 1_000.0, 10_000.0]),
+        }
+    }
+
+    fn next(&mut self, random: &mut Random, earlier: &[u64]) -> u64 {
+        let n = earlier.len();
+        let back = if n == 0 {
+            random.bits()
+        } else {
+            earlier[n - 1 - random.below(n.min(129))]
+        };
+        let decimal = |number: f64, places: f64| ((number * places).round() / places).to_bits();
+        match self.kind {
+            // constant with rare changes
+            0 if n > 0 && !random.one_in(20) => earlier[n - 1],
+            0 => decimal(random.fraction() * 10.0, 100.0),
+            // a walk over few values
+            1 => {
+                self.index = (self.index + 49 + random.below(3)) % 50;
+                self.table[self.index]
+            }
+            // decimals around a drifting level
+            2 => {
+                self.level += random.fraction() * 0.01;
+                decimal(self.level + random.fraction() * 0.05, self.places)
+            }
+            // two sines
+            3 => ((n as f64 * 0.05).sin() + 0.5 * (n as f64 * 0.31).sin()).to_bits(),
+            4 => random.bits(),
+            // equal top bytes
+            5 => random.bits() >> 16 | 0x3ff0 << 48,
+            // whole numbers
+            6 => (random.between(-300, 300) as f64).to_bits(),
+            // one and noise
+            7 => (1.0 + random.fraction() * 1e-6).to_bits(),
+            // repeats as far back as the window reaches, or just past it
+            8 => self.table[n % self.table.len()],
+            // the same, with some bytes changed
+            9 => change_bytes(random, self.table[n % self.table.len()]),
+            // any earlier ratio with some bytes changed
+            10 => change_bytes(random, back),
+            // few different bytes, so that many sums are equal
+            11 => {
+                let byte = |random: &mut Random| u64::from(random.pick(&[0_u8, 0, 0, 1, 255]));
+                (0..8).fold(0, |ratio, _| ratio << 8 | byte(random))
+            }
+            // sums of 1, 2 and 3
+            12 => {
+                let leading = random.below(4);
+                let trailing = random.below(4 - leading);
+                let changed = random.bits() | 0x0101_0101_0101_0101;
+                back ^ (changed >> (8 * (leading + trailing)) << (8 * trailing))
+            }
+            13 => special_bits(random),
+            // a mixture
+            _ => {
+                self.kind = random.below(Self::KINDS - 1);
+                let ratio = self.next(random, earlier);
+                self.kind = Self::KINDS - 1;
+                ratio
+            }
+        }
+    }
+
+    pub fn list(random: &mut Random, kind: usize, count: usize) -> Vec<u64> {
+        let mut source = Ratios::new(random, kind);
+        let mut ratios = Vec::with_capacity(count);
+        for _ in 0..count {
+            let ratio = source.next(random, &ratios);
+            ratios.push(ratio);
+        }
+        ratios
+    }
+}
+
+pub fn change_bytes(random: &mut Random, ratio: u64) -> u64 {
+    let mut bytes = ratio.to_be_bytes();
+    for _ in 0..random.below(4) {
+        bytes[random.below(8)] = random.bits() as u8;
+    }
+    u64::from_be_bytes(bytes)
+}
+
+/// Zeros, subnormals, infinities, not-a-numbers and their neighbours.
+pub fn special_bits(random: &mut Random) -> u64 {
+    let sign = random.bits() << 63;
+    let exponent = random.pick(&[0, 1, 0x3ff, 0x7fe, 0x7ff, 0x7ff]) << 52;
+    let half = 1 << 51;
+    let any = random.bits() >> 12;
+    let fraction = random.pick(&[0, 0, 1, half - 1, half, half + 1, 2 * half - 1, any]);
+    sign | exponent | fraction
+}
+
+pub const LEAST_STEP: i64 = -(1 << 31) + 1;
+pub const MOST_STEP: i64 = 1 << 31;
+
+/// Steps at and around the bounds of the table's rows.
+pub const EDGE_STEPS: [i64; 26] = [
+    0, 1, -1, 2, 62, 63, 64, 65, -62, -63, -64, -65, 255, 256, 257, -255, -256, -257, 2_047, 2_048,
+    2_049, -2_047, -2_048, -2_049, MOST_STEP, LEAST_STEP,
+];
+
+fn any_step(random: &mut Random, kind: usize) -> i64 {
+    match kind {
+        0 => 0,
+        1 => random.pick(&[0, 0, 0, 0, 1, -1]),
+        2 => random.between(-70, 70),
+        3 => random.between(-260, 260),
+        4 => random.between(-2_060, 2_060),
+        5 => random.between(LEAST_STEP, MOST_STEP),
+        6 => random.pick(&EDGE_STEPS),
+        _ => {
+            let kind = random.below(7);
+            any_step(random, kind)
+        }
+    }
+}
+
+/// Positions that the writer accepts.
+pub fn any_positions(random: &mut Random, count: usize) -> Vec<u64> {
+    let kind = random.below(10);
+    let middle = 1_i64 << 61;
+    let top = LAST_POSITION as i64;
+    let small = random.between(0, 3_000);
+    let large = random.between(-(1 << 45), 1 << 45);
+    // With a large difference the positions start in the middle and stay inside.
+    let (first, mut difference) = match random.below(6) {
+        0 => (0, small),
+        1 => (top, -small),
+        2 => (middle, large),
+        3 => (random.between(0, top), random.between(-64, 64)),
+        _ => (random.between(0, 1 << 40), small),
+    };
+    let mut positions = vec![first];
+    while positions.len() < count {
+        let last = positions[positions.len() - 1];
+        let mut step = any_step(random, kind);
+        let slow = difference.abs() < 1 << 31;
+        let leaves = |difference: i64| !(0..=top).contains(&(last + difference));
+        if slow && (leaves(difference + step) || (difference + step).abs() >= 1 << 31) {
+            step = -difference;
+        }
+        if positions.len() == 1 {
+            step = if leaves(difference) { -difference } else { 0 };
+        }
+        difference += step;
+        positions.push(last + difference);
+    }
+    positions.truncate(count);
+    if count == 2 && random.one_in(2) {
+        // No step, so any two will do.
+        positions = (0..2).map(|_| random.between(0, top)).collect();
+    }
+    positions.iter().map(|&t| t as u64).collect()
+}
+
+pub fn unlisted_rate(random: &mut Random) -> u32 {
+    let rate = random.pick(&RATES);
+    let any = random.bits() as u32;
+    let choices = [0, 1, rate - 1, rate + 1, rate ^ 0x8000_0000, u32::MAX, any];
+    random.pick(&choices)
+}
+
+/// A number near another, at a bound, or too large, also with the same low bits.
+pub fn other_number(random: &mut Random, near: u64) -> u64 {
+    let (more, less) = (near.wrapping_add(1), near.wrapping_sub(1));
+    let wide = near.wrapping_add(1 << random.pick(&[8, 16, 32, 63]));
+    let (most, any) = (u64::MAX, random.bits());
+    random.pick(&[
+        more, less, wide, wide, 0, 126, 127, 128, 4_095, 4_096, 4_097, most, any,
+    ])
+}
+
+#[derive(Clone)]
+pub struct Run {
+    pub rate: u32,
+    pub positions: Vec<u64>,
+    pub ratios: Vec<u64>,
+}
+
+impl Run {
+    pub fn new(random: &mut Random, kind: usize, count: usize) -> Run {
+        Run {
+            rate: random.pick(&RATES),
+            positions: any_positions(random, count),
+            ratios: Ratios::list(random, kind, count),
+        }
+    }
+
+    pub fn any(random: &mut Random) -> Run {
+        let count = match random.below(12) {
+            0..=8 => random.below(13),
+            9 => random.below(300),
+            _ => 120 + random.below(20),
+        };
+        Run::short(random, count)
+    }
+
+    pub fn short(random: &mut Random, count: usize) -> Run {
+        let kind = random.below(Ratios::KINDS);
+        Run::new(random, kind, count)
+    }
+
+    /// The record, which the reference writes.
+    pub fn record(&self) -> Vec<u8> {
+        let mut out = vec![0; LONGEST_RECORD];
+        let written = reference::write(self.rate, &self.positions, &self.ratios, &mut out);
+        assert_eq!(written.number, 0, "the test made a run that is refused");
+        out.truncate(written.length as usize);
+        out
+    }
+
+    /// Breaks one of the writer's tests, or several when called again.
+    pub fn spoil(&mut self, random: &mut Random) {
+        let count = self.positions.len();
+        match random.below(6) {
+            0 => self.rate = unlisted_rate(random),
+            1 if random.one_in(2) => self.ratios.push(random.bits()),
+            1 => {
+                self.ratios.pop();
+            }
+            2 if random.one_in(8) => {
+                let length = MOST_POINTS + 1 + random.below(3);
+                self.positions.resize(length, 0);
+                if random.one_in(4) {
+                    self.ratios.resize(length, 0);
+                }
+            }
+            2 | 3 if count > 0 => {
+                let any = LAST_POSITION + random.bits() / 2;
+                let choices = [LAST_POSITION + 1, u64::MAX, 1 << 63, any, LAST_POSITION];
+                self.positions[random.below(count)] = random.pick(&choices);
+            }
+            _ if count > 2 => {
+                let n = 2 + random.below(count - 2);
+                let any = random.bits() as i64 >> 2;
+                let step = [MOST_STEP + 1, LEAST_STEP - 1, MOST_STEP, LEAST_STEP, any];
+                let step = random.pick(&step);
+                let (last, before) = (self.positions[n - 1], self.positions[n - 2]);
+                let position = i128::from(last) * 2 - i128::from(before) + i128::from(step);
+                self.positions[n] = position.clamp(0, i128::from(LAST_POSITION)) as u64;
+            }
+            _ => {}
+        }
+    }
+}
+
+/// The four fields of a record, each with a tag, a stated length and a body.
+#[derive(Clone)]
+pub struct Fields(pub Vec<(u8, u16, Vec<u8>)>);
+
+impl Fields {
+    pub fn new(rate: u32, count: u16, positions: Vec<u8>, ratios: Vec<u8>) -> Fields {
+        let bodies = [
+            rate.to_be_bytes().to_vec(),
+            count.to_be_bytes().to_vec(),
+            positions,
+            ratios,
+        ];
+        let field = |(n, body): (usize, Vec<u8>)| (n as u8 + 1, body.len() as u16, body);
+        Fields(bodies.into_iter().enumerate().map(field).collect())
+    }
+
+    pub fn split(record: &[u8]) -> Fields {
+        let mut rest = record;
+        let mut fields = Vec::new();
+        while let [tag, high, low, tail @ ..] = rest {
+            let length = u16::from_be_bytes([*high, *low]);
+            let (body, after) = tail.split_at(usize::from(length));
+            fields.push((*tag, length, body.to_vec()));
+            rest = after;
+        }
+        Fields(fields)
+    }
+
+    pub fn join(&self) -> Vec<u8> {
+        let mut record = Vec::new();
+        for (tag, length, body) in &self.0 {
+            record.push(*tag);
+            record.extend(length.to_be_bytes());
+            record.extend(body);
+        }
+        record
+    }
+
+    pub fn set_body(&mut self, field: usize, body: Vec<u8>) {
+        let field = &mut self.0[field];
+        field.1 = body.len() as u16;
+        field.2 = body;
+    }
+
+    /// Breaks one of the reader's tests, or several when called again.
+    pub fn spoil(&mut self, random: &mut Random, count: usize) {
+        let chosen = random.below(4);
+        match random.below(12) {
+            0 => self.0[chosen].0 = random.pick(&[0, 1, 2, 3, 4, 5, 255]),
+            1 => {
+                let length = self.0[chosen].1;
+                let any = random.bits() as u16;
+                let (more, less) = (length.wrapping_add(1), length.wrapping_sub(1));
+                self.0[chosen].1 = random.pick(&[more, less, length ^ 256, 0, 65_535, any]);
+            }
+            2 => {
+                let mut body = self.0[chosen].2.clone();
+                let length = random.pick(&[body.len() + 1, body.len() + 2, body.len() / 2]);
+                body.resize(length, random.pick(&[0, 0, 255]));
+                self.set_body(chosen, body);
+            }
+            3 => self.set_body(0, unlisted_rate(random).to_be_bytes().to_vec()),
+            4 => self.set_body(0, random.pick(&RATES).to_be_bytes().to_vec()),
+            5 | 6 => {
+                let count = count as u16;
+                let choices = [count.wrapping_sub(1), count + 1, 0, 4_096, 4_097, 65_535];
+                self.set_body(1, random.pick(&choices).to_be_bytes().to_vec());
+            }
+            7 => self.set_body(2, positions_body(random, count)),
+            8 => self.set_body(3, open_body(random, count, 30)),
+            9 => {
+                if let Some(last) = self.0[2].2.last_mut() {
+                    *last |= 1 << random.below(8);
+                }
+            }
+            _ => {
+                let body = &mut self.0[chosen].2;
+                if !body.is_empty() {
+                    let at = random.below(body.len());
+                    body[at] = damage(random, body[at]);
+                }
+            }
+        }
+    }
+}
+
+/// Another value for a byte, mostly.
+pub fn damage(random: &mut Random, byte: u8) -> u8 {
+    let flipped = byte ^ 1 << random.below(8);
+    let (more, less) = (byte.wrapping_add(1), byte.wrapping_sub(1));
+    let (swapped, top, any) = (byte.rotate_left(4), byte ^ 0x80, random.bits() as u8);
+    random.pick(&[
+        flipped, flipped, more, less, swapped, top, 0, 0x7f, 0xfe, 0xff, any,
+    ])
+}
+
+/// A positions body made by hand: sound, or with wrong rows, fill bits or length, or with
+/// positions at or past their bounds.
+pub fn positions_body(random: &mut Random, count: usize) -> Vec<u8> {
+    let mut bits: Vec<bool> = Vec::new();
+    let mut lay = |number: i64, width: usize| {
+        bits.extend((0..width).rev().map(|height| number >> height & 1 == 1));
+    };
+    let kind = random.below(8);
+    let wrong_row = random.pick(&[0, 0, 0, 0, 0, 2, 10]);
+    let top = LAST_POSITION as i64;
+    let raw = [0, 1, top, top - 1, 1 << 61, 1 << 32];
+    let bad = [-1, top + 1, i64::MIN];
+    let (sound, unsound) = (random.pick(&raw), random.pick(&bad));
+    let first = if random.one_in(20) { unsound } else { sound };
+    let near = first.wrapping_add(random.between(-2_000, 2_000));
+    let second = match random.below(20) {
+        0 => random.pick(&bad),
+        1..=5 => random.pick(&raw),
+        _ => near,
+    };
+    let mut last = second;
+    let mut difference = second.wrapping_sub(first);
+    for n in 0..count {
+        if n < 2 {
+            lay([first, second][n], 64);
+        } else {
+            let low = last.wrapping_neg().wrapping_sub(difference);
+            let high = top.wrapping_sub(last).wrapping_sub(difference);
+            let step = match random.below(12) {
+                0 => low,
+                1 => low.wrapping_sub(1),
+                2 => high,
+                3 => high.wrapping_add(1),
+                _ => any_step(random, kind),
+            };
+            let held = (LEAST_STEP..=MOST_STEP).contains(&step);
+            let step = if held { step } else { any_step(random, kind) };
+            difference = difference.wrapping_add(step);
+            last = last.wrapping_add(difference);
+            let mut row = match step {
+                0 => 0,
+                -63..=64 => 1,
+                -255..=256 => 2,
+                -2_047..=2_048 => 3,
+                _ => 4,
+            };
+            if wrong_row > 0 && row < 4 && random.one_in(wrong_row) {
+                row += 1 + random.below(4 - row);
+            }
+            let (prefix, length) = [(0, 1), (2, 2), (6, 3), (14, 4), (15, 4)][row];
+            lay(prefix, length);
+            lay(step, [0, 7, 9, 12, 32][row]);
+        }
+    }
+    if random.one_in(10) {
+        bits.truncate(bits.len().saturating_sub(1 + random.below(10)));
+    }
+    let dirty_fill = random.one_in(10);
+    while bits.len() % 8 != 0 {
+        bits.push(dirty_fill && random.one_in(3));
+    }
+    let byte = |bits: &[bool]| bits.iter().fold(0, |byte, &bit| byte << 1 | u8::from(bit));
+    let mut body: Vec<u8> = bits.chunks(8).map(byte).collect();
+    if random.one_in(15) {
+        body.push(0);
+    }
+    body
+}
+
+/// A ratios body of open forms: any place, trailing count and length. About one form in
+/// `fault` may break the open rule.
+pub fn open_body(random: &mut Random, count: usize, fault: usize) -> Vec<u8> {
+    let mut body = Vec::new();
+    for n in 0..count {
+        let fill = n.min(WINDOW);
+        let faulty = random.one_in(fault);
+        if random.one_in(6) || (fill == 0 && !faulty) {
+            body.push(255);
+            body.extend(random.bytes(8));
+            continue;
+        }
+        let oldest = fill.saturating_sub(1);
+        let any_place = random.below(fill.max(1));
+        let mut place = random.pick(&[0, oldest, any_place]);
+        let trailing = random.pick(&[0, 0, 1, 2, 3, 4, 5, 6, 7, 8]);
+        let longest = 8 - trailing;
+        let any_length = random.below(longest + 1);
+        let length = random.pick(&[0, longest, any_length, any_length]);
+        let mut counts = trailing * 16 + length;
+        if faulty {
+            match random.below(3) {
+                0 => place = fill,
+                1 => counts = random.pick(&[0x90, 0xf0, trailing * 16 + longest + 1]),
+                _ => counts = random.below(256),
+            }
+        }
+        if random.one_in(3) {
+            body.push(place as u8);
+        } else {
+            let zeros = random.one_in(3);
+            body.push(place.min(126) as u8 + 128);
+            body.push(counts as u8);
+            for byte in random.bytes(counts % 16) {
+                body.push(if zeros { 0 } else { byte });
+            }
+        }
+    }
+    match random.below(20) {
+        0 => body.push(0),
+        1 => {
+            body.pop();
+        }
+        _ => {}
+    }
+    body
+}
+
+/// A form that the open rule reads as the ratio, whether or not it is the one to write.
+fn any_form(random: &mut Random, window: &[u64], ratio: u64) -> Vec<u8> {
+    let mut exception = vec![255];
+    exception.extend(ratio.to_be_bytes());
+    if window.is_empty() || random.one_in(8) {
+        return exception;
+    }
+    let place = random.below(window.len());
+    let x = (ratio ^ window[window.len() - 1 - place]).to_be_bytes();
+    if x == [0; 8] && random.one_in(2) {
+        return vec![place as u8];
+    }
+    // The middle at its shortest, or with zero bytes on one side or both.
+    let leading = x.iter().take_while(|&&byte| byte == 0).count();
+    let rest = &x[leading..];
+    let trailing = rest.iter().rev().take_while(|&&byte| byte == 0).count();
+    let leading = random.pick(&[leading, leading, leading.saturating_sub(1), 0]);
+    let trailing = random.pick(&[trailing, trailing, trailing.saturating_sub(1), 0]);
+    let middle = &x[leading..8 - trailing];
+    let mut form = vec![place as u8 + 128, (trailing * 16 + middle.len()) as u8];
+    form.extend(middle);
+    form
+}
+
+/// A ratios body that the open rule reads as the ratios; about one form in `wrong` is any form,
+/// the others are those to write.
+pub fn chosen_body(random: &mut Random, ratios: &[u64], wrong: usize) -> Vec<u8> {
+    let mut state = reference::live_new();
+    let mut body = Vec::new();
+    for &ratio in ratios {
+        let other = any_form(random, &state.ratios[..state.fill as usize], ratio);
+        let mut form = [0; 9];
+        let written = reference::live_add(&mut state, ratio, &mut form);
+        if random.one_in(wrong) {
+            body.extend(other);
+        } else {
+            body.extend(&form[..written.length as usize]);
+        }
+    }
+    body
+}

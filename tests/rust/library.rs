@@ -1,0 +1,133 @@
+//! The library's C functions as declared in include/farigolenc.h, and safe wrappers around them.
+//! Which library that is, is said when linking: see tests/shared.
+
+use crate::answers::{Cursor, Kind, Live, Making, Reading, Span, Stepped, Written};
+
+unsafe extern "C" {
+    fn farigolenc_write(
+        rate: u32,
+        positions: *const u64,
+        positions_length: usize,
+        ratios: *const u64,
+        ratios_length: usize,
+        out: *mut u8,
+        out_length: usize,
+    ) -> Written;
+    fn farigolenc_read_strict(
+        expected: u32,
+        record: *const u8,
+        record_length: usize,
+        positions: *mut u64,
+        positions_length: usize,
+        ratios: *mut u64,
+        ratios_length: usize,
+    ) -> Reading;
+    fn farigolenc_read_open(
+        expected: u32,
+        record: *const u8,
+        record_length: usize,
+        positions: *mut u64,
+        positions_length: usize,
+        ratios: *mut u64,
+        ratios_length: usize,
+    ) -> Reading;
+    fn farigolenc_span(rate: u32, positions: *const u64, positions_length: usize) -> Span;
+    fn farigolenc_live_new() -> Live;
+    fn farigolenc_live_add(
+        state: *mut Live,
+        ratio: u64,
+        out: *mut u8,
+        out_length: usize,
+    ) -> Written;
+    fn farigolenc_cursor_new(count: u64) -> Making;
+    fn farigolenc_step(body: *const u8, body_length: usize, cursor: Cursor) -> Stepped;
+    fn farigolenc_kind(ratio: u64) -> Kind;
+}
+
+// Each call below lends slices, which are valid and non-null also when empty, and whose borrows
+// keep what is written apart from everything else. That is all that the functions ask for.
+
+pub fn write(rate: u32, positions: &[u64], ratios: &[u64], out: &mut [u8]) -> Written {
+    // SAFETY: see above.
+    unsafe {
+        farigolenc_write(
+            rate,
+            positions.as_ptr(),
+            positions.len(),
+            ratios.as_ptr(),
+            ratios.len(),
+            out.as_mut_ptr(),
+            out.len(),
+        )
+    }
+}
+
+pub fn read_strict(
+    expected: u32,
+    record: &[u8],
+    positions: &mut [u64],
+    ratios: &mut [u64],
+) -> Reading {
+    // SAFETY: see above.
+    unsafe {
+        farigolenc_read_strict(
+            expected,
+            record.as_ptr(),
+            record.len(),
+            positions.as_mut_ptr(),
+            positions.len(),
+            ratios.as_mut_ptr(),
+            ratios.len(),
+        )
+    }
+}
+
+pub fn read_open(
+    expected: u32,
+    record: &[u8],
+    positions: &mut [u64],
+    ratios: &mut [u64],
+) -> Reading {
+    // SAFETY: see above.
+    unsafe {
+        farigolenc_read_open(
+            expected,
+            record.as_ptr(),
+            record.len(),
+            positions.as_mut_ptr(),
+            positions.len(),
+            ratios.as_mut_ptr(),
+            ratios.len(),
+        )
+    }
+}
+
+pub fn span(rate: u32, positions: &[u64]) -> Span {
+    // SAFETY: see above.
+    unsafe { farigolenc_span(rate, positions.as_ptr(), positions.len()) }
+}
+
+pub fn live_new() -> Live {
+    // SAFETY: nothing is lent.
+    unsafe { farigolenc_live_new() }
+}
+
+pub fn live_add(state: &mut Live, ratio: u64, out: &mut [u8]) -> Written {
+    // SAFETY: see above.
+    unsafe { farigolenc_live_add(state, ratio, out.as_mut_ptr(), out.len()) }
+}
+
+pub fn cursor_new(count: u64) -> Making {
+    // SAFETY: nothing is lent.
+    unsafe { farigolenc_cursor_new(count) }
+}
+
+pub fn step(body: &[u8], cursor: Cursor) -> Stepped {
+    // SAFETY: see above.
+    unsafe { farigolenc_step(body.as_ptr(), body.len(), cursor) }
+}
+
+pub fn kind(ratio: u64) -> Kind {
+    // SAFETY: nothing is lent.
+    unsafe { farigolenc_kind(ratio) }
+}

@@ -1,0 +1,578 @@
+//! Document 01 written out plainly: every call with its whole answer and outputs.
+//! It is meant to be compared with the document line by line, not to be fast.
+
+use crate::answers::WINDOW;
+use crate::answers::{Cursor, Kind, Live, Making, Reading, Span, Stepped, Written};
+
+const RATES: [u32; 6] = [44_100, 48_000, 88_200, 96_000, 176_400, 192_000];
+const MOST_POINTS: usize = 4_096;
+const LAST_POSITION: u64 = (1 << 62) - 1;
+
+/// A refusal's number and the place beside it.
+struct Refusal {
+    number: u32,
+    place: u32,
+}
+
+fn refuse<T>(number: u32, place: usize) -> Result<T, Refusal> {
+    let place = place as u32;
+    Err(Refusal { number, place })
+}
+
+// Positions
+
+/// A row of the table of steps: its range, its prefix, and how many bits follow.
+struct Row {
+    least: i128,
+    most: i128,
+    prefix: &'static str,
+    width: usize,
+}
+
+const fn row(least: i128, most: i128, prefix: &'static str, width: usize) -> Row {
+    Row {
+        least,
+        most,
+        prefix,
+        width,
+    }
+}
+
+const ROWS: [Row; 5] = [
+    row(0, 0, "0", 0),
+    row(-63, 64, "10", 7),
+    row(-255, 256, "110", 9),
+    row(-2047, 2048, "1110", 12),
+    row(-(1 << 31) + 1, 1 << 31, "1111", 32),
+];
+
+fn step_at(positions: &[u64], n: usize) -> i128 {
+    let t = |k: usize| i128::from(positions[k]);
+    (t(n) - t(n - 1)) - (t(n - 1) - t(n - 2))
+}
+
+/// The first row that holds the step.
+fn first_row(step: i128) -> Option<&'static Row> {
+    ROWS.iter()
+        .find(|row| row.least <= step && step <= row.most)
+}
+
+/// Lays the low `width` bits of a number, top bit first.
+fn lay(bits: &mut Vec<bool>, number: u64, width: usize) {
+    for height in (0..width).rev() {
+        bits.push(number >> height & 1 == 1);
+    }
+}
+
+/// Takes `width` bits as a number, or nothing where fewer are left.
+fn take(bits: &mut impl Iterator<Item = bool>, width: usize) -> Option<u64> {
+    let mut number = 0;
+    for _ in 0..width {
+        number = number << 1 | u64::from(bits.next()?);
+    }
+    Some(number)
+}
+
+/// The coding of positions, or nothing where a step is outside the table.
+fn code_positions(positions: &[u64]) -> Option<Vec<u8>> {
+    let mut bits = Vec::new();
+    for (n, &position) in positions.iter().enumerate() {
+        if n < 2 {
+            lay(&mut bits, position, 64);
+        } else {
+            let step = step_at(positions, n);
+            let row = first_row(step)?;
+            bits.extend(row.prefix.bytes().map(|digit| digit == b'1'));
+            lay(&mut bits, step as u64, row.width);
+        }
+    }
+    while bits.len() % 8 != 0 {
+        bits.push(false);
+    }
+    let byte = |bits: &[bool]| bits.iter().fold(0, |byte, &bit| byte << 1 | u8::from(bit));
+    Some(bits.chunks(8).map(byte).collect())
+}
+
+/// Reads a step: a prefix names the row, and its bits mean the one number inside the row's range.
+fn take_step(bits: &mut impl Iterator<Item = bool>) -> Option<i128> {
+    let mut ones = 0;
+    while ones < 4 && bits.next()? {
+        ones += 1;
+    }
+    let row = &ROWS[ones];
+    let low = i128::from(take(bits, row.width)?);
+    Some(if low <= row.most {
+        low
+    } else {
+        low - (1 << row.width)
+    })
+}
+
+/// The positions that a body codes, or nothing where it is not the coding of `count` positions.
+fn decode_positions(body: &[u8], count: usize) -> Option<Vec<u64>> {
+    let mut bits = body
+        .iter()
+        .flat_map(|byte| (0..8).rev().map(move |height| byte >> height & 1 == 1));
+    let mut positions: Vec<u64> = Vec::new();
+    for n in 0..count {
+        let position = if n < 2 {
+            i128::from(take(&mut bits, 64)?)
+        } else {
+            let (last, before) = (i128::from(positions[n - 1]), i128::from(positions[n - 2]));
+            last + (last - before) + take_step(&mut bits)?
+        };
+        if position < 0 || position > i128::from(LAST_POSITION) {
+            return None;
+        }
+        positions.push(position as u64);
+    }
+    // A wrong row, a 1 among the fill bits and a byte too many all show here.
+    let same = code_positions(&positions).is_some_and(|coding| coding == body);
+    same.then_some(positions)
+}
+
+// Ratios
+
+/// The window after some ratios, oldest first.
+fn window(preceding: &[u64]) -> &[u64] {
+    &preceding[preceding.len().saturating_sub(WINDOW)..]
+}
+
+/// The window's ratio at a place; place 0 is the newest.
+fn at_place(window: &[u64], place: u8) -> Option<u64> {
+    window.iter().rev().nth(usize::from(place)).copied()
+}
+
+/// The bytes that are written for a ratio.
+fn written_form(window: &[u64], ratio: u64) -> Vec<u8> {
+    if let Some(place) = window.iter().rev().position(|&earlier| earlier == ratio) {
+        return vec![place as u8];
+    }
+    let mut best_sum = 1;
+    let mut form = vec![255];
+    form.extend(ratio.to_be_bytes());
+    for (place, earlier) in window.iter().rev().enumerate() {
+        let x = (ratio ^ earlier).to_be_bytes();
+        let leading = x.iter().take_while(|&&byte| byte == 0).count();
+        let trailing = x.iter().rev().take_while(|&&byte| byte == 0).count();
+        if leading + trailing > best_sum {
+            best_sum = leading + trailing;
+            let middle = &x[leading..8 - trailing];
+            form = vec![place as u8 + 128, (trailing * 16 + middle.len()) as u8];
+            form.extend(middle);
+        }
+    }
+    form
+}
+
+/// The ratio that the open rule reads first in `bytes`, and the length of its form.
+fn open_form(window: &[u64], bytes: &[u8]) -> Option<(u64, usize)> {
+    match *bytes.first()? {
+        place @ 0..=127 => Some((at_place(window, place)?, 1)),
+        first @ 128..=254 => {
+            let earlier = at_place(window, first - 128)?;
+            let counts = usize::from(*bytes.get(1)?);
+            let (trailing, length) = (counts / 16, counts % 16);
+            if trailing + length > 8 {
+                return None;
+            }
+            let mut x = [0; 8];
+            x[8 - trailing - length..8 - trailing].copy_from_slice(bytes.get(2..2 + length)?);
+            Some((earlier ^ u64::from_be_bytes(x), 2 + length))
+        }
+        255 => {
+            let ratio = bytes.get(1..9)?.try_into().ok()?;
+            Some((u64::from_be_bytes(ratio), 9))
+        }
+    }
+}
+
+/// As `open_form`, where the form is also the one that is written for the ratio.
+fn strict_form(window: &[u64], bytes: &[u8]) -> Option<(u64, usize)> {
+    open_form(window, bytes)
+        .filter(|&(ratio, length)| written_form(window, ratio) == bytes[..length])
+}
+
+fn code_ratios(ratios: &[u64]) -> Vec<u8> {
+    let form = |n: usize| written_form(window(&ratios[..n]), ratios[n]);
+    (0..ratios.len()).flat_map(form).collect()
+}
+
+/// Reads one form: what stands before it in the window, and the bytes from it on.
+type FormReader = fn(&[u64], &[u8]) -> Option<(u64, usize)>;
+
+/// The ratios of a body, or nothing where the count does not come out with every byte used.
+fn decode_ratios(mut body: &[u8], count: usize, form: FormReader) -> Option<Vec<u64>> {
+    let mut ratios = Vec::new();
+    for _ in 0..count {
+        let (ratio, length) = form(window(&ratios), body)?;
+        ratios.push(ratio);
+        body = &body[length..];
+    }
+    body.is_empty().then_some(ratios)
+}
+
+// Writing
+
+fn field(tag: u8, body: &[u8]) -> Vec<u8> {
+    let mut field = vec![tag];
+    field.extend((body.len() as u16).to_be_bytes());
+    field.extend(body);
+    field
+}
+
+/// The record of a run, or the first refusal among 1 to 5.
+fn record(rate: u32, positions: &[u64], ratios: &[u64]) -> Result<Vec<u8>, Refusal> {
+    if !RATES.contains(&rate) {
+        return refuse(1, 0);
+    }
+    if positions.len() != ratios.len() {
+        return refuse(2, 0);
+    }
+    if positions.len() > MOST_POINTS {
+        return refuse(3, 0);
+    }
+    if let Some(index) = positions.iter().position(|&t| t > LAST_POSITION) {
+        return refuse(4, index);
+    }
+    let outside = |&n: &usize| first_row(step_at(positions, n)).is_none();
+    if let Some(index) = (2..positions.len()).find(outside) {
+        return refuse(5, index);
+    }
+    let coded_positions = code_positions(positions).unwrap_or_default();
+    Ok([
+        field(1, &rate.to_be_bytes()),
+        field(2, &(positions.len() as u16).to_be_bytes()),
+        field(3, &coded_positions),
+        field(4, &code_ratios(ratios)),
+    ]
+    .concat())
+}
+
+/// Puts bytes into an output; 6 where it is shorter, and zeros on every refusal.
+fn put(bytes: Result<Vec<u8>, Refusal>, out: &mut [u8]) -> Written {
+    let fitting = bytes.and_then(|bytes| {
+        if out.len() < bytes.len() {
+            return refuse(6, 0);
+        }
+        Ok(bytes)
+    });
+    match fitting {
+        Ok(bytes) => {
+            out[..bytes.len()].copy_from_slice(&bytes);
+            Written {
+                number: 0,
+                place: 0,
+                length: bytes.len() as u64,
+            }
+        }
+        Err(Refusal { number, place }) => {
+            out.fill(0);
+            Written {
+                number,
+                place,
+                length: 0,
+            }
+        }
+    }
+}
+
+pub fn write(rate: u32, positions: &[u64], ratios: &[u64], out: &mut [u8]) -> Written {
+    put(record(rate, positions, ratios), out)
+}
+
+// Reading
+
+/// The body of the field at an offset, tested for 10, 11, 12 and 10 in that order.
+fn body(record: &[u8], at: usize, tag: u8, length: Option<usize>) -> Result<&[u8], Refusal> {
+    let Some(&[found_tag, high, low]) = record.get(at..at + 3) else {
+        return refuse(10, at);
+    };
+    if found_tag != tag {
+        return refuse(11, at);
+    }
+    let found_length = usize::from(u16::from_be_bytes([high, low]));
+    if length.is_some_and(|length| length != found_length) {
+        return refuse(12, at);
+    }
+    match record.get(at + 3..at + 3 + found_length) {
+        Some(body) => Ok(body),
+        None => refuse(10, at),
+    }
+}
+
+fn number(bytes: &[u8]) -> usize {
+    bytes
+        .iter()
+        .fold(0, |number, &byte| number << 8 | usize::from(byte))
+}
+
+/// What a good record holds.
+struct Run {
+    rate: u32,
+    positions: Vec<u64>,
+    ratios: Vec<u64>,
+    used: usize,
+}
+
+/// Reads a record; `room` is the length of the shorter output.
+fn run(record: &[u8], expected: u32, room: usize, form: FormReader) -> Result<Run, Refusal> {
+    let at = 0;
+    let rate_body = body(record, at, 1, Some(4))?;
+    let rate = number(rate_body) as u32;
+    if !RATES.contains(&rate) {
+        return refuse(13, at);
+    }
+    if expected != 0 && expected != rate {
+        return refuse(14, at);
+    }
+    let at = at + 3 + rate_body.len();
+    let count_body = body(record, at, 2, Some(2))?;
+    let count = number(count_body);
+    if count > MOST_POINTS {
+        return refuse(15, at);
+    }
+    if room < count {
+        return refuse(16, at);
+    }
+    let at = at + 3 + count_body.len();
+    let positions_body = body(record, at, 3, None)?;
+    let Some(positions) = decode_positions(positions_body, count) else {
+        return refuse(17, at);
+    };
+    let at = at + 3 + positions_body.len();
+    let ratios_body = body(record, at, 4, None)?;
+    let Some(ratios) = decode_ratios(ratios_body, count, form) else {
+        return refuse(18, at);
+    };
+    Ok(Run {
+        rate,
+        positions,
+        ratios,
+        used: at + 3 + ratios_body.len(),
+    })
+}
+
+fn read(
+    expected: u32,
+    record: &[u8],
+    positions: &mut [u64],
+    ratios: &mut [u64],
+    form: FormReader,
+) -> Reading {
+    let room = positions.len().min(ratios.len());
+    match run(record, expected, room, form) {
+        Ok(run) => {
+            let count = run.positions.len();
+            positions[..count].copy_from_slice(&run.positions);
+            ratios[..count].copy_from_slice(&run.ratios);
+            Reading {
+                number: 0,
+                place: 0,
+                rate: run.rate,
+                count: count as u32,
+                used: run.used as u64,
+            }
+        }
+        Err(Refusal { number, place }) => {
+            positions.fill(0);
+            ratios.fill(0);
+            Reading {
+                number,
+                place,
+                rate: 0,
+                count: 0,
+                used: 0,
+            }
+        }
+    }
+}
+
+pub fn read_strict(
+    expected: u32,
+    record: &[u8],
+    positions: &mut [u64],
+    ratios: &mut [u64],
+) -> Reading {
+    read(expected, record, positions, ratios, strict_form)
+}
+
+pub fn read_open(
+    expected: u32,
+    record: &[u8],
+    positions: &mut [u64],
+    ratios: &mut [u64],
+) -> Reading {
+    read(expected, record, positions, ratios, open_form)
+}
+
+// Span
+
+/// Milliseconds from the first position to the last, or the first refusal among 1, 3 and 4.
+fn milliseconds(rate: u32, positions: &[u64]) -> Result<i64, Refusal> {
+    if !RATES.contains(&rate) {
+        return refuse(1, 0);
+    }
+    if positions.len() > MOST_POINTS {
+        return refuse(3, 0);
+    }
+    if let Some(index) = positions.iter().position(|&t| t > LAST_POSITION) {
+        return refuse(4, index);
+    }
+    let (Some(&first), Some(&last)) = (positions.first(), positions.last()) else {
+        return Ok(0);
+    };
+    // Division of whole numbers rounds toward zero.
+    Ok(((i128::from(last) - i128::from(first)) * 1_000 / i128::from(rate)) as i64)
+}
+
+pub fn span(rate: u32, positions: &[u64]) -> Span {
+    match milliseconds(rate, positions) {
+        Ok(milliseconds) => Span {
+            number: 0,
+            place: 0,
+            milliseconds,
+        },
+        Err(Refusal { number, place }) => Span {
+            number,
+            place,
+            milliseconds: 0,
+        },
+    }
+}
+
+// Live coding and stepping
+
+/// Whether a window's fill is the smaller of 127 and the number seen.
+fn right_fill(fill: u64, seen: u64) -> bool {
+    fill == seen.min(WINDOW as u64)
+}
+
+/// Adds a ratio to a window; a full one loses its oldest.
+fn push(ratios: &mut [u64; WINDOW], fill: &mut u64, ratio: u64) {
+    if *fill == WINDOW as u64 {
+        ratios.copy_within(1.., 0);
+        ratios[WINDOW - 1] = ratio;
+    } else {
+        ratios[*fill as usize] = ratio;
+        *fill += 1;
+    }
+}
+
+pub fn live_new() -> Live {
+    Live {
+        ratios: [0; WINDOW],
+        fill: 0,
+        seen: 0,
+    }
+}
+
+/// The bytes of one more ratio, or the first refusal among 7 and 3.
+fn added_form(state: &Live, ratio: u64) -> Result<Vec<u8>, Refusal> {
+    let most = MOST_POINTS as u64;
+    if !right_fill(state.fill, state.seen) || state.seen > most {
+        return refuse(7, 0);
+    }
+    if state.seen == most {
+        return refuse(3, 0);
+    }
+    Ok(written_form(&state.ratios[..state.fill as usize], ratio))
+}
+
+pub fn live_add(state: &mut Live, ratio: u64, out: &mut [u8]) -> Written {
+    let written = put(added_form(state, ratio), out);
+    if written.number == 0 {
+        push(&mut state.ratios, &mut state.fill, ratio);
+        state.seen += 1;
+    }
+    written
+}
+
+fn fresh_cursor(count: u64) -> Cursor {
+    Cursor {
+        place: 0,
+        count,
+        seen: 0,
+        ratios: [0; WINDOW],
+        fill: 0,
+    }
+}
+
+pub fn cursor_new(count: u64) -> Making {
+    let good = count <= MOST_POINTS as u64;
+    Making {
+        number: if good { 0 } else { 15 },
+        place: 0,
+        cursor: fresh_cursor(if good { count } else { 0 }),
+    }
+}
+
+/// The next ratio and the length of its form, or 7, 8 or 18.
+fn next_ratio(body: &[u8], cursor: &Cursor) -> Result<(u64, usize), Refusal> {
+    if !right_fill(cursor.fill, cursor.seen)
+        || cursor.seen > cursor.count
+        || cursor.count > MOST_POINTS as u64
+        || cursor.place > body.len() as u64
+    {
+        return refuse(7, 0);
+    }
+    let rest = &body[cursor.place as usize..];
+    if cursor.seen == cursor.count {
+        return refuse(if rest.is_empty() { 8 } else { 18 }, 0);
+    }
+    match strict_form(&cursor.ratios[..cursor.fill as usize], rest) {
+        Some(next) => Ok(next),
+        None => refuse(18, 0),
+    }
+}
+
+pub fn step(body: &[u8], cursor: Cursor) -> Stepped {
+    let mut next = cursor;
+    match next_ratio(body, &cursor) {
+        Ok((ratio, length)) => {
+            push(&mut next.ratios, &mut next.fill, ratio);
+            next.seen += 1;
+            next.place += length as u64;
+            Stepped {
+                number: 0,
+                place: 0,
+                ratio,
+                next,
+            }
+        }
+        Err(Refusal { number, place }) => Stepped {
+            number,
+            place,
+            ratio: 0,
+            next,
+        },
+    }
+}
+
+// Kinds
+
+pub fn kind(ratio: u64) -> Kind {
+    let negative = ratio >> 63;
+    let exponent = ratio >> 52 & 0x7ff;
+    let fraction = ratio & ((1 << 52) - 1);
+    match (exponent, fraction) {
+        (0x7ff, 0) => Kind {
+            kind: 1,
+            negative: negative as u32,
+            value: 0.0,
+            bits: 0,
+        },
+        (0x7ff, _) => Kind {
+            kind: 2,
+            negative: 0,
+            value: 0.0,
+            bits: ratio,
+        },
+        _ => Kind {
+            kind: 0,
+            negative: 0,
+            value: f64::from_bits(ratio),
+            bits: 0,
+        },
+    }
+}

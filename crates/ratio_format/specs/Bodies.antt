@@ -1,8 +1,10 @@
 -- Document 01, "Ratios": the coding of a list of ratios, and what a body is the coding, or an open form, of.
 --   codedFrom size w vs    the ratios vs coded one after the other, from the window w of that size
 --   codedRatios vs         from a fresh window of our size: the body of field 4
+--   before, atEnd, onRatio the parts of a reading: a ratio before the rest, the end of the bytes, what follows a ratio
 --   openFrom size w n s    the n ratios that the open rule reads from the bytes s, every byte used; or nothing
 --   openRatios n s         from a fresh window of our size
+--   ifCoded s o            what was read openly, where the bytes s are its coding
 --   strictRatios n s       the n ratios that the bytes s are the coding of, or nothing
 use mathlib.Core.Bool.{cond}
 use mathlib.Core.List.{List, [], _∷_, _++_}

@@ -1,4 +1,5 @@
--- Document 01, "Ratios": the choice of a form for a ratio, against the window, newest first.
+-- Document 01, "Ratios": the choice of a form for a ratio, against the window, newest first. A reference is, in the standard term, a back
+-- reference, and an exception a literal.
 --   find v w     the smallest place of v in the window; the window's length where it is not in it
 --   Best         a place and its sum
 --   best v w     the largest sum over the window, at the smallest place that has it; sum 0 of an empty window

@@ -1,4 +1,4 @@
--- Document 01, "Live" and "Stepping": what is said of successive calls.
+-- Document 01, "Ratios" (Live and Stepping): what is said of successive calls.
 --   Tick               what an addition is given: a ratio, and the output that is lent for it
 --   ratiosOf ts        the ratios of the ticks ts, in their order
 --   Roomy ts           each output has at least nine cells

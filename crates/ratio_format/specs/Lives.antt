@@ -1,8 +1,11 @@
--- Document 01, "Live" and "Numbers that come back": adding one ratio at a tick. The standard term is streaming, or incremental, encoding.
+-- Document 01, "Ratios" (Live, and kept states) and "Numbers that come back": adding one ratio at a tick. The standard term is streaming,
+-- or incremental, encoding.
 --   freshLive         the first state: a fresh window and none seen
 --   badWindow w n     the window's fill is not the smaller of its size and the number n seen
 --   badLive s         the state is bad
+--   addBytes s v      the bytes of the ratio v in the state s
 --   addTests s v o    the tests of an addition in their order: 7, 3, 6
+--   addRefusal s v o  the refusal of an addition, or none
 --   addAnswer s v o   the answer: number, place and the number of bytes written
 --   addOutput s v o   the output o afterwards
 --   addState s v o    the state afterwards
@@ -28,7 +31,7 @@ freshLive = record { window = freshWindow; seen = 0 }
 abbrev pub badWindow : Window → ℕ → Bool
 badWindow w n = not (eqb (w .fill) (min windowSize n))
 
--- "or the number seen exceeds its limit": 4,096
+-- or the number seen exceeds its limit, 4,096
 abbrev pub badLive : Live → Bool
 badLive s = cond (badWindow (s .window) (s .seen)) true (ltb maxPoints (s .seen))
 

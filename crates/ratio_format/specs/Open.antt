@@ -1,6 +1,7 @@
--- Document 01, "Ratios": the open rule for one ratio, and strict reading of one.
+-- Document 01, "Ratios": the open rule for one ratio, and strict reading of one: lenient and canonical decoding.
 --   openXor u s       after the byte of a place that holds u: the two counts in one byte, and the middle
 --   openRead w s      the ratio at the front of the bytes s, against the window w, by the open rule
+--   strictOf w s r    an open reading r, accepted only so
 --   strictRead w s    the same, accepted only where the bytes are those that are written for that ratio
 use mathlib.Core.Bool.{Bool, cond}
 use mathlib.Core.List.{List, [], _∷_}

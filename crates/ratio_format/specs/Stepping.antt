@@ -1,11 +1,14 @@
--- Document 01, "Stepping" and "Numbers that come back": reading coded ratios one by one. The standard term is a pull decoder. What document
+-- Document 01, "Ratios" (Stepping, and kept states) and "Numbers that come back": reading coded ratios one by one. The standard term is a pull decoder. What document
 -- 01 calls a reader's place is the offset in its body of the next form.
 --   makeTests n        the test of making a reader with the count n: 15
 --   made n             number and place of making
 --   madeBody n b       the body that the reader then holds
 --   madeCursor n       the rest of the reader: place 0, the count, none seen and a fresh window
 --   badCursor b c      the reader's state is bad
+--   nextRead b c       the next ratio, read strictly at the reader's place; isRefused, ratioOf, usedOf: whether none was, its bits, its bytes
+--   allGiven c         as many ratios were given as the count says
 --   stepTests b c      the tests of a step in their order: 7, then 8 or 18
+--   stepRefusal b c    the refusal of a step, the end among them, or none
 --   stepAnswer b c     the answer: number, place and the ratio
 --   stepCursor b c     the reader's state afterwards
 use mathlib.Core.Bool.{Bool, true, false, cond}
@@ -41,7 +44,8 @@ madeBody n b = cond (refused (made n)) [] b
 unfoldable pub madeCursor : ℕ → Cursor
 madeCursor n = record { place = 0; count = cond (refused (made n)) 0 n; seen = 0; window = freshWindow }
 
--- "the number seen exceeds its limit (the reader's count), the reader's count exceeds 4,096, or its place is past the body"
+-- the window's fill is not the smaller of 127 and the number seen, the number seen exceeds the reader's count, the count exceeds 4,096, or
+-- the place is past the body
 abbrev pub badCursor : List ℕ → Cursor → Bool
 badCursor b c =
     cond (badWindow (c .window) (c .seen)) true

@@ -1,4 +1,5 @@
--- Document 01, "Ratios": the window, a list of the preceding ratios. What document 01 calls a place in the window is an index, 0 for the newest.
+-- Document 01, "Ratios": the window, a list of the preceding ratios. The standard term is a sliding window; its fill is the number of cells
+-- in use. What document 01 calls a place in the window is an index, 0 for the newest.
 --   windowSize      how many ratios it holds
 --   push n v w      the window w of size n after the ratio v: repeats are kept
 --   windowOf n vs   the window of size n after the ratios vs, in the order in which they came

@@ -31,7 +31,7 @@ pub struct Second {
 }
 
 // The field of a tag at an offset: whole head, tag, whole body.
-pub fn whole_field(input: &[u8], at: usize, tag: u8) -> Field
+pub(crate) fn whole_field(input: &[u8], at: usize, tag: u8) -> Field
     requires { ⌜ (at ≤ length (now input)) × (at ≤ 65550) ⌝ }
     ensures { λ r. ⌜ Whole (now (input .entry)) tag at r ⌝ }
 {
@@ -127,7 +127,7 @@ fn lacks(positions: usize, ratios: usize, count: usize) -> bool
 }
 
 // The second field, after a first that was not refused.
-pub fn second_field(input: &[u8], positions: usize, ratios: usize) -> Second
+pub(crate) fn second_field(input: &[u8], positions: usize, ratios: usize) -> Second
     requires { ⌜ (7 ≤ length (now input)) × (second (now input) ≡ 7) ⌝ }
     ensures { λ r. ⌜ Seconds (now (input .entry)) positions ratios r ⌝ }
 {
@@ -165,7 +165,7 @@ pub fn second_field(input: &[u8], positions: usize, ratios: usize) -> Second
 }
 
 // The first field.
-pub fn first_field(expected: u32, input: &[u8]) -> First
+pub(crate) fn first_field(expected: u32, input: &[u8]) -> First
     ensures { λ r. ⌜ Firsts expected (now (input .entry)) r ⌝ }
 {
     let fixed = fixed_field(input, 0, 1, 4);

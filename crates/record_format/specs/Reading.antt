@@ -29,36 +29,43 @@ use Rattle.record_format.specs.declared.ReadAnswer.{ReadAnswer}
 use Rattle.ratio_format.specs.Bodies.{openRatios, strictRatios}
 use Rattle.record_format.specs.Runs.{headSize}
 
--- the parts of the field at an offset
+-- the tag of the field at the offset p
 unfoldable pub tagAt : List ℕ → ℕ → ℕ
 tagAt s p = getD s p 0
 
+-- the length that it states
 unfoldable pub lengthAt : List ℕ → ℕ → ℕ
 lengthAt s p = numberOf 256 (take 2 (drop (p + 1) s))
 
+-- its body
 unfoldable pub bodyAt : List ℕ → ℕ → List ℕ
 bodyAt s p = take (lengthAt s p) (drop (p + headSize) s)
 
+-- the offset past it
 unfoldable pub nextAt : List ℕ → ℕ → ℕ
 nextAt s p = p + headSize + lengthAt s p
 
--- the offsets of the four fields, the first of which is 0, and of the end
+-- the first field stands at 0, the second past it
 abbrev pub second : List ℕ → ℕ
 second s = nextAt s 0
 
+-- the offset of the third
 abbrev pub third : List ℕ → ℕ
 third s = nextAt s (second s)
 
+-- the offset of the fourth
 abbrev pub fourth : List ℕ → ℕ
 fourth s = nextAt s (third s)
 
+-- the offset past the record
 abbrev pub end : List ℕ → ℕ
 end s = nextAt s (fourth s)
 
--- what the fields hold
+-- the rate in the first field
 abbrev pub rateIn : List ℕ → ℕ
 rateIn s = numberOf 256 (bodyAt s 0)
 
+-- the count in the second
 abbrev pub countIn : List ℕ → ℕ
 countIn s = numberOf 256 (bodyAt s (second s))
 
@@ -70,11 +77,12 @@ positionsIn s = readPositions rows (countIn s) (bodyAt s (third s))
 abbrev pub ratiosIn : (ℕ → List ℕ → Option (List ℕ)) → List ℕ → Option (List ℕ)
 ratiosIn k s = k (countIn s) (bodyAt s (fourth s))
 
--- a list that may be missing
+-- whether there is no list
 abbrev pub missing : Option (List ℕ) → Bool
 missing none = true
 missing (some l) = false
 
+-- the list, if there is one
 abbrev pub listOf : Option (List ℕ) → List ℕ
 listOf none = []
 listOf (some l) = l
@@ -99,7 +107,7 @@ wholeTests s tag p = headTests s tag p ++ (bodyTest s p ∷ [])
 abbrev pub fixedTests : List ℕ → ℕ → ℕ → ℕ → List Test
 fixedTests s tag n p = headTests s tag p ++ (lengthTest s n p ∷ bodyTest s p ∷ [])
 
--- each field, and then its contents by number
+-- the first field, and then its contents by number: 13, 14
 abbrev pub firstTests : ℕ → List ℕ → List Test
 firstTests e s =
     fixedTests s 1 4 0
@@ -107,6 +115,7 @@ firstTests e s =
     ∷ test (both (not (eqb e 0)) (not (eqb e (rateIn s)))) 14 0
     ∷ [])
 
+-- the second: 15, 16
 abbrev pub secondTests : List ℕ → ℕ → ℕ → List Test
 secondTests s m n =
     fixedTests s 2 2 (second s)
@@ -114,9 +123,11 @@ secondTests s m n =
     ∷ test (cond (ltb m (countIn s)) true (ltb n (countIn s))) 16 (second s)
     ∷ [])
 
+-- the third: 17
 abbrev pub thirdTests : List ℕ → List Test
 thirdTests s = wholeTests s 3 (third s) ++ (test (missing (positionsIn s)) 17 (third s) ∷ [])
 
+-- the fourth: 18
 abbrev pub fourthTests : (ℕ → List ℕ → Option (List ℕ)) → List ℕ → List Test
 fourthTests k s = wholeTests s 4 (fourth s) ++ (test (missing (ratiosIn k s)) 18 (fourth s) ∷ [])
 

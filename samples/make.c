@@ -1,0 +1,64 @@
+/* Writes the sample records: a steady take, a drifting one, and the drifting
+ * one cut short. Usage: make DIRECTORY */
+#include "farigolenc.h"
+
+#include <stdio.h>
+#include <string.h>
+
+#define STEADY 24
+#define DRIFTING 40
+#define CUT 100
+
+static int store(const char *directory, const char *name, const uint8_t *bytes, size_t length)
+{
+    char path[4096];
+    FILE *file;
+    size_t stored;
+    snprintf(path, sizeof path, "%s/%s", directory, name);
+    file = fopen(path, "wb");
+    if (file == NULL) {
+        return 1;
+    }
+    stored = fwrite(bytes, 1, length, file);
+    return fclose(file) != 0 || stored != length;
+}
+
+static uint64_t bits(double value)
+{
+    uint64_t ratio;
+    memcpy(&ratio, &value, sizeof ratio);
+    return ratio;
+}
+
+int main(int count, char **words)
+{
+    uint64_t positions[DRIFTING], ratios[DRIFTING];
+    uint8_t out[FARIGOLENC_RECORD];
+    farigolenc_write_answer steady, drifting;
+    int i;
+
+    if (count != 2) {
+        return 2;
+    }
+
+    /* Every 10 ms at 96 kHz, at half speed. */
+    for (i = 0; i < STEADY; i++) {
+        positions[i] = (uint64_t)i * 960;
+        ratios[i] = bits(0.5);
+    }
+    steady = farigolenc_write(96000, positions, STEADY, ratios, STEADY, out, sizeof out);
+    if (steady.number != 0 || store(words[1], "steady", out, steady.length)) {
+        return 1;
+    }
+
+    /* About every 10 ms at 48 kHz, with a ratio that wanders around 1. */
+    for (i = 0; i < DRIFTING; i++) {
+        positions[i] = (uint64_t)(100000 + i * 480 + (i * i * 7) % 13 - i / 3);
+        ratios[i] = bits(1.0 + (double)((i * i * 5) % 29 - 14) / 4096.0);
+    }
+    drifting = farigolenc_write(48000, positions, DRIFTING, ratios, DRIFTING, out, sizeof out);
+    if (drifting.number != 0 || store(words[1], "drifting", out, drifting.length)) {
+        return 1;
+    }
+    return store(words[1], "cut", out, CUT);
+}

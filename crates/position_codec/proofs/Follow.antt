@@ -15,7 +15,8 @@ use Rattle.bits.proofs.Compare.{both-true}
 use Rattle.bounds.specs.Points.{maxPosition}
 use Rattle.position_format.specs.Rows.{neg}
 use Rattle.position_format.specs.Steps.{stepOf}
-use Rattle.position_format.proofs.Integers.{diff-pos, diff-neg, neg-holds, neg-le-pos, neg-le-neg, step-of, of-step}
+use Rattle.bounds.proofs.Integers.{diff-pos, diff-neg}
+use Rattle.position_format.proofs.Integers.{neg-holds, neg-le-pos, neg-le-neg, step-of, of-step}
 use Rattle.position_codec.proofs.Differences.{abs-add, abs-fits, diff-abs, diff-back}
 
 -- ---- a sum b + d from 0 to m

@@ -1,24 +1,15 @@
 -- Integers as differences of numbers, what their order tests say, and that a step added back gives the position.
-use mathlib.Core.Bool.{Bool, true, cond}
+use mathlib.Core.Bool.{true}
 use mathlib.Core.Path.{_≡_, refl, sym, ap, _∙_}
-use Prim.Native.Nat.{ℕ, zero, suc, _+_, _-_, _≤_, _<_}
+use Prim.Native.Nat.{ℕ, zero, suc, _<_}
 use native.Mathlib.Omega.{arith}
-use borrow.Author.Tests.{le-ltb, lt-ltb, le-leb, leb-true}
+use borrow.Author.Tests.{le-leb, leb-true}
 use lib.Dec.{leb·zero}
 use lib.IntN.{ℤ, pos, negsuc, natAbs, _+ℤ_, _-ℤ_, +ℤ-comm, +ℤ-negℤ-cancel, -ℤ-+ℤ-cancel}
 use lib.Signed.{leZ}
 use Rattle.position_format.specs.Rows.{neg}
 use Rattle.position_format.specs.Steps.{stepOf}
 use Rattle.position_format.specs.Positions.{atLeastZero, after}
-
--- a difference of two numbers, by their order
-pub diff-pos : (a b : ℕ) → b ≤ a → pos a -ℤ pos b ≡ pos (a - b)
-diff-pos a zero h = let e : a + 0 ≡ a - 0 = omega arith in ap pos e
-diff-pos a (suc b) h = ap (λ (t : Bool). cond t (negsuc (suc b - suc a)) (pos (a - suc b))) (le-ltb a (suc b) h)
-
-pub diff-neg : (a b : ℕ) → a < b → pos a -ℤ pos b ≡ negsuc (b - suc a)
-diff-neg a zero h = absurd (omega arith)
-diff-neg a (suc b) h = ap (λ (t : Bool). cond t (negsuc (suc b - suc a)) (pos (a - suc b))) (lt-ltb a (suc b) h)
 
 -- by its sign: a number that is at least zero, and one that is at most zero
 pub at-least : (z : ℤ) → leZ (pos 0) z ≡ true → z ≡ pos (natAbs z)

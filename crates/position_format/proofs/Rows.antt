@@ -16,7 +16,8 @@ use Rattle.bits.specs.Compare.{both, begins}
 use Rattle.bits.proofs.Compare.{both-true}
 use Rattle.bounds.proofs.Lists.{every, every-cons}
 use Rattle.position_format.specs.Rows.{Row, rows, neg, holds, residue, reading}
-use Rattle.position_format.proofs.Integers.{diff-neg, at-least, at-most, neg-holds, neg-le-pos, neg-le-neg}
+use Rattle.bounds.proofs.Integers.{diff-neg}
+use Rattle.position_format.proofs.Integers.{at-least, at-most, neg-holds, neg-le-pos, neg-le-neg}
 
 -- ---- the test
 

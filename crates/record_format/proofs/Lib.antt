@@ -8,3 +8,4 @@ pub mod Claims
 pub mod Writing
 pub mod Longest
 pub mod Sizes
+pub mod Following

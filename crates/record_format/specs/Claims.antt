@@ -7,7 +7,7 @@
 use mathlib.Core.Bool.{true, not, cond}
 use mathlib.Core.List.{List, [], _∷_, _++_}
 use mathlib.Core.Logic.{_↔_}
-use mathlib.Core.Option.{some}
+use mathlib.Core.Option.{Option, some}
 use mathlib.Core.Path.{_≡_}
 use Prim.Native.Nat.{ℕ, _*_, _≤_, _^_}
 use lib.Dec.{ltb, eqb}
@@ -19,7 +19,7 @@ use Rattle.bounds.specs.Tests.{Test, test, firstOf, refused, over}
 use Rattle.ratio_format.specs.Bodies.{codedRatios, openRatios}
 use Rattle.record_format.specs.Runs.{Run, recordOf}
 use Rattle.record_format.specs.Writing.{accepts}
-use Rattle.record_format.specs.Reading.{Answer, refusalAnswer, readStrict, readOpen}
+use Rattle.record_format.specs.Reading.{Answer, refusalAnswer, end, readWith, readStrict, readOpen}
 
 -- an accepted run
 pub record Accepted (r : Run) : Type 0 where
@@ -94,6 +94,11 @@ abbrev pub TrailingBytes : Type 0
 TrailingBytes = (r : Run) → Accepted r → (e : ℕ) (rest ts vs : List ℕ)
     → (readStrict e (recordOf r ++ rest) ts vs ≡ readStrict e (recordOf r) ts vs)
     × (readOpen e (recordOf r ++ rest) ts vs ≡ readOpen e (recordOf r) ts vs)
+
+-- the same of any bytes that have four whole fields, also such as only open reading accepts, or neither
+abbrev pub Followed : Type 0
+Followed = (k : ℕ → List ℕ → Option (List ℕ)) (e : ℕ) (s rest ts vs : List ℕ) → end s ≤ length s
+    → readWith k e (s ++ rest) ts vs ≡ readWith k e s ts vs
 
 -- demand 3: a string that the open rule reads as the same ratios, at the same count, is at least as long as ours
 abbrev pub Shortest : Type 0

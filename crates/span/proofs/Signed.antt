@@ -1,24 +1,13 @@
--- Differences of natural numbers as signed numbers, and the machine's negation.
-use mathlib.Core.Bool.{Bool, cond}
+-- The machine's negation of a natural number.
 use mathlib.Core.Path.{_≡_, refl, ap, _∙_}
-use Prim.Native.Nat.{ℕ, zero, suc, _+_, _-_, _^_, _≤_, _<_}
+use Prim.Native.Nat.{ℕ, zero, suc, _-_, _^_, _<_}
 use native.Mathlib.Omega.{arith}
-use borrow.Author.Tests.{lt-ltb, le-ltb}
 use lib.IntN.{ℤ, pos, negsuc, negℤ, _-ℤ_}
 use lib.Signed.{mag}
 use mir.Syntax.{w64}
 use mir.Val.{toZ, ofZ, SFits}
 use mir.ValLaws.{toZ-ofZ, toZ-pos}
-
--- ---- a difference, by the order of its parts
-
-pub diff-pos : (a b : ℕ) → b ≤ a → pos a -ℤ pos b ≡ pos (a - b)
-diff-pos a zero h = let e : a + 0 ≡ a - 0 = omega arith in ap pos e
-diff-pos a (suc b) h = ap (λ (t : Bool). cond t (negsuc (suc b - suc a)) (pos (a - suc b))) (le-ltb a (suc b) h)
-
-pub diff-neg : (a b : ℕ) → a < b → pos a -ℤ pos b ≡ negsuc (b - suc a)
-diff-neg a zero h = absurd (omega arith)
-diff-neg a (suc b) h = ap (λ (t : Bool). cond t (negsuc (suc b - suc a)) (pos (a - suc b))) (lt-ltb a (suc b) h)
+use Rattle.bounds.proofs.Integers.{diff-neg}
 
 -- ---- -m as the machine computes it: 0 less what is read back
 

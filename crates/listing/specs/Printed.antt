@@ -1,0 +1,33 @@
+-- Document 01, "Bytes to compare", the listing: what the program prints.
+--   room            outputs with room for every run
+--   runText a       the text of the run that a reading answered
+--   textOf a        the text for the answer a of a reading: that run, or the line of the refusal
+--   printed s       the text for the input s, read strictly, with no rate expected
+use mathlib.Core.Bool.{cond}
+use mathlib.Core.List.{List}
+use Prim.Native.Nat.{ℕ}
+use lib.Dec.{eqb}
+use lib.ListN.{take, replicate}
+use Rattle.bounds.specs.Points.{maxPoints}
+use Rattle.record_format.specs.Reading.{Answer, readStrict}
+use Rattle.span.specs.Spans.{spanned}
+use Rattle.text.specs.Lines.{refusedLine, listing}
+
+-- 4,096 numbers, all 0
+unfoldable pub room : List ℕ
+room = replicate maxPoints 0
+
+-- the first `count` numbers of an output are the run's
+unfoldable pub runText : Answer → List ℕ
+runText a =
+    let rate = a .answer .rate in
+    let ts = take (a .answer .count) (a .positions) in
+    listing rate (spanned rate ts .milliseconds) ts (take (a .answer .count) (a .ratios))
+
+-- a refusal is one line
+unfoldable pub textOf : Answer → List ℕ
+textOf a = cond (eqb (a .answer .number) 0) (runText a) (refusedLine (a .answer .number) (a .answer .place))
+
+-- the program's whole output
+abbrev pub printed : List ℕ → List ℕ
+printed s = textOf (readStrict 0 s room room)

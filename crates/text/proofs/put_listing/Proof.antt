@@ -1,0 +1,44 @@
+-- `text::put_listing` meets its contract: three lines, and then the points.
+use mathlib.Core.Path.{refl, ap}
+use native.Mathlib.Omega.{arith}
+use borrow.Author.Needs.{needs}
+use mir.Syntax.{w64}
+use mir.ValLaws.{toZ-ofZ}
+use Rattle.text.specs.Lines.{spanLine, listing}
+use Rattle.text.proofs.Putting.{put-same, put-as, put-put}
+use Rattle.text.proofs.put_listing.Statement.{statement}
+use Rattle.text.proofs.put_listing.Tie as tie
+
+put-rate-requires : tie.Need-put-rate-requires
+put-rate-requires c κs = search needs
+
+put-count-requires : tie.Need-put-count-requires
+put-count-requires c κs = search needs
+
+put-span-requires : tie.Need-put-span-requires
+put-span-requires c κs = search needs
+
+put-points-requires : tie.Need-put-points-requires
+put-points-requires c κs = search needs
+
+same-length : tie.Need-same-length
+same-length c = search needs
+
+returns : tie.Need-returns
+unfolding listing
+returns c =
+    let a = c .before .before .before .before .before .before .before .before .before .before .before .before .before .before .before .before .before .before .before in
+    let span = put-same (ap spanLine (toZ-ofZ w64 (a .args .span) (a .fits .span))) (c .before .before .before .before .before .before .put-span .ensures) in
+    let l = put-put (omega arith) (c .before .before .before .before .before .before .before .before .before .before .before .before .before .before .put-rate .ensures) (put-put (omega arith) (c .before .before .before .before .before .before .before .before .before .before .put-count .ensures) (put-put (omega arith) span (c .before .before .put-points .ensures))) in
+    put-as (omega (arith, l .most)) refl l
+
+pub put-listing-spec : {M : Type 1} → statement M
+put-listing-spec =
+    tie.close
+    (tie.spec
+    put-rate-requires
+    put-count-requires
+    put-span-requires
+    put-points-requires
+    same-length
+    returns)

@@ -1,0 +1,70 @@
+-- `text::put_points` meets its contract. The invariant: the lines of the first i points are put.
+use mathlib.Core.Path.{_≡_, refl}
+use Prim.Native.Nat.{_-_, _≤_}
+use native.Mathlib.Omega.{arith}
+use lib.ListN.{length}
+use Rattle.text.proofs.Points.{Points, points-none, points-more, points-all}
+use Rattle.text.proofs.put_points.Statement.{statement}
+use Rattle.text.proofs.put_points.Tie as tie
+
+abbrev Inv-loop : tie.InvT-loop
+Inv-loop out₀ at positions ratios end₀ i₀ out end i = (i ≤ length positions) × (length out ≡ length out₀) × Points i positions ratios at end out₀ out
+
+abbrev μ-loop : tie.MeasureT-loop
+μ-loop out₀ at positions ratios end₀ i₀ out end i = length positions - i
+
+loop-holds : tie.Need-loop-holds Inv-loop μ-loop
+loop-holds c = let a = c .before .before .before .args in (omega arith, refl, points-none (a .positions .now) (a .ratios .now) (c .before .before .before .pre .0) (a .at) (a .out .now))
+
+mul-put-point : tie.Need-mul-put-point Inv-loop μ-loop
+mul-put-point c = omega arith
+
+shared-slice-read-put-point : tie.Need-shared-slice-read-put-point Inv-loop μ-loop
+shared-slice-read-put-point c = omega arith
+
+mul-put-point-2 : tie.Need-mul-put-point-2 Inv-loop μ-loop
+mul-put-point-2 c = omega arith
+
+shared-slice-read-put-point-2 : tie.Need-shared-slice-read-put-point-2 Inv-loop μ-loop
+shared-slice-read-put-point-2 c = omega arith
+
+put-point-requires : tie.Need-put-point-requires Inv-loop μ-loop
+put-point-requires c κs = omega (arith, c .before .before .before .before .loop .inv .2 .next, c .before .before .before .before .loop .inv .2 .most)
+
+add-i : tie.Need-add-i Inv-loop μ-loop
+add-i c = omega arith
+
+loop-less : tie.Need-loop-less Inv-loop μ-loop
+loop-less c = omega arith
+
+loop-again : tie.Need-loop-again Inv-loop μ-loop
+loop-again c =
+    let l = c .before .before .before .before .before .before .before .loop in
+    let s = c .before .before .before .before .before .before .before .before .before .before .before in
+    (omega arith, omega (arith, c .before .before .put-point .kept .0), points-more (s .args .positions .now) (s .args .ratios .now) (s .pre .0) (omega arith) (omega arith) (l .inv .2) (c .before .before .put-point .ensures))
+
+same-length : tie.Need-same-length Inv-loop μ-loop
+same-length c = c .before .loop .inv .1
+
+returns : tie.Need-returns Inv-loop μ-loop
+returns c =
+    let s = c .before .before .before .before .before in
+    points-all (s .args .positions .now) (s .args .ratios .now) (s .pre .0) (omega arith) (c .before .loop .inv .2)
+
+pub put-points-spec : {M : Type 1} → statement M
+put-points-spec =
+    tie.close
+    (tie.spec
+    Inv-loop
+    μ-loop
+    loop-holds
+    mul-put-point
+    shared-slice-read-put-point
+    mul-put-point-2
+    shared-slice-read-put-point-2
+    put-point-requires
+    add-i
+    loop-less
+    loop-again
+    same-length
+    returns)

@@ -1,0 +1,63 @@
+-- Document 01, "Bytes to compare", the listing: its lines and its whole text. Single spaces; each line ends in one newline.
+--   rateLine r, countLine n, spanLine z   `rate 96000`, `count 3`, `span 20`
+--   pointLine t v                         `960 3fe0000000000000`: a position and the bits of its ratio
+--   refusedLine n p                       `refused 10 at 0`: a refusal's number and place
+--   pointLines ts vs                      the lines of the points
+--   listing r z ts vs                     the text of a run of rate r and span z, with positions ts and ratios vs
+use mathlib.Core.List.{List, [], _∷_, _++_}
+use Prim.Native.Nat.{ℕ}
+use lib.IntN.{ℤ}
+use lib.ListN.{length}
+use Rattle.text.specs.Numbers.{decimal, hex16, signed}
+
+-- a line's end
+abbrev pub newline : List ℕ
+newline = 10 ∷ []
+
+abbrev pub space : List ℕ
+space = 32 ∷ []
+
+-- "rate "
+abbrev pub rateWord : List ℕ
+rateWord = 114 ∷ 97 ∷ 116 ∷ 101 ∷ 32 ∷ []
+
+-- "count "
+abbrev pub countWord : List ℕ
+countWord = 99 ∷ 111 ∷ 117 ∷ 110 ∷ 116 ∷ 32 ∷ []
+
+-- "span "
+abbrev pub spanWord : List ℕ
+spanWord = 115 ∷ 112 ∷ 97 ∷ 110 ∷ 32 ∷ []
+
+-- "refused "
+abbrev pub refusedWord : List ℕ
+refusedWord = 114 ∷ 101 ∷ 102 ∷ 117 ∷ 115 ∷ 101 ∷ 100 ∷ 32 ∷ []
+
+-- " at "
+abbrev pub atWord : List ℕ
+atWord = 32 ∷ 97 ∷ 116 ∷ 32 ∷ []
+
+unfoldable pub rateLine : ℕ → List ℕ
+rateLine r = rateWord ++ (decimal r ++ newline)
+
+unfoldable pub countLine : ℕ → List ℕ
+countLine n = countWord ++ (decimal n ++ newline)
+
+unfoldable pub spanLine : ℤ → List ℕ
+spanLine z = spanWord ++ (signed z ++ newline)
+
+unfoldable pub pointLine : ℕ → ℕ → List ℕ
+pointLine t v = decimal t ++ (space ++ (hex16 v ++ newline))
+
+unfoldable pub refusedLine : ℕ → ℕ → List ℕ
+refusedLine n p = refusedWord ++ (decimal n ++ (atWord ++ (decimal p ++ newline)))
+
+-- one line for each point, as long as both lists last
+unfoldable pub pointLines : List ℕ → List ℕ → List ℕ
+pointLines [] vs = []
+pointLines (t ∷ ts) [] = []
+pointLines (t ∷ ts) (v ∷ vs) = pointLine t v ++ pointLines ts vs
+
+-- rate, count, span, and the points
+unfoldable pub listing : ℕ → ℤ → List ℕ → List ℕ → List ℕ
+listing r z ts vs = rateLine r ++ (countLine (length ts) ++ (spanLine z ++ pointLines ts vs))

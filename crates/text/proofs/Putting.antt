@@ -21,29 +21,28 @@ pub copied : (o p ts : List ℕ) (at i : ℕ) → length ts ≡ i → p ≡ past
 copied o p ts at i e h = record {
   most = le-refl (length ts);
   next = ap (λ (n : ℕ). at + n) (sym e);
-  now = h ∙ ap (paste o at ts) (sym e) ∙ rw (take-length, append-assoc);
+  after = h ∙ ap (paste o at ts) (sym e) ∙ rw (take-length, append-assoc);
 }
 
 -- no text
 pub put-none : (at : ℕ) (o : List ℕ) → Put 0 [] at at o o
-put-none at o = record { most = le-refl 0; next = sym (add-zero at); now = sym (rw add-zero (take-append-drop at o)) }
+put-none at o = record { most = le-refl 0; next = sym (add-zero at); after = sym (rw add-zero (take-append-drop at o)) }
 
--- a text under another name, with the same bound
+-- a text under another name, with another bound, and both
 pub put-same : {m : ℕ} {a b : List ℕ} {at e : ℕ} {o p : List ℕ} → a ≡ b → Put m a at e o p → Put m b at e o p
 put-same e h = rw e at h
 
--- and with another bound
 pub put-more : {m n : ℕ} {ts : List ℕ} {at e : ℕ} {o p : List ℕ} → m ≤ n → Put m ts at e o p → Put n ts at e o p
-put-more l h = record { most = le-trans (h .most) l; next = h .next; now = h .now }
+put-more l h = record { most = le-trans (h .most) l; next = h .next; after = h .after }
 
 pub put-as : {m n : ℕ} {a b : List ℕ} {at e : ℕ} {o p : List ℕ} → length b ≤ n → a ≡ b → Put m a at e o p → Put n b at e o p
-put-as l e h = record { most = l; next = rw e at (h .next); now = rw e at (h .now) }
+put-as l e h = record { most = l; next = rw e at (h .next); after = rw e at (h .after) }
 
 -- a text, and then the next one after it
 pub put-put : {m n : ℕ} {a b : List ℕ} {at e f : ℕ} {o p q : List ℕ} → at + m ≤ length o → Put m a at e o p → Put n b e f p q → Put (m + n) (a ++ b) at f o q
 put-put {m} {n} {a} {b} {at} {e} {f} {o} {p} {q} room h g = record {
   most = omega (arith, h .most, g .most, length-append a b);
   next = omega (arith, h .next, g .next, length-append a b);
-  now = g .now ∙ ap₂ (λ (x : List ℕ) (i : ℕ). splice x i (length b) b) (h .now) (h .next)
+  after = g .after ∙ ap₂ (λ (x : List ℕ) (i : ℕ). splice x i (length b) b) (h .after) (h .next)
       ∙ splice-splice o at (length a) a refl (omega (arith, h .most)) (length b) b ∙ ap (λ (k : ℕ). splice o at k (a ++ b)) (sym (length-append a b));
 }

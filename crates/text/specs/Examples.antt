@@ -1,21 +1,23 @@
--- Document 01, "Bytes to compare": lines of the listing as it prints them, as one table, proved from the definitions by one statement.
+-- Document 01, "Bytes to compare": lines of the listing and its whole output, as one table, proved from the definitions by one statement.
 use mathlib.Core.Path.{_≡_, refl}
 use mathlib.Core.List.{List, [], _∷_, map}
-use Prim.Native.Nat.{ℕ, zero, suc}
-use lib.IntN.{ℤ, pos, negsuc}
+use Prim.Native.Nat.{ℕ}
+use lib.IntN.{pos, negsuc}
+use lib.ListN.{replicate}
 use Rattle.bits.specs.Digits.{digitsOf}
 use Rattle.text.specs.Numbers.{trimmed, decimal, hex16, signed}
-use Rattle.text.specs.Lines.{rateLine, countLine, spanLine, pointLine, refusedLine}
+use Rattle.text.specs.Lines.{rateLine, countLine, spanLine, pointLine, refusedLine, pointLines, listing}
 
--- an example: a line, and the bytes that document 01 prints
+-- an example: a text, and its bytes
 pub record Example : Type 0 where
-  pub line : List ℕ
+  pub text : List ℕ
   pub printed : List ℕ
 
+-- such an example
 abbrev example : List ℕ → List ℕ → Example
-example l p = record { line = l; printed = p }
+example l p = record { text = l; printed = p }
 
--- `rate 96000`, `count 3`, `span 20`, `960 3fe0000000000000`, `refused 10 at 0`; and `span -43`
+-- `rate 96000`, `count 3`, `span 20`, `960 3fe0000000000000`, `refused 10 at 0`; a negative span, `span -43`; and the output in full
 pub examples : List Example
 examples =
     example (rateLine 96000) (114 ∷ 97 ∷ 116 ∷ 101 ∷ 32 ∷ 57 ∷ 54 ∷ 48 ∷ 48 ∷ 48 ∷ 10 ∷ [])
@@ -26,9 +28,16 @@ examples =
     (57 ∷ 54 ∷ 48 ∷ 32 ∷ 51 ∷ 102 ∷ 101 ∷ 48 ∷ 48 ∷ 48 ∷ 48 ∷ 48 ∷ 48 ∷ 48 ∷ 48 ∷ 48 ∷ 48 ∷ 48 ∷ 48 ∷ 48 ∷ 10 ∷ [])
     ∷ example (refusedLine 10 0) (114 ∷ 101 ∷ 102 ∷ 117 ∷ 115 ∷ 101 ∷ 100 ∷ 32 ∷ 49 ∷ 48 ∷ 32 ∷ 97 ∷ 116 ∷ 32 ∷ 48 ∷ 10 ∷ [])
     ∷ example (spanLine (negsuc 42)) (115 ∷ 112 ∷ 97 ∷ 110 ∷ 32 ∷ 45 ∷ 52 ∷ 51 ∷ 10 ∷ [])
+    ∷ example (listing 96000 (pos 20) (0 ∷ 960 ∷ 1920 ∷ []) (replicate 3 0x3FE0000000000000))
+    (114 ∷ 97 ∷ 116 ∷ 101 ∷ 32 ∷ 57 ∷ 54 ∷ 48 ∷ 48 ∷ 48 ∷ 10
+    ∷ 99 ∷ 111 ∷ 117 ∷ 110 ∷ 116 ∷ 32 ∷ 51 ∷ 10
+    ∷ 115 ∷ 112 ∷ 97 ∷ 110 ∷ 32 ∷ 50 ∷ 48 ∷ 10
+    ∷ 48 ∷ 32 ∷ 51 ∷ 102 ∷ 101 ∷ 48 ∷ 48 ∷ 48 ∷ 48 ∷ 48 ∷ 48 ∷ 48 ∷ 48 ∷ 48 ∷ 48 ∷ 48 ∷ 48 ∷ 48 ∷ 10
+    ∷ 57 ∷ 54 ∷ 48 ∷ 32 ∷ 51 ∷ 102 ∷ 101 ∷ 48 ∷ 48 ∷ 48 ∷ 48 ∷ 48 ∷ 48 ∷ 48 ∷ 48 ∷ 48 ∷ 48 ∷ 48 ∷ 48 ∷ 48 ∷ 10
+    ∷ 49 ∷ 57 ∷ 50 ∷ 48 ∷ 32 ∷ 51 ∷ 102 ∷ 101 ∷ 48 ∷ 48 ∷ 48 ∷ 48 ∷ 48 ∷ 48 ∷ 48 ∷ 48 ∷ 48 ∷ 48 ∷ 48 ∷ 48 ∷ 48 ∷ 10 ∷ [])
     ∷ []
 
--- each line, computed from the definitions, is the one that is printed
-pub examples-hold : map (λ e. e .line) examples ≡ map (λ e. e .printed) examples
-unfolding examples digitsOf trimmed decimal hex16 signed rateLine countLine spanLine pointLine refusedLine
+-- each text, computed from the definitions, is the one that is printed
+pub examples-hold : map (λ e. e .text) examples ≡ map (λ e. e .printed) examples
+unfolding examples digitsOf trimmed decimal hex16 signed rateLine countLine spanLine pointLine refusedLine pointLines listing
 examples-hold = refl

@@ -14,6 +14,7 @@ use Rattle.text.specs.Numbers.{decimal, hex16, signed}
 abbrev pub newline : List ℕ
 newline = 10 ∷ []
 
+-- what stands between a position and its ratio
 abbrev pub space : List ℕ
 space = 32 ∷ []
 
@@ -37,18 +38,23 @@ refusedWord = 114 ∷ 101 ∷ 102 ∷ 117 ∷ 115 ∷ 101 ∷ 100 ∷ 32 ∷ []
 abbrev pub atWord : List ℕ
 atWord = 32 ∷ 97 ∷ 116 ∷ 32 ∷ []
 
+-- the line of the rate
 unfoldable pub rateLine : ℕ → List ℕ
 rateLine r = rateWord ++ (decimal r ++ newline)
 
+-- the line of the number of points
 unfoldable pub countLine : ℕ → List ℕ
 countLine n = countWord ++ (decimal n ++ newline)
 
+-- the line of the span in milliseconds
 unfoldable pub spanLine : ℤ → List ℕ
 spanLine z = spanWord ++ (signed z ++ newline)
 
+-- the line of a point
 unfoldable pub pointLine : ℕ → ℕ → List ℕ
 pointLine t v = decimal t ++ (space ++ (hex16 v ++ newline))
 
+-- the only line of a refusal
 unfoldable pub refusedLine : ℕ → ℕ → List ℕ
 refusedLine n p = refusedWord ++ (decimal n ++ (atWord ++ (decimal p ++ newline)))
 

@@ -11,4 +11,4 @@ use Rattle.bits.specs.Splice.{splice}
 pub record Put (m : ℕ) (ts : List ℕ) (at e : ℕ) (o p : List ℕ) : Type 0 where
   pub most : length ts ≤ m
   pub next : e ≡ at + length ts
-  pub now : p ≡ splice o at (length ts) ts
+  pub after : p ≡ splice o at (length ts) ts

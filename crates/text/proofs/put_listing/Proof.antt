@@ -1,11 +1,11 @@
 -- `text::put_listing` meets its contract: three lines, and then the points.
-use mathlib.Core.Path.{refl, ap}
+use mathlib.Core.Path.{ap}
 use native.Mathlib.Omega.{arith}
 use borrow.Author.Needs.{needs}
 use mir.Syntax.{w64}
 use mir.ValLaws.{toZ-ofZ}
 use Rattle.text.specs.Lines.{spanLine, listing}
-use Rattle.text.proofs.Putting.{put-same, put-as, put-put}
+use Rattle.text.proofs.Putting.{put-same, put-more, put-put}
 use Rattle.text.proofs.put_listing.Statement.{statement}
 use Rattle.text.proofs.put_listing.Tie as tie
 
@@ -30,7 +30,7 @@ returns c =
     let a = c .before .before .before .before .before .before .before .before .before .before .before .before .before .before .before .before .before .before .before in
     let span = put-same (ap spanLine (toZ-ofZ w64 (a .args .span) (a .fits .span))) (c .before .before .before .before .before .before .put-span .ensures) in
     let l = put-put (omega arith) (c .before .before .before .before .before .before .before .before .before .before .before .before .before .before .put-rate .ensures) (put-put (omega arith) (c .before .before .before .before .before .before .before .before .before .before .put-count .ensures) (put-put (omega arith) span (c .before .before .put-points .ensures))) in
-    put-as (omega (arith, l .most)) refl l
+    put-more (omega arith) l
 
 pub put-listing-spec : {M : Type 1} → statement M
 put-listing-spec =

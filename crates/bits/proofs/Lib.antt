@@ -8,3 +8,4 @@ pub mod Write
 pub mod Read
 pub mod Word
 pub mod Field
+pub mod Parts

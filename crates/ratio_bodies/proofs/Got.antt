@@ -23,7 +23,7 @@ use Rattle.ratio_format.proofs.RoundTrip.{strict-open}
 use Rattle.ratio_format.proofs.ReadFrom.{Rule, readFrom, open-is}
 use Rattle.ratio_format.proofs.Strict.{strict-from-is}
 use Rattle.ratio_format.proofs.Progress.{leftFrom, left-start, left-more, left-refused, left-end, left-over}
-use Rattle.ratio_codec.proofs.Parts.{rest-is}
+use Rattle.bits.proofs.Parts.{rest-is}
 
 -- the rule uses bytes that are there
 abbrev pub Within : Rule → Type 0

@@ -1,3 +1,5 @@
 pub mod Start
+pub mod Named
+pub mod Marked
 pub mod Sent
 pub mod Got

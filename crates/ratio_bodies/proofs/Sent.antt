@@ -14,7 +14,7 @@ use Rattle.ratio_format.specs.Windows.{windowSize, windowOf}
 use Rattle.ratio_format.specs.Forms.{coded}
 use Rattle.ratio_format.specs.Bodies.{codedFrom, codedRatios}
 use Rattle.ratio_format.proofs.Bodies.{coded-more, coded-room}
-use Rattle.ratio_codec.proofs.Parts.{rest-is, put-rest}
+use Rattle.bits.proofs.Parts.{rest-is, put-rest}
 
 -- bytes after bytes
 over-on : (t bs o out : List ℕ) (at : ℕ) → length t ≡ at → out ≡ over t o → take at out ++ over bs (drop at out) ≡ over (t ++ bs) o

@@ -12,42 +12,52 @@ use Rattle.ratio_format.specs.declared.Form.{Form}
 use Rattle.ratio_format.specs.declared.Form.the-variants.{Reference, Xor, Exception}
 use Rattle.ratio_format.specs.Zeros.{leadZeros, trailZeros}
 use Rattle.ratio_format.specs.Choice.{best, form}
-use Rattle.ratio_format.proofs.Choice.{Fit, form-fit, form-reference, form-xor, form-exception, sum-small, best-at, best-xor}
+use Rattle.ratio_format.specs.Forms.{Fit}
+use Rattle.ratio_format.proofs.Choice.{form-fit, form-reference, form-xor, form-exception, sum-small, best-at, best-xor}
 use Rattle.ratio_format.proofs.Windows.{back, reverse-below}
+use Rattle.ratio_codec.specs.Searched.{Searched}
 
-module _ (l : List ℕ) (v p s : ℕ) (known : (k : ℕ) → getD l k 0 < 2 ^ 64) (v64 : v < 2 ^ 64) (place : p ≡ best v (reverse l) .place) (sum : s ≡ best v (reverse l) .sum) where
+module _ (l : List ℕ) (v p s : ℕ) (known : (k : ℕ) → getD l k 0 < 2 ^ 64) (v64 : v < 2 ^ 64) (found : Searched v (reverse l) p s) where
   all64 : Below (2 ^ 64) (reverse l)
   all64 = reverse-below (2 ^ 64) l (below-of (2 ^ 64) l known)
 
   pub chosen-reference : s ≡ 16 → Reference p ≡ form v (reverse l)
-  chosen-reference e = ap Reference place ∙ sym (form-reference v (reverse l) v64 all64 (sym sum ∙ e))
+  chosen-reference e =
+      let b = found .0 (omega arith) in
+      ap Reference (b .0) ∙ sym (form-reference v (reverse l) v64 all64 (sym (b .1) ∙ e))
 
   pub chosen-exception : s < 2 → Exception ≡ form v (reverse l)
-  chosen-exception h = sym (form-exception v (reverse l) v64 all64 (omega arith))
+  chosen-exception h = sym (form-exception v (reverse l) v64 all64 (found .1 h))
 
   -- the xor form: x is the xor with the ratio at the place, in the slice
   module _ (other : s ≡ 16 → ⊥) (h : 2 ≤ s) where
     abbrev x : ℕ
     x = bitXor v (getD l (length l - 1 - p) 0)
 
+    place : p ≡ best v (reverse l) .place
+    place = found .0 h .0
+
+    sum : s ≡ best v (reverse l) .sum
+    sum = found .0 h .1
+
     pub chosen-in : p < length l
-    chosen-in = omega (arith, best-at v (reverse l) (omega arith) .0, length-reverse l)
+    chosen-in = omega (arith, place, sum, best-at v (reverse l) (omega (arith, sum)) .0, length-reverse l)
 
     pub chosen-small : s < 8
-    chosen-small = omega (arith, sum-small v (reverse l) v64 all64 (λ e. other (sum ∙ e)))
+    chosen-small = omega (arith, sum, sum-small v (reverse l) v64 all64 (λ e. other (sum ∙ e)))
 
     same-xor : bitXor v (getD (reverse l) (best v (reverse l) .place) 0) ≡ x
     same-xor = ap (λ (k : ℕ). bitXor v (getD (reverse l) k 0)) (sym place) ∙ ap (bitXor v) (back l p chosen-in)
 
     pub chosen-short : trailZeros x < 8
     chosen-short =
-        omega (arith, chosen-small, subst (λ (y : ℕ). leadZeros y + trailZeros y ≡ best v (reverse l) .sum) same-xor (best-xor v (reverse l) (omega arith)))
+        omega (arith, sum, chosen-small, subst (λ (y : ℕ). leadZeros y + trailZeros y ≡ best v (reverse l) .sum) same-xor (best-xor v (reverse l) (omega (arith, sum))))
 
     pub chosen-xor : (t : ℕ) → t ≡ trailZeros x → Xor p t (8 - s) (x / 2 ^ (8 * t)) ≡ form v (reverse l)
     chosen-xor t e =
-        let f = form-xor v (reverse l) v64 all64 (λ e. other (sum ∙ e)) (omega arith) in
+        let f = form-xor v (reverse l) v64 all64 (λ e. other (sum ∙ e)) (omega (arith, sum)) in
         let q = pow-bytes t in
-        cc same-xor
+        cc (same-xor, place, sum)
 
 -- its numbers fit, of a window of at most 127 ratios
 fit-more : (m n : ℕ) (f : Form) → m ≤ n → Fit m f → Fit n f

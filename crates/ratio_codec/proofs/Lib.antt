@@ -1,4 +1,3 @@
-pub mod Parts
 pub mod Scan
 pub mod Chosen
 pub mod Front

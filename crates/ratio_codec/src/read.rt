@@ -5,7 +5,7 @@ ghost use Prim.Native.Nat.{_*_, _^_, _≤_, _<_};
 ghost use lib.ListN.{length};
 ghost use Rattle.bits.specs.Compare.{begins};
 ghost use Rattle.ratio_format.specs.Open.{openXor, openRead, strictRead};
-ghost use Rattle.ratio_format.proofs.Choice.{Fit};
+ghost use Rattle.ratio_format.specs.Forms.{Fit};
 ghost use Rattle.ratio_codec.specs.Heads.{head};
 use super::write::choose;
 use bits::get_bytes;

@@ -7,18 +7,20 @@ ghost use Rattle.bits.specs.Digits.{bytesOf};
 ghost use Rattle.bounds.specs.Outputs.{Placed};
 ghost use Rattle.ratio_format.specs.Choice.{form};
 ghost use Rattle.ratio_format.specs.Forms.{written, coded};
-ghost use Rattle.ratio_format.proofs.Choice.{Fit};
+ghost use Rattle.ratio_format.specs.Forms.{Fit};
+ghost use Rattle.ratio_codec.specs.Searched.{Searched};
+use super::search::Best;
 use super::search::search;
 use super::search::trail_zeros;
 use bits::put_bytes;
 use bounds::Wrote;
 use ratio_format::Form;
 
-// The form of v.
-pub fn choose(window: &[u64], v: u64) -> Form
+// The form of v, by what a search of the window found.
+pub fn form_of(b: Best, window: &[u64], v: u64) -> Form
+    requires { ⌜ Searched v (reverse (now window)) (b .place) (b .sum) ⌝ }
     ensures { λ r. ⌜ r ≡ form v (reverse (now (window .entry))) ⌝ }
 {
-    let b = search(window, v);
     let place = b.place;
     let sum = b.sum;
     if sum == 16 {
@@ -35,6 +37,14 @@ pub fn choose(window: &[u64], v: u64) -> Form
         };
     }
     Form::Exception
+}
+
+// The form of v.
+pub fn choose(window: &[u64], v: u64) -> Form
+    ensures { λ r. ⌜ r ≡ form v (reverse (now (window .entry))) ⌝ }
+{
+    let b = search(window, v);
+    form_of(b, window, v)
 }
 
 // The byte of a place.

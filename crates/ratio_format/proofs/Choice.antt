@@ -17,6 +17,7 @@ use Rattle.bits.proofs.Below.{below-at}
 use Rattle.ratio_format.specs.declared.Form.{Form}
 use Rattle.ratio_format.specs.declared.Form.the-variants.{Reference, Xor, Exception}
 use Rattle.ratio_format.specs.Zeros.{leadZeros, trailZeros, score}
+use Rattle.ratio_format.specs.Forms.{Fit}
 use Rattle.ratio_format.specs.Choice.{Best, newer, best, find, form, xorForm}
 use Rattle.ratio_format.proofs.Zeros.{trail-le, middle-fits}
 use Rattle.ratio_format.proofs.Score.{score-same, score-other}
@@ -194,12 +195,6 @@ module _ (v : ℕ) (w : List ℕ) where
   -- a ratio that stands in the window is found
   pub find-lt : (p : ℕ) → p < length w → getD w p 0 ≡ v → find v w < length w
   find-lt p h e = lt-of-not-le (λ (g : length w ≤ find v w). find-first v w p (omega arith) e)
-
--- The numbers of a form for a window of n ratios: the place is in the window, and the counts are small.
-abbrev pub Fit : ℕ → Form → Type 0
-Fit n (Reference p) = p < n
-Fit n (Xor p t k m) = (p < n) × (t ≤ 8) × (k ≤ 6)
-Fit n Exception = Unit {0}
 
 pub form-fit : (v : ℕ) (w : List ℕ) → Fit (length w) (form v w)
 form-fit v w =

@@ -1,7 +1,7 @@
 -- The bytes of one ratio: how many there are, by the form, and that each is a byte.
 use mathlib.Core.Path.{_≡_, refl}
 use mathlib.Core.List.{List}
-use Prim.Native.Nat.{ℕ, _+_, _≤_, _<_}
+use Prim.Native.Nat.{ℕ, _+_, _≤_}
 use native.Mathlib.Omega.{arith}
 use lib.Dec.{lit<}
 use lib.ListN.{length}
@@ -11,8 +11,8 @@ use Rattle.bits.proofs.Digits.{length-digits}
 use Rattle.ratio_format.specs.declared.Form.{Form}
 use Rattle.ratio_format.specs.declared.Form.the-variants.{Reference, Xor, Exception}
 use Rattle.ratio_format.specs.Choice.{form}
-use Rattle.ratio_format.specs.Forms.{written, coded}
-use Rattle.ratio_format.proofs.Choice.{Fit, form-fit}
+use Rattle.ratio_format.specs.Forms.{written, coded, Fit}
+use Rattle.ratio_format.proofs.Choice.{form-fit}
 
 -- how many bytes a form takes
 abbrev pub formLen : Form → ℕ

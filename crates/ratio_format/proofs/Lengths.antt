@@ -9,8 +9,8 @@ use Rattle.bits.specs.Below.{Below}
 use Rattle.ratio_format.specs.declared.Form.{Form}
 use Rattle.ratio_format.specs.declared.Form.the-variants.{Reference, Xor, Exception}
 use Rattle.ratio_format.specs.Choice.{form}
-use Rattle.ratio_format.specs.Forms.{coded}
-use Rattle.ratio_format.proofs.Choice.{Fit, form-fit, Tight, form-tight}
+use Rattle.ratio_format.specs.Forms.{coded, Fit}
+use Rattle.ratio_format.proofs.Choice.{form-fit, Tight, form-tight}
 use Rattle.ratio_format.proofs.Forms.{formLen, coded-is}
 
 -- "So a ratio takes 1, 3 to 8, or 9 bytes."

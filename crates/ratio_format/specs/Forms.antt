@@ -1,8 +1,9 @@
 -- Document 01, "Ratios": the bytes of one ratio.
 --   written v f    the bytes of the ratio v in the form f
 --   coded v w      the bytes of v against the window w
+--   Fit n f        the numbers of the form f are those of a form against a window of n ratios
 use mathlib.Core.List.{List, [], _∷_}
-use Prim.Native.Nat.{ℕ, _+_, _*_}
+use Prim.Native.Nat.{ℕ, _+_, _*_, _≤_, _<_}
 use Rattle.bits.specs.Digits.{bytesOf}
 use Rattle.ratio_format.specs.declared.Form.{Form}
 use Rattle.ratio_format.specs.declared.Form.the-variants.{Reference, Xor, Exception}
@@ -18,3 +19,9 @@ written v Exception = 255 ∷ bytesOf 8 v
 -- what is written for v
 unfoldable pub coded : ℕ → List ℕ → List ℕ
 coded v w = written v (form v w)
+
+-- the numbers of a form, in a window of n ratios: a place of the window, at most eight trailing zero bytes, and a middle of at most six bytes
+abbrev pub Fit : ℕ → Form → Type 0
+Fit n (Reference p) = p < n
+Fit n (Xor p t k m) = (p < n) × (t ≤ 8) × (k ≤ 6)
+Fit n Exception = Unit {0}

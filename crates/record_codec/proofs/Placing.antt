@@ -1,15 +1,16 @@
 -- Bytes put at the front of an output: a head, a field, and one part after another.
 -- Assumes nothing.
 use mathlib.Core.Path.{_≡_, refl, sym, ap, ap₂, _∙_, subst}
-use mathlib.Core.List.{List, [], _∷_, _++_, append-assoc, append-nil}
+use mathlib.Core.List.{List, [], _∷_, _++_, append-assoc}
 use Prim.Native.Nat.{ℕ, suc, _+_, _-_, _≤_, _<_}
 use native.Mathlib.Omega.{arith}
-use lib.ListN.{length, take, drop, set, length-append, length-drop, drop-of-length-le}
-use lib.Seq.{take-at, drop-at, drop-drop, take-all, length-take-le}
+use lib.ListN.{length, take, drop, set, length-append, length-drop}
+use lib.Seq.{take-at, drop-at, drop-drop, length-take-le}
 use borrow.Rule.Slice.PartMut.{putMid}
 use Rattle.bits.specs.Digits.{bytesOf}
 use Rattle.bits.specs.Splice.{splice}
 use Rattle.bits.proofs.Digits.{length-digits}
+use Rattle.bits.proofs.Parts.{rest-is, put-rest}
 use Rattle.bounds.specs.declared.Wrote.{Wrote}
 use Rattle.bounds.specs.declared.Wrote.the-variants.{Done, NoRoom}
 use Rattle.bounds.specs.Outputs.{Placed}
@@ -56,18 +57,10 @@ number-done o q tag n x h e =
 
 -- ---- one part after another
 
--- what a callee is lent of `s[a..]`, and what it leaves there
-pub lent : (a : ℕ) (xs : List ℕ) → take (length xs - a) (drop a xs) ≡ drop a xs
-lent a xs = take-all (length xs - a) (drop a xs) (subst (λ (k : ℕ). k ≤ length xs - a) (sym (length-drop a xs)) (omega arith))
-
-pub left : (a : ℕ) (xs ys : List ℕ) → putMid a (length xs - a) xs ys ≡ take a xs ++ ys
-left a xs ys =
-    rw (drop-of-length-le (drop a xs) {i = length xs - a} (subst (λ (k : ℕ). k ≤ length xs - a) (sym (length-drop a xs)) (omega arith)), append-nil)
-
 -- a body put past the head, by what its writer answers, and then the head
 module _ (tag : ℕ) (body o q : List ℕ) (w : Wrote) (h : 3 ≤ length o) (put : Placed body w (take (length o - 3) (drop 3 o)) q) where
   past-head : Placed body w (drop 3 o) q
-  past-head = subst (λ (l : List ℕ). Placed body w l q) (lent 3 o) put
+  past-head = subst (λ (l : List ℕ). Placed body w l q) (rest-is 3 o) put
 
   pub field-none : w ≡ NoRoom → length o < length (field tag body)
   field-none e =
@@ -89,7 +82,7 @@ module _ (tag : ℕ) (body o q : List ℕ) (w : Wrote) (h : 3 ≤ length o) (put
           omega (arith, field-fits, body-done .0, f),
           g
               ∙ ap (λ (l : List ℕ). tag ∷ (bytesOf 2 n ++ l))
-              (ap (drop 3) (left 3 o q) ∙ drop-at (take 3 o) q 3 (length-take-le 3 o h) ∙ body-done .2 ∙ ap (λ (l : List ℕ). body ++ l) (drop-drop (length body) 3 o))
+              (ap (drop 3) (put-rest 3 o q) ∙ drop-at (take 3 o) q 3 (length-take-le 3 o h) ∙ body-done .2 ∙ ap (λ (l : List ℕ). body ++ l) (drop-drop (length body) 3 o))
               ∙ ap₂ (λ (k m : ℕ). tag ∷ (bytesOf 2 k ++ (body ++ drop m o))) (body-done .0) f
               ∙ sym (append-assoc (tag ∷ bytesOf 2 (length body)) body (drop (length (field tag body)) o)),
         )
@@ -106,13 +99,13 @@ module _ (fs bs o p : List ℕ) (w : Wrote) (first : Placed fs w o p) (same : le
     pub room-first : n ≤ length p
     room-first = omega (arith, done .0, done .1)
 
-    rest-is : take (length p - n) (drop n p) ≡ drop n o
-    rest-is =
-        lent n p ∙ ap (drop n) (done .2) ∙ drop-at fs (drop (length fs) o) n (sym (done .0)) ∙ ap (λ (k : ℕ). drop k o) (sym (done .0))
+    rest-now : take (length p - n) (drop n p) ≡ drop n o
+    rest-now =
+        rest-is n p ∙ ap (drop n) (done .2) ∙ drop-at fs (drop (length fs) o) n (sym (done .0)) ∙ ap (λ (k : ℕ). drop k o) (sym (done .0))
 
     module _ (q : List ℕ) (v : Wrote) (second : Placed bs v (take (length p - n) (drop n p)) q) where
       in-rest : Placed bs v (drop n o) q
-      in-rest = subst (λ (l : List ℕ). Placed bs v l q) rest-is second
+      in-rest = subst (λ (l : List ℕ). Placed bs v l q) rest-now second
 
       pub none-second : v ≡ NoRoom → length o < length (fs ++ bs)
       none-second g =
@@ -131,7 +124,7 @@ module _ (fs bs o p : List ℕ) (w : Wrote) (first : Placed fs w o p) (same : le
             let h : n + length bs ≡ length (fs ++ bs) = omega (arith, length-append fs bs, done .0) in (
               omega (arith, then-done .0, h),
               omega (arith, both-fit, then-done .0, h),
-              left n p q
+              put-rest n p q
                   ∙ ap₂ (λ (a b : List ℕ). a ++ b) (ap (take n) (done .2) ∙ take-at fs (drop (length fs) o) n (sym (done .0)))
                   (then-done .2 ∙ ap (λ (l : List ℕ). bs ++ l) (drop-drop (length bs) n o))
                   ∙ sym (append-assoc fs bs (drop (n + length bs) o))

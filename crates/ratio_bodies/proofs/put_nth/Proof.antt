@@ -1,62 +1,71 @@
--- `put_nth` meets its contract: the part before the ratio is its window.
+-- `put_nth` meets its contract: a repeated ratio is a reference to the newest place, any other is written in its form.
+use mathlib.Core.Path.{sym, subst}
 use mathlib.Core.List.{List}
-use mathlib.Core.Path.{subst}
 use Prim.Native.Nat.{ℕ}
 use native.Mathlib.Omega.{arith}
 use lib.ListN.{getD}
 use Rattle.bounds.specs.Outputs.{Placed}
-use Rattle.ratio_format.specs.Forms.{coded}
-use Rattle.ratio_bodies.proofs.Start.{start-window}
+use Rattle.ratio_format.specs.declared.Form.{Form}
+use Rattle.ratio_format.specs.Forms.{written, coded}
+use Rattle.ratio_bodies.proofs.Start.{window-fit, coded-newest}
 use borrow.Author.Needs.{needs}
 use Rattle.ratio_bodies.proofs.put_nth.Statement.{statement}
 use Rattle.ratio_bodies.proofs.put_nth.Tie as tie
 
-window-start-requires : tie.Need-window-start-requires
-window-start-requires c κs = search needs
-
-mul-encode : tie.Need-mul-encode
-mul-encode c = search needs
-
-sub-encode : tie.Need-sub-encode
-sub-encode c = search needs
-
-part-encode-start : tie.Need-part-encode-start
-part-encode-start c = search needs
-
-part-encode-end : tie.Need-part-encode-end
-part-encode-end c = search needs
-
-mul-encode-2 : tie.Need-mul-encode-2
-mul-encode-2 c = search needs
-
-shared-slice-read-encode : tie.Need-shared-slice-read-encode
-shared-slice-read-encode c = search needs
-
-encode-requires : tie.Need-encode-requires
-encode-requires c κs = search needs
+put-reference-requires : tie.Need-put-reference-requires
+put-reference-requires c κs = search needs
 
 same-length : tie.Need-same-length
 same-length c = search needs
 
 returns : tie.Need-returns
 returns c =
+    let p = c .before .before .put-reference in
+    let d = c .before .before .before .before .before .before .before in
+    let a = d .args in
+    let n = d .pre .1 (c .before .before .before .before .if1 .taken) in
+    subst (λ (bs : List ℕ). Placed bs (p .result) (a .out .now) (p .last .0))
+    (sym (coded-newest (a .ratios .now) (a .i) (getD (a .ratios .now) (a .i) 0) (n .0) (omega arith) (n .1))) (p .ensures)
+
+mul-v : tie.Need-mul-v
+mul-v c = search needs
+
+shared-slice-read-v : tie.Need-shared-slice-read-v
+shared-slice-read-v c = search needs
+
+choose-nth-requires : tie.Need-choose-nth-requires
+choose-nth-requires c κs =
+    let d = c .before .before .before .before in
+    (omega arith, d .pre .2 (c .before .if1 .left))
+
+put-form-requires : tie.Need-put-form-requires
+put-form-requires c κs =
+    let d = c .before .before .before .before .before .before in
+    let a = d .args in
+    let f = c .before .choose-nth in
+    window-fit (a .ratios .now) (a .i) (getD (a .ratios .now) (a .i) 0) (f .result) (omega arith) (f .ensures)
+
+same-length-2 : tie.Need-same-length-2
+same-length-2 c = search needs
+
+returns-2 : tie.Need-returns-2
+unfolding coded
+returns-2 c =
+    let p = c .before .before .put-form in
+    let f = c .before .before .before .before .choose-nth in
     let a = c .before .before .before .before .before .before .before .before .before .args in
-    let f = c .before .before .before .before .before .before .window-start in
-    let p = c .before .before .encode in
-    subst (λ (w : List ℕ). Placed (coded (getD (a .ratios .now) (a .i) 0) w) (p .result) (a .out .now) (p .last .1 .1 .0))
-    (start-window (a .ratios .now) (a .i) (f .result) (f .ensures) (omega arith)) (p .ensures)
+    subst (λ (x : Form). Placed (written (getD (a .ratios .now) (a .i) 0) x) (p .result) (a .out .now) (p .last .1 .1 .0)) (f .ensures) (p .ensures)
 
 pub put-nth-spec : {M : Type 1} → statement M
 put-nth-spec =
     tie.close
     (tie.spec
-    window-start-requires
-    mul-encode
-    sub-encode
-    part-encode-start
-    part-encode-end
-    mul-encode-2
-    shared-slice-read-encode
-    encode-requires
+    put-reference-requires
     same-length
-    returns)
+    returns
+    mul-v
+    shared-slice-read-v
+    choose-nth-requires
+    put-form-requires
+    same-length-2
+    returns-2)

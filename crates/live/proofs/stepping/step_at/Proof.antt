@@ -7,7 +7,7 @@ use native.Mathlib.Omega.{arith}
 use borrow.Author.Needs.{needs}
 use lib.ListN.{length, take, drop, length-drop}
 use lib.Seq.{length-take-le}
-use Rattle.ratio_codec.proofs.Parts.{rest-is}
+use Rattle.bits.proofs.Parts.{rest-is}
 use Rattle.ratio_format.specs.declared.Read.the-variants.{Ratio}
 use Rattle.ratio_format.specs.declared.Window.{Window}
 use Rattle.ratio_format.specs.declared.Cursor.{Cursor}

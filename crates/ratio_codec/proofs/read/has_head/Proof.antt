@@ -3,7 +3,7 @@ use mathlib.Core.Path.{sym, ap, _∙_, subst}
 use native.Mathlib.Omega.{arith}
 use Rattle.bits.specs.Compare.{begins}
 use Rattle.ratio_format.specs.declared.Form.{Form}
-use Rattle.ratio_format.proofs.Choice.{Fit}
+use Rattle.ratio_format.specs.Forms.{Fit}
 use Rattle.ratio_codec.specs.Heads.{head}
 use borrow.Author.Needs.{needs}
 use Rattle.ratio_codec.proofs.read.has_head.Statement.{statement}

@@ -5,8 +5,7 @@ use Prim.Native.Nat.{ℕ}
 use Rattle.bounds.specs.declared.Wrote.{Wrote}
 use Rattle.bounds.specs.Outputs.{Placed}
 use Rattle.ratio_format.specs.declared.Form.{Form}
-use Rattle.ratio_format.specs.Forms.{written}
-use Rattle.ratio_format.proofs.Choice.{Fit}
+use Rattle.ratio_format.specs.Forms.{written, Fit}
 use borrow.Author.Needs.{needs}
 use Rattle.ratio_codec.proofs.write.put_form.Statement.{statement}
 use Rattle.ratio_codec.proofs.write.put_form.Tie as tie

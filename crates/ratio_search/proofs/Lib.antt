@@ -1,0 +1,7 @@
+pub mod Bytes
+pub mod Differ
+pub mod Passed
+pub mod Slots
+pub mod Blocks
+pub mod Found
+pub mod Sought

@@ -1,0 +1,142 @@
+-- `suspect` meets its contract. The invariant: where no suspect was found, none of the first j slots is one.
+use mathlib.Core.Path.{_≡_}
+use mathlib.Core.Bool.{false}
+use mathlib.Core.Logic.{⊎-map}
+use Prim.Native.Nat.{_+_, _-_, _*_, _≤_}
+use native.Mathlib.Omega.{arith}
+use Rattle.ratio_search.proofs.Blocks.{Quiet, quiet-more, slot-differs}
+use Rattle.ratio_search.proofs.pairs.suspect.Statement.{statement}
+use Rattle.ratio_search.proofs.pairs.suspect.Tie as tie
+
+abbrev Inv-loop : tie.InvT-loop
+Inv-loop planes slot v a b c d x y z w any₀ j₀ any j =
+    (j ≤ 16) × (any ≡ false → Quiet planes a x b y c z d w j)
+
+abbrev μ-loop : tie.MeasureT-loop
+μ-loop planes slot v a b c d x y z w any₀ j₀ any j = 16 - j
+
+mul-a : tie.Need-mul-a Inv-loop μ-loop
+mul-a c = omega arith
+
+add-a : tie.Need-add-a Inv-loop μ-loop
+add-a c = omega arith
+
+mul-b : tie.Need-mul-b Inv-loop μ-loop
+mul-b c = omega arith
+
+add-b : tie.Need-add-b Inv-loop μ-loop
+add-b c = omega arith
+
+mul-c : tie.Need-mul-c Inv-loop μ-loop
+mul-c c = omega arith
+
+add-c : tie.Need-add-c Inv-loop μ-loop
+add-c c = omega arith
+
+mul-d : tie.Need-mul-d Inv-loop μ-loop
+mul-d c = omega arith
+
+add-d : tie.Need-add-d Inv-loop μ-loop
+add-d c = omega arith
+
+byte-of-requires : tie.Need-byte-of-requires Inv-loop μ-loop
+byte-of-requires c κs = omega arith
+
+byte-of-requires-2 : tie.Need-byte-of-requires-2 Inv-loop μ-loop
+byte-of-requires-2 c κs = omega arith
+
+byte-of-requires-3 : tie.Need-byte-of-requires-3 Inv-loop μ-loop
+byte-of-requires-3 c κs = omega arith
+
+byte-of-requires-4 : tie.Need-byte-of-requires-4 Inv-loop μ-loop
+byte-of-requires-4 c κs = omega arith
+
+loop-holds : tie.Need-loop-holds Inv-loop μ-loop
+loop-holds c = (omega arith, λ e t h. absurd (omega arith))
+
+add-any : tie.Need-add-any Inv-loop μ-loop
+add-any c = omega arith
+
+element-copy-out-any : tie.Need-element-copy-out-any Inv-loop μ-loop
+element-copy-out-any c = omega arith
+
+add-any-2 : tie.Need-add-any-2 Inv-loop μ-loop
+add-any-2 c = omega arith
+
+element-copy-out-any-2 : tie.Need-element-copy-out-any-2 Inv-loop μ-loop
+element-copy-out-any-2 c = omega arith
+
+add-any-3 : tie.Need-add-any-3 Inv-loop μ-loop
+add-any-3 c = omega arith
+
+element-copy-out-any-3 : tie.Need-element-copy-out-any-3 Inv-loop μ-loop
+element-copy-out-any-3 c = omega arith
+
+add-any-4 : tie.Need-add-any-4 Inv-loop μ-loop
+add-any-4 c = omega arith
+
+element-copy-out-any-4 : tie.Need-element-copy-out-any-4 Inv-loop μ-loop
+element-copy-out-any-4 c = omega arith
+
+add-j : tie.Need-add-j Inv-loop μ-loop
+add-j c = omega arith
+
+loop-less : tie.Need-loop-less Inv-loop μ-loop
+loop-less c = omega arith
+
+loop-again : tie.Need-loop-again Inv-loop μ-loop
+loop-again c =
+    let l = c .before .before .before .before .before .loop in
+    let n = c .before .before .before .before .before .before in
+    let a = n .before .before .before .before .before .before .before .before .args in
+    let p = a .p in (
+      omega arith,
+      λ e. quiet-more (a .planes .now)
+          (p .a * 128 + a .slot) (n .before .before .before .byte-of .result) (p .b * 128 + a .slot) (n .before .before .byte-of2 .result)
+          (p .c * 128 + a .slot) (n .before .byte-of3 .result) (p .d * 128 + a .slot) (n .byte-of4 .result)
+          (l .any) (l .j) (l .inv .1) e,
+    )
+
+returns : tie.Need-returns Inv-loop μ-loop
+returns c = λ e t h g.
+    let n = c .before in
+    let d = n .before .before .before .before .before .before .before .before .before in
+    let a = d .args in
+    let ps = a .planes .now in
+    let p = a .p in
+    ⊎-map
+    (slot-differs ps (a .v) (p .a) (p .b) (a .slot) _ _ t (n .before .before .before .before .byte-of .ensures) (n .before .before .before .byte-of2 .ensures) h)
+    (slot-differs ps (a .v) (p .c) (p .d) (a .slot) _ _ t (n .before .before .byte-of3 .ensures) (n .before .byte-of4 .ensures) h)
+    (n .loop .inv .1 e (t - a .slot) (omega arith))
+
+pub suspect-spec : {M : Type 1} → statement M
+suspect-spec =
+    tie.close
+    (tie.spec
+    Inv-loop
+    μ-loop
+    mul-a
+    add-a
+    mul-b
+    add-b
+    mul-c
+    add-c
+    mul-d
+    add-d
+    byte-of-requires
+    byte-of-requires-2
+    byte-of-requires-3
+    byte-of-requires-4
+    loop-holds
+    add-any
+    element-copy-out-any
+    add-any-2
+    element-copy-out-any-2
+    add-any-3
+    element-copy-out-any-3
+    add-any-4
+    element-copy-out-any-4
+    add-j
+    loop-less
+    loop-again
+    returns)

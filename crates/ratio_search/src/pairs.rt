@@ -1,0 +1,114 @@
+// Pairs of bytes that say where a sum cannot be large: of two bytes far apart one must agree.
+ghost use mathlib.Core.Path.{_≡_};
+ghost use mathlib.Core.Bool.{false};
+ghost use mathlib.Core.Logic.{_⊎_};
+ghost use Prim.Native.Nat.{ℕ, _+_, _≤_, _<_};
+ghost use Rattle.ratio_format.specs.Zeros.{leadZeros, trailZeros};
+ghost use Rattle.ratio_search.specs.Planes.{byteAt, Differs};
+ghost use Rattle.ratio_search.specs.Passed.{Apart};
+use super::planes::byte_of;
+use ratio_codec::search::lead_zeros;
+use ratio_codec::search::trail_zeros;
+
+// Two pairs of byte positions, a with b and c with d.
+pub struct Pairs {
+    pub a: usize,
+    pub b: usize,
+    pub c: usize,
+    pub d: usize,
+}
+
+// Where the second pair begins: beside the first, and not at bytes that agree because v itself ends in zero bytes.
+pub fn beside(trail: usize, sum: usize, own: usize) -> usize
+    requires { ⌜ (trail ≤ sum) × (sum ≤ 7) ⌝ }
+    ensures { λ r. ⌜ r ≤ sum ⌝ }
+{
+    if own < trail {
+        return trail - 1;
+    }
+    if trail < sum {
+        return trail + 1;
+    }
+    trail
+}
+
+// The pairs for sums above `sum`: the first stands at the ends of the middle of a ratio with that sum and `trail` trailing bytes.
+pub fn pairs_of(trail: usize, sum: usize, own: usize) -> Pairs
+    requires { ⌜ (trail ≤ sum) × (sum ≤ 7) ⌝ }
+    ensures { λ r. ⌜ Apart sum (r .a) (r .b) × Apart sum (r .c) (r .d) ⌝ }
+{
+    let far = 7 - sum;
+    let c = beside(trail, sum, own);
+    Pairs {
+        a: trail,
+        b: trail + far,
+        c,
+        d: c + far,
+    }
+}
+
+// Whether in the 16 slots from `slot` on one agrees with v in a byte of each pair. Written without branches, so that it becomes vector code.
+pub fn suspect(planes: &[u8; 1024], slot: usize, v: u64, p: Pairs) -> bool
+    requires { ⌜ (slot + 16 ≤ 128) × (p .a < 8) × (p .b < 8) × (p .c < 8) × (p .d < 8) ⌝ }
+    ensures { λ r. ⌜ (r ≡ false → (t : ℕ) → slot ≤ t → t < slot + 16
+        → Differs (now (planes .entry)) v (p .a) (p .b) t ⊎ Differs (now (planes .entry)) v (p .c) (p .d) t) ⌝ }
+{
+    let a = p.a * 128 + slot;
+    let b = p.b * 128 + slot;
+    let c = p.c * 128 + slot;
+    let d = p.d * 128 + slot;
+    let x = byte_of(v, p.a);
+    let y = byte_of(v, p.b);
+    let z = byte_of(v, p.c);
+    let w = byte_of(v, p.d);
+    let mut any = false;
+    let mut j: usize = 0;
+    while j < 16 {
+        any = any
+            | (((planes[a + j] == x) | (planes[b + j] == y))
+                & ((planes[c + j] == z) | (planes[d + j] == w)));
+        j += 1;
+    }
+    any
+}
+
+// Whether byte j of x is 0.
+pub fn zero_at(x: u64, j: usize) -> bool
+    requires { ⌜ j < 8 ⌝ }
+    ensures { λ r. ⌜ (r ≡ false → byteAt x j ≡ 0 → ⊥) ⌝ }
+{
+    (x >> (8 * j)) % 256 == 0
+}
+
+// Whether one of two bytes of x is 0.
+pub fn one_zero(x: u64, a: usize, b: usize) -> bool
+    requires { ⌜ (a < 8) × (b < 8) ⌝ }
+    ensures { λ r. ⌜ (r ≡ false → (byteAt x a ≡ 0 → ⊥) × (byteAt x b ≡ 0 → ⊥)) ⌝ }
+{
+    if zero_at(x, a) {
+        return true;
+    }
+    zero_at(x, b)
+}
+
+// Whether the zero bytes of x at both ends may be more than `sum`.
+pub fn maybe(x: u64, sum: usize, p: Pairs) -> bool
+    requires { ⌜ Apart sum (p .a) (p .b) × Apart sum (p .c) (p .d) ⌝ }
+    ensures { λ r. ⌜ (r ≡ false → leadZeros x + trailZeros x ≤ sum) ⌝ }
+{
+    if one_zero(x, p.a, p.b) {
+        return one_zero(x, p.c, p.d);
+    }
+    false
+}
+
+// Whether the zero bytes of x at both ends are more than `sum`. They are counted only where they may be.
+pub fn beats(x: u64, sum: usize, p: Pairs) -> bool
+    requires { ⌜ Apart sum (p .a) (p .b) × Apart sum (p .c) (p .d) ⌝ }
+    ensures { λ r. ⌜ (r ≡ false → leadZeros x + trailZeros x ≤ sum) ⌝ }
+{
+    if maybe(x, sum, p) {
+        return sum < lead_zeros(x) + trail_zeros(x);
+    }
+    false
+}

@@ -3,6 +3,8 @@
 //!
 //! Usage: bench [samples]
 //!
+//! Live addition is set beside a straightforward one that takes and returns its state by value.
+//!
 //! Each sample of the library is timed between two of the straightforward implementation. A
 //! ratio says how many times as fast the library is as the mean of these two; printed are
 //! medians over the samples. MB/s count 8 bytes for each ratio.
@@ -169,7 +171,7 @@ const PLAIN: Calls = Calls {
     read_strict: plain::read_strict,
     read_open: plain::read_open,
     live_new: plain::live_new,
-    live_add: plain::live_add,
+    live_add: plain::live_add_by_value,
 };
 
 #[derive(Clone, Copy, PartialEq)]

@@ -401,3 +401,18 @@ pub fn live_add(state: &mut Live, ratio: u64, out: &mut [u8]) -> Written {
     state.seen += 1;
     written(0, 0, length)
 }
+
+/// The same with the state taken and returned by value, as the library's core does it.
+#[inline(never)]
+pub fn live_added(state: Live, ratio: u64, out: &mut [u8]) -> (Written, Live) {
+    let mut next = state;
+    let answer = live_add(&mut next, ratio, out);
+    (answer, next)
+}
+
+/// A live addition over `live_added`.
+pub fn live_add_by_value(state: &mut Live, ratio: u64, out: &mut [u8]) -> Written {
+    let (answer, next) = live_added(*state, ratio, out);
+    *state = next;
+    answer
+}

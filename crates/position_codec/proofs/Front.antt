@@ -1,29 +1,30 @@
 -- A step's code at the front of bits: the row by their first four bits, the field after its prefix, and that no other step's code stands there.
-use mathlib.Core.Bool.{Bool, true, false}
+use mathlib.Core.Bool.{Bool, true, false, cond}
 use mathlib.Core.List.{List, [], _∷_, _++_, append-assoc}
 use mathlib.Core.Path.{_≡_, refl, sym, ap, ap₂, _∙_}
 use Prim.Native.Nat.{ℕ, zero, suc, _+_, _-_, _*_, _/_, _%_, _^_, _≤_, _<_}
-use native.Mathlib.Nat.{div-div-eq-div-mul, mod-lt}
+use native.Mathlib.Nat.{mod-lt, mod-one}
 use native.Mathlib.Omega.{arith}
-use borrow.Author.Tests.{ltb-true, eqb-true, eqb-false}
+use borrow.Author.Tests.{lt-ltb, le-ltb, ltb-true, eqb-true, eqb-false}
 use lib.Dec.{ltb, eqb}
-use lib.IntN.{ℤ}
+use lib.IntN.{ℤ, pos}
 use lib.ListN.{length, getD, take, drop, replicate, length-append}
-use lib.Pow.{pow-add, pow-mono, pow-pos}
+use lib.Pow.{pow-pos, shr-shr}
 use lib.Seq.{length-take-le}
 use Rattle.bits.specs.Below.{Below}
 use Rattle.bits.specs.Compare.{both, begins}
 use Rattle.bits.specs.Digits.{bitsOf, numberOf}
 use Rattle.bits.proofs.Compare.{both-true, begins-rest}
 use Rattle.bits.proofs.Digits.{length-digits}
-use Rattle.position_format.specs.Rows.{rows, inTable, code, reading}
+use Rattle.bounds.specs.Lists.{firstIndex}
+use Rattle.position_format.specs.Rows.{rows, holds, inTable, code, reading, noRow, rowOf}
 use Rattle.position_format.proofs.Lists.{not-so}
 use Rattle.position_format.proofs.Rows.{rows-good}
-use Rattle.position_format.proofs.Codes.{noRow, rowOf, length-lead}
-use Rattle.position_format.proofs.Prefixes.{take-begins}
+use Rattle.position_format.proofs.Codes.{length-lead, code-length}
+use Rattle.position_format.proofs.Prefixes.{take-begins, begins-short}
 use Rattle.position_format.proofs.Steps.{front-row, front-step, front-table, front-code}
 use Rattle.position_codec.specs.Found.{padded}
-use Rattle.position_codec.proofs.Tables.{rowAt, rows-count, prefixes, prefixLens, widths, fields}
+use Rattle.position_codec.proofs.Tables.{rowAt, rows-count, row-is-not, row-is-it, prefixOf, prefixLenOf, widthOf, fields, reading-in-row}
 use Rattle.position_codec.proofs.Peek.{length-padded, below-padded, take-padded, word-first, word-field}
 
 -- ---- the row by the first four bits
@@ -46,42 +47,99 @@ all-at (suc n) q e i h =
     go true s f g = rw (eqb-true i n s) f
     go false s f g = g (omega (arith, eqb-false i n s))
 
--- its prefix is how the four bits begin
+abbrev codeLens : List ℕ
+codeLens = 1 ∷ 1 ∷ 1 ∷ 1 ∷ 1 ∷ 1 ∷ 1 ∷ 1 ∷ 9 ∷ 9 ∷ 9 ∷ 9 ∷ 12 ∷ 12 ∷ 16 ∷ 36 ∷ []
+
+-- its prefix is how the four bits begin, and its codes have so many bits; it is the first row where the first bit is 0
 abbrev leads : ℕ → Bool
-leads j = both (ltb (getD rowsBy j 0) 5) (eqb (j / 2 ^ (4 - getD prefixLens (getD rowsBy j 0) 0)) (getD prefixes (getD rowsBy j 0) 0))
+leads j =
+    both (both (ltb (getD rowsBy j 0) 5) (eqb (j / 2 ^ (4 - prefixLenOf (getD rowsBy j 0))) (prefixOf (getD rowsBy j 0))))
+    (both (eqb (getD codeLens j 0) (prefixLenOf (getD rowsBy j 0) + widthOf (getD rowsBy j 0))) (cond (ltb j 8) (eqb (getD rowsBy j 0) 0) (ltb 0 (getD rowsBy j 0))))
 
-row-by : (j : ℕ) → j < 16 → (getD rowsBy j 0 < 5) × (j / 2 ^ (4 - getD prefixLens (getD rowsBy j 0) 0) ≡ getD prefixes (getD rowsBy j 0) 0)
+record Leads (j : ℕ) : Type 0 where
+  row : getD rowsBy j 0 < 5
+  prefix : j / 2 ^ (4 - prefixLenOf (getD rowsBy j 0)) ≡ prefixOf (getD rowsBy j 0)
+  len : getD codeLens j 0 ≡ prefixLenOf (getD rowsBy j 0) + widthOf (getD rowsBy j 0)
+  first : cond (ltb j 8) (eqb (getD rowsBy j 0) 0) (ltb 0 (getD rowsBy j 0)) ≡ true
+
+row-by : (j : ℕ) → j < 16 → Leads j
 row-by j h =
-    let p = both-true (ltb (getD rowsBy j 0) 5) _ (all-at 16 leads refl j h) in
-    (ltb-true _ _ (p .0), eqb-true _ _ (p .1))
+    let s = both-true (both (ltb (getD rowsBy j 0) 5) _) _ (all-at 16 leads refl j h) in
+    let p = both-true (ltb (getD rowsBy j 0) 5) _ (s .0) in
+    let t = both-true (eqb (getD codeLens j 0) _) _ (s .1) in
+    record { row = ltb-true _ _ (p .0); prefix = eqb-true _ _ (p .1); len = eqb-true _ _ (t .0); first = t .1 }
 
--- by the word w of the first 36 bits: the row, its prefix's length, its width, and the bits after the prefix as a number
+-- after a first bit 1, by one word
+abbrev packed : ℕ → Bool
+packed j = cond (ltb j 8) true (both (eqb (289077008711876865 / 2 ^ (8 * (j - 8)) % 256) (getD rowsBy j 0)) (eqb (2598590230823504137 / 2 ^ (8 * (j - 8)) % 256) (getD codeLens j 0)))
+
+-- by the word w that the bits stand at the top of: the row, its prefix's length, its width, how many bits its codes have, and those
+-- after the prefix as a number
 abbrev pub rowIn : ℕ → ℕ
-rowIn w = getD rowsBy (w / 2 ^ 32) 0
+rowIn w = getD rowsBy (w / 2 ^ 60) 0
 
-abbrev pub prefixIn : ℕ → ℕ
-prefixIn w = getD prefixLens (rowIn w) 0
+abbrev prefixIn : ℕ → ℕ
+prefixIn w = prefixLenOf (rowIn w)
 
-abbrev pub widthIn : ℕ → ℕ
-widthIn w = getD widths (rowIn w) 0
+abbrev widthIn : ℕ → ℕ
+widthIn w = widthOf (rowIn w)
+
+abbrev pub lenIn : ℕ → ℕ
+lenIn w = getD codeLens (w / 2 ^ 60) 0
 
 abbrev pub fieldIn : ℕ → ℕ
-fieldIn w = w / 2 ^ (36 - (prefixIn w + widthIn w)) % 2 ^ widthIn w
+fieldIn w = w / 2 ^ (64 - lenIn w) % 2 ^ widthIn w
 
-pub row-in : (w : ℕ) → w < 2 ^ 36 → rowIn w < 5
-row-in w h = row-by (w / 2 ^ 32) (omega arith) .0
+module _ (w : ℕ) (w< : w < 2 ^ 64) where
+  led : Leads (w / 2 ^ 60)
+  led = row-by (w / 2 ^ 60) (omega arith)
 
-pub small-in : (w : ℕ) → w < 2 ^ 36 → (prefixIn w ≤ 4) × (widthIn w ≤ 32)
-small-in w h = let f = fields (rowIn w) (row-in w h) in (f .few, f .narrow)
+  pub row-in : rowIn w < 5
+  row-in = led .row
 
-pub field-lt : (w : ℕ) → w < 2 ^ 36 → fieldIn w < 2 ^ 32
-field-lt w h =
-    let l : 2 ^ widthIn w ≤ 2 ^ 32 = pow-mono (small-in w h .1) in
-    omega (arith, mod-lt (w / 2 ^ (36 - (prefixIn w + widthIn w))) (pow-pos (widthIn w)))
+  width-in : widthIn w ≤ 32
+  width-in = fields (rowIn w) row-in .narrow
+
+  prefix-in : prefixIn w ≤ 4
+  prefix-in = fields (rowIn w) row-in .few
+
+  len-is : lenIn w ≡ prefixIn w + widthIn w
+  len-is = led .len
+
+  pub len-in : (0 < lenIn w) × (lenIn w ≤ 36)
+  len-in = (omega (arith, len-is, fields (rowIn w) row-in .some), omega (arith, len-is, prefix-in, width-in))
+
+  pub width-is : rowAt (rowIn w) .width ≡ widthIn w
+  width-is = fields (rowIn w) row-in .width
+
+  pub field-lt : fieldIn w < 2 ^ rowAt (rowIn w) .width
+  field-lt = rw (fields (rowIn w) row-in .width) (mod-lt (w / 2 ^ (64 - lenIn w)) (pow-pos (widthIn w)))
+
+  row-zero : w < 2 ^ 63 → rowIn w ≡ 0
+  row-zero h = eqb-true (rowIn w) 0 (rw (lt-ltb (w / 2 ^ 60) 8 (omega arith)) at (led .first))
+
+  pub row-some : 2 ^ 63 ≤ w → 0 < rowIn w
+  row-some h = ltb-true 0 (rowIn w) (rw (le-ltb (w / 2 ^ 60) 8 (omega arith)) at (led .first))
+
+  pub packed-is : 2 ^ 63 ≤ w → (289077008711876865 / 2 ^ (8 * (w / 2 ^ 60 - 8)) % 256 ≡ rowIn w) × (2598590230823504137 / 2 ^ (8 * (w / 2 ^ 60 - 8)) % 256 ≡ lenIn w)
+  packed-is h =
+      let j = w / 2 ^ 60 in
+      let e = rw (le-ltb j 8 (omega arith)) at (all-at 16 packed refl j (omega arith)) in
+      let p = both-true (eqb (289077008711876865 / 2 ^ (8 * (j - 8)) % 256) (rowIn w)) _ e in
+      (eqb-true _ _ (p .0), eqb-true _ _ (p .1))
+
+  -- the first row reads nothing but 0
+  zero-is : w < 2 ^ 63 → reading (rowAt (rowIn w)) (fieldIn w) ≡ pos 0
+  unfolding rows
+  zero-is h =
+      let r = row-zero h in
+      let e : widthIn w ≡ 0 = ap (λ (i : ℕ). widthOf i) r in
+      let z : fieldIn w ≡ 0 = ap (λ (k : ℕ). w / 2 ^ (64 - lenIn w) % 2 ^ k) e ∙ mod-one (w / 2 ^ (64 - lenIn w)) in
+      ap₂ (λ (i x : ℕ). reading (rowAt i) x) r z
 
 -- ---- the code at the front of the bits ds
 
-module _ (ds : List ℕ) (below : Below 2 ds) (w : ℕ) (ew : w ≡ numberOf 2 (take 36 (padded ds))) (w< : w < 2 ^ 36) where
+module _ (ds : List ℕ) (below : Below 2 ds) (w : ℕ) (w< : w < 2 ^ 64) (ew : w / 2 ^ 28 ≡ numberOf 2 (take 36 (padded ds))) where
   abbrev r : ℕ
   r = rowIn w
 
@@ -94,32 +152,34 @@ module _ (ds : List ℕ) (below : Below 2 ds) (w : ℕ) (ew : w ≡ numberOf 2 (
   abbrev x : ℕ
   x = fieldIn w
 
-  top< : w / 2 ^ 32 < 16
-  top< = omega arith
-
   row< : r < 5
   row< = row-in w w<
 
   r< : r < length rows
   r< = omega (arith, row<, rows-count)
 
-  small : (p ≤ 4) × (k ≤ 32)
-  small = small-in w w<
+  p≤ : p ≤ 4
+  p≤ = prefix-in w w<
+
+  pk≤ : p + k ≤ 36
+  pk≤ = omega (arith, p≤, width-in w w<)
 
   length-prefix : length (rowAt r .prefix) ≡ p
-  length-prefix = ap length (fields r row< .prefix) ∙ length-digits 2 p (getD prefixes r 0)
+  length-prefix = ap length (fields r row< .prefix) ∙ length-digits 2 p (prefixOf r)
 
   front : begins (rowAt r .prefix) (padded ds) ≡ true
   front =
-      let s : 2 ^ 32 * 2 ^ (4 - p) ≡ 2 ^ (36 - p) = let e : 32 + (4 - p) ≡ 36 - p = omega (arith, small .0) in sym (pow-add 2 32 (4 - p)) ∙ ap (λ (n : ℕ). 2 ^ n) e in
-      let q : w / 2 ^ (36 - p) ≡ getD prefixes r 0 = ap (λ (n : ℕ). w / n) (sym s) ∙ sym (div-div-eq-div-mul w (2 ^ 32) (2 ^ (4 - p))) ∙ row-by (w / 2 ^ 32) top< .1 in
+      let e : 28 + (36 - p) ≡ 60 + (4 - p) = omega (arith, p≤) in
+      let q : w / 2 ^ 28 / 2 ^ (36 - p) ≡ prefixOf r = shr-shr w 28 (36 - p) ∙ ap (λ (n : ℕ). w / 2 ^ n) e ∙ sym (shr-shr w 60 (4 - p)) ∙ led w w< .prefix in
       take-begins (rowAt r .prefix) (padded ds)
-      (ap (λ (n : ℕ). take n (padded ds)) length-prefix ∙ word-first ds below w ew p (omega (arith, small .0)) ∙ ap (bitsOf p) q ∙ sym (fields r row< .prefix))
+      (ap (λ (n : ℕ). take n (padded ds)) length-prefix ∙ word-first ds below (w / 2 ^ 28) ew p (omega (arith, p≤)) ∙ ap (bitsOf p) q ∙ sym (fields r row< .prefix))
 
   field : numberOf 2 (take (rowAt r .width) (drop (length (rowAt r .prefix)) (padded ds))) ≡ x
   field =
+      let e : 28 + (36 - (p + k)) ≡ 64 - lenIn w = omega (arith, pk≤, len-is w w<) in
       ap₂ (λ (m n : ℕ). numberOf 2 (take m (drop n (padded ds)))) (fields r row< .width) length-prefix
-      ∙ word-field ds below w ew p k (omega (arith, small .0, small .1))
+      ∙ word-field ds below (w / 2 ^ 28) ew p k pk≤
+      ∙ ap (λ (y : ℕ). y % 2 ^ k) (shr-shr w 28 (36 - (p + k)) ∙ ap (λ (n : ℕ). w / 2 ^ n) e)
 
   -- the step whose code stands there is by this row, and is the reading of the field
   module _ (z : ℤ) (e : inTable rows z ≡ true) (stands : begins (code rows z) ds ≡ true) where
@@ -142,15 +202,16 @@ module _ (ds : List ℕ) (below : Below 2 ds) (w : ℕ) (ew : w ≡ numberOf 2 (
         length-lead noRow z rows e ∙ ap (λ (j : ℕ). length (rowAt j .prefix) + rowAt j .width) row-is ∙ ap₂ (λ (m n : ℕ). m + n) length-prefix (fields r row< .width) in
         omega (arith, ap length (begins-rest (code rows z) ds stands .1), length-append (code rows z) (begins-rest (code rows z) ds stands .0))
 
-  -- so none does where the bits are too few, or where another row is the first to hold the reading
-  pub none-short : length ds < p + k → (z : ℤ) → inTable rows z ≡ true → begins (code rows z) ds ≡ false
-  none-short h z e = not-so (begins (code rows z) ds) (λ s. omega (arith, enough z e s))
+  -- so none does where the bits are too few, or where the row before holds the reading
+  pub none-short : length ds < lenIn w → (z : ℤ) → inTable rows z ≡ true → begins (code rows z) ds ≡ false
+  none-short h z e = not-so (begins (code rows z) ds) (λ s. omega (arith, enough z e s, len-is w w<))
 
-  pub none-other : (rowOf rows (reading (rowAt r) x) ≡ r → ⊥) → (z : ℤ) → inTable rows z ≡ true → begins (code rows z) ds ≡ false
-  none-other f z e = not-so (begins (code rows z) ds) (λ s. f (ap (rowOf rows) (step-is z e s) ∙ row-is z e s))
+  pub none-other : 0 < r → holds (rowAt (r - 1)) (reading (rowAt r) x) ≡ true → (z : ℤ) → inTable rows z ≡ true → begins (code rows z) ds ≡ false
+  none-other l t z e =
+      not-so (begins (code rows z) ds) (λ s. row-is-not (reading (rowAt r) x) r l row< t (ap (rowOf rows) (step-is z e s) ∙ row-is z e s))
 
   -- and otherwise it is the reading
-  module _ (h : p + k ≤ length ds) (first : rowOf rows (reading (rowAt r) x) ≡ r) where
+  module _ (h : lenIn w ≤ length ds) (first : rowOf rows (reading (rowAt r) x) ≡ r) where
     abbrev z : ℤ
     z = reading (rowAt r) x
 
@@ -164,16 +225,35 @@ module _ (ds : List ℕ) (below : Below 2 ds) (w : ℕ) (ew : w ≡ numberOf 2 (
     size = ap₂ (λ (m n : ℕ). m + n) length-prefix (fields r row< .width)
 
     fits : length (rowAt r .prefix) + rowAt r .width ≤ length (padded ds)
-    fits = omega (arith, size, length-padded ds)
+    fits = omega (arith, size, length-padded ds, len-is w w<)
 
     lead : rowOf rows y ≡ r
     lead = ap (rowOf rows) same-step ∙ first
 
-    pub found : (inTable rows z ≡ true) × (begins (code rows z) ds ≡ true) × (p + k ≡ length (code rows z))
+    found : (inTable rows z ≡ true) × (begins (code rows z) ds ≡ true) × (lenIn w ≡ length (code rows z))
     found =
         let held : inTable rows z ≡ true = ap (inTable rows) (sym same-step) ∙ front-table noRow rows rows-good r r< (padded ds) front (below-padded ds below) fits lead in
+        let m : p + k ≤ length ds = omega (arith, len-is w w<) in
         let is : code rows z ≡ take (p + k) ds =
         ap (code rows) (sym same-step) ∙ front-code noRow rows rows-good r r< (padded ds) front (below-padded ds below) fits lead
-        ∙ ap (λ (n : ℕ). take n (padded ds)) size ∙ take-padded ds (p + k) h in
-        let l : length (code rows z) ≡ p + k = ap length is ∙ length-take-le (p + k) ds h in
-        (held, take-begins (code rows z) ds (ap (λ (n : ℕ). take n ds) l ∙ sym is), sym l)
+        ∙ ap (λ (n : ℕ). take n (padded ds)) size ∙ take-padded ds (p + k) m in
+        let l : length (code rows z) ≡ p + k = ap length is ∙ length-take-le (p + k) ds m in
+        (held, take-begins (code rows z) ds (ap (λ (n : ℕ). take n ds) l ∙ sym is), len-is w w< ∙ sym l)
+
+  pub found-long : lenIn w ≤ length ds → 0 < r → holds (rowAt (r - 1)) (reading (rowAt r) x) ≡ false
+      → (inTable rows (reading (rowAt r) x) ≡ true) × (begins (code rows (reading (rowAt r) x)) ds ≡ true) × (lenIn w ≡ length (code rows (reading (rowAt r) x)))
+  found-long h l t = found h (row-is-it (reading (rowAt r) x) r l row< t (reading-in-row r row< x (field-lt w w<)))
+
+  -- a first bit that is 0
+  pub found-zero : 0 < length ds → w < 2 ^ 63 → (inTable rows (pos 0) ≡ true) × (begins (code rows (pos 0)) ds ≡ true) × (1 ≡ length (code rows (pos 0)))
+  unfolding rows firstIndex
+  found-zero h l =
+      let z = zero-is w w< l in
+      let n : lenIn w ≡ 1 = len-is w w< ∙ ap (λ (i : ℕ). prefixLenOf i + widthOf i) (row-zero w w< l) in
+      let f : (inTable rows (pos 0) ≡ true) × (begins (code rows (pos 0)) ds ≡ true) × (lenIn w ≡ length (code rows (pos 0))) =
+      rw z at (found (omega arith) (ap (rowOf rows) z ∙ sym (row-zero w w< l))) in
+      (f .0, f .1, sym n ∙ f .2)
+
+-- no bits are no code
+pub none-empty : (ds : List ℕ) → length ds ≡ 0 → (z : ℤ) → inTable rows z ≡ true → begins (code rows z) ds ≡ false
+none-empty ds h z e = begins-short (code rows z) ds (omega (arith, code-length z e .0))

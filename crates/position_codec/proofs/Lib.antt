@@ -3,6 +3,7 @@ pub mod Modulo
 pub mod Tables
 pub mod Points
 pub mod Laid
+pub mod Sinks
 pub mod Peek
 pub mod Ends
 pub mod Front

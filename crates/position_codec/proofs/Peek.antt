@@ -1,30 +1,23 @@
--- The next bits as one word, with 0 bits past the end: their number, by whether there are enough, and parts of the word as parts of the bits.
+-- The next bits at the top of a word, with 0 bits past the end: eight bytes shifted, and parts of the word as parts of the bits.
+use mathlib.Core.Bool.{Bool, true, false}
 use mathlib.Core.List.{List, [], _∷_, _++_}
-use mathlib.Core.Path.{_≡_, sym, ap, ap₂, _∙_}
+use mathlib.Core.Path.{_≡_, refl, sym, ap, ap₂, _∙_}
 use Prim.Native.Nat.{ℕ, zero, suc, _+_, _-_, _*_, _/_, _%_, _^_, _≤_, _<_}
-use native.Mathlib.Nat.{zero-mod, suc-add}
+use native.Mathlib.Nat.{suc-add, mod-lt}
 use native.Mathlib.Omega.{arith}
+use borrow.Author.Tests.{leb-true, leb-false}
+use lib.Dec.{leb}
 use lib.ListN.{length, take, drop, replicate, length-append, length-drop, length-replicate, replicate-append-replicate}
-use lib.Pow.{pow-pos}
-use lib.Seq.{take-at, take-append-le, take-append-add, length-take-le, take-take, take-all, take-nil}
+use lib.Pow.{pow-pos, shr-lt, shl-shr}
+use lib.Seq.{drop-drop, take-at, take-append-le, take-append-add, length-take-le, take-take, take-all, take-nil}
 use Rattle.bits.specs.Below.{Below}
 use Rattle.bits.specs.Digits.{bitsOf, numberOf}
 use Rattle.bits.specs.Packing.{bits}
 use Rattle.bits.proofs.Below.{below-append, below-take, below-drop, below-replicate}
-use Rattle.bits.proofs.Digits.{two⁺, digits-zero, take-digits, drop-digits, number-append, number-lt, number-digits, digits-number}
+use Rattle.bits.proofs.Digits.{two⁺, digits-zero, digits-append, take-digits, drop-digits, digits-low, digits-mod, number-digits, number-digits-lt, digits-number}
 use Rattle.bits.proofs.Packing.{length-bits, below-bits}
-use Rattle.bits.proofs.Word.{shl-is}
 use Rattle.position_codec.specs.Found.{padded}
-
--- zeros add nothing
-number-zeros : (n : ℕ) → numberOf 2 (replicate n 0) ≡ 0
-number-zeros n = ap (numberOf 2) (sym (digits-zero 2 n)) ∙ number-digits two⁺ n 0 ∙ zero-mod (2 ^ n)
-
-number-padded : (ds : List ℕ) (n : ℕ) → numberOf 2 (ds ++ replicate n 0) ≡ numberOf 2 ds * 2 ^ n
-number-padded ds n =
-    number-append 2 ds (replicate n 0)
-    ∙ ap₂ (λ (m y : ℕ). numberOf 2 ds * 2 ^ m + y) (length-replicate {A = ℕ} n 0) (number-zeros n)
-    ∙ omega arith
+use Rattle.position_codec.proofs.Laid.{eight-bits}
 
 take-zeros : (n m : ℕ) → take {A = ℕ} n (replicate (n + m) 0) ≡ replicate n 0
 take-zeros n m = ap (take n) (sym (replicate-append-replicate n m 0)) ∙ take-at (replicate n 0) (replicate m 0) n (length-replicate {A = ℕ} n 0)
@@ -47,28 +40,33 @@ module _ (ds : List ℕ) where
   unfolding padded
   take-padded n h = take-append-le n ds (replicate 36 0) h
 
-  -- fewer bits are moved up
-  number-few : length ds ≤ 36 → numberOf 2 (take 36 (padded ds)) ≡ numberOf 2 ds * 2 ^ (36 - length ds)
+  -- 0 bits after them, as many as make 36 or more
+  take-few : (n : ℕ) → length ds ≤ 36 → 36 ≤ length ds + n → take 36 (ds ++ replicate n 0) ≡ ds ++ replicate (36 - length ds) 0
+  take-few n h g =
+      let k = 36 - length ds in
+      let a : length ds + k ≡ 36 = omega arith in
+      let b : k + (n - k) ≡ n = omega arith in
+      ap (λ (m : ℕ). take m (ds ++ replicate n 0)) (sym a) ∙ take-append-add ds (replicate n 0) k
+      ∙ ap (λ (l : List ℕ). ds ++ l) (ap (λ (m : ℕ). take {A = ℕ} k (replicate m 0)) (sym b) ∙ take-zeros k (n - k))
+
+  take-same : (n : ℕ) → 36 ≤ length ds + n → take 36 (ds ++ replicate n 0) ≡ take 36 (padded ds)
   unfolding padded
-  number-few h =
-      let n = 36 - length ds in
-      let a : length ds + n ≡ 36 = omega arith in
-      let b : n + length ds ≡ 36 = omega arith in
-      ap (numberOf 2)
-      (ap (λ (m : ℕ). take m (ds ++ replicate 36 0)) (sym a) ∙ take-append-add ds (replicate 36 0) n
-      ∙ ap (λ (l : List ℕ). ds ++ l) (ap (λ (m : ℕ). take {A = ℕ} n (replicate m 0)) (sym b) ∙ take-zeros n (length ds)))
-      ∙ number-padded ds n
+  take-same n g = go (leb (length ds) 36) refl
+    where
+      go : (t : Bool) → leb (length ds) 36 ≡ t → take 36 (ds ++ replicate n 0) ≡ take 36 (ds ++ replicate 36 0)
+      go true e = let h : length ds ≤ 36 = leb-true (length ds) 36 e in take-few n h g ∙ sym (take-few 36 h (omega arith))
+      go false e =
+          let h : 36 ≤ length ds = omega (arith, leb-false (length ds) 36 e) in
+          take-append-le 36 ds (replicate n 0) h ∙ sym (take-append-le 36 ds (replicate 36 0) h)
+
+  -- the number of the first 36 of 64 bits
+  top-number : (r : ℕ) → r < 2 ^ 64 → take 36 (bitsOf 64 r) ≡ take 36 (padded ds) → r / 2 ^ 28 ≡ numberOf 2 (take 36 (padded ds))
+  top-number r h e =
+      sym (number-digits-lt two⁺ 36 (shr-lt 36 28 h)) ∙ ap (numberOf 2) (sym (take-digits 2 36 28 r) ∙ e)
 
   module _ (below : Below 2 ds) where
     length-word : length (take 36 (padded ds)) ≡ 36
     length-word = length-take-le 36 (padded ds) (omega (arith, length-padded))
-
-    pub word-lt : numberOf 2 (take 36 (padded ds)) < 2 ^ 36
-    word-lt = rw length-word at (number-lt 2 (take 36 (padded ds)) (below-take 2 36 (padded ds) (below-padded below)))
-
-    -- as the code shifts them
-    shift-few : length ds ≤ 36 → numberOf 2 ds * 2 ^ (36 - length ds) % 2 ^ 64 ≡ numberOf 2 (take 36 (padded ds))
-    shift-few h = shl-is (length ds) (36 - length ds) {l = 0} (number-lt 2 ds below) (pow-pos (36 - length ds)) (omega arith) ∙ sym (number-few h)
 
     -- the word's parts
     module _ (w : ℕ) (ew : w ≡ numberOf 2 (take 36 (padded ds))) where
@@ -100,11 +98,44 @@ module _ (body : List ℕ) (at : ℕ) where
   pub left-number : (x : ℕ) → x ≡ numberOf 2 (take (8 * length body - at) (drop at (bits body))) → x ≡ numberOf 2 (drop at (bits body))
   left-number x e = e ∙ ap (numberOf 2) (take-all (8 * length body - at) (drop at (bits body)) (omega (arith, left-is)))
 
-  -- moved up, where they are few
-  pub left-few : (x : ℕ) → 8 * length body - at ≤ 36 → x ≡ numberOf 2 (take (8 * length body - at) (drop at (bits body)))
-      → (x * 2 ^ (36 - (8 * length body - at)) % 2 ^ 64 ≡ numberOf 2 (take 36 (padded (drop at (bits body))))) × (x * 2 ^ (36 - (8 * length body - at)) % 2 ^ 64 < 2 ^ 36)
-  left-few x h e =
-      let ds = drop at (bits body) in
-      let q : x * 2 ^ (36 - (8 * length body - at)) % 2 ^ 64 ≡ numberOf 2 (take 36 (padded ds)) =
-      ap₂ (λ (y n : ℕ). y * 2 ^ (36 - n) % 2 ^ 64) (left-number x e) (sym left-is) ∙ shift-few ds left-below (omega (arith, left-is)) in
-      (q, rw q (word-lt ds left-below))
+-- eight bytes as one word, and s of its bits shifted out
+module _ (body : List ℕ) (bytes : Below 256 body) (from s x : ℕ) (room : from + 8 ≤ length body) (s< : s < 64) (ex : x ≡ numberOf 256 (take 8 (drop from body))) where
+  abbrev ds : List ℕ
+  ds = drop (8 * from + s) (bits body)
+
+  abbrev moved : ℕ
+  moved = x * 2 ^ s % 2 ^ 64
+
+  rest : bitsOf (64 - s) x ≡ take (64 - s) ds
+  rest =
+      let e : s + (64 - s) ≡ 64 = omega arith in
+      sym (drop-digits 2 s (64 - s) x)
+      ∙ ap (drop s) (ap (λ (m : ℕ). bitsOf m x) e ∙ sym (eight-bits body from x bytes room ex) ∙ ap (λ (m : ℕ). take m (drop (8 * from) (bits body))) (sym e))
+      ∙ drop-take s (64 - s) (drop (8 * from) (bits body))
+      ∙ ap (take (64 - s)) (drop-drop s (8 * from) (bits body))
+
+  moved-bits : bitsOf 64 moved ≡ take (64 - s) ds ++ replicate s 0
+  moved-bits =
+      let e : (64 - s) + s ≡ 64 = omega arith in
+      let z : x * 2 ^ s ≡ x * 2 ^ s + 0 = omega arith in
+      digits-mod two⁺ 64 (x * 2 ^ s) ∙ ap (λ (m : ℕ). bitsOf m (x * 2 ^ s)) (sym e) ∙ digits-append 2 (64 - s) s (x * 2 ^ s)
+      ∙ ap₂ (λ (a b : List ℕ). a ++ b) (ap (bitsOf (64 - s)) (shl-shr x s) ∙ rest) (ap (bitsOf s) z ∙ digits-low two⁺ s x 0 ∙ digits-zero 2 s)
+
+  moved< : moved < 2 ^ 64
+  moved< = mod-lt (x * 2 ^ s) (pow-pos 64)
+
+  -- enough bits are left in them
+  pub moved-enough : s ≤ 7 → moved / 2 ^ 28 ≡ numberOf 2 (take 36 (padded ds))
+  moved-enough h =
+      let l : length ds ≡ 8 * length body - (8 * from + s) = left-is body (8 * from + s) in
+      let n : length (take (64 - s) ds) ≡ 64 - s = length-take-le (64 - s) ds (omega arith) in
+      top-number ds moved moved<
+      (ap (take 36) moved-bits ∙ take-append-le 36 (take (64 - s) ds) (replicate s 0) (omega arith) ∙ take-take 36 (64 - s) ds (omega arith)
+      ∙ sym (take-padded ds 36 (omega arith)))
+
+  -- or there are no others
+  pub moved-last : from + 8 ≡ length body → moved / 2 ^ 28 ≡ numberOf 2 (take 36 (padded ds))
+  moved-last h =
+      let l : length ds ≡ 64 - s = left-is body (8 * from + s) ∙ omega arith in
+      top-number ds moved moved<
+      (ap (take 36) (moved-bits ∙ ap (λ (d : List ℕ). d ++ replicate s 0) (take-all (64 - s) ds (omega arith))) ∙ take-same ds s (omega arith))

@@ -9,16 +9,15 @@ use borrow.Author.Tests.{lt-ltb, le-ltb}
 use lib.IntN.{ℤ, pos}
 use lib.ListN.{length, getD, take, length-append}
 use lib.Seq.{take-all, take-length}
-use Rattle.bits.specs.Digits.{bitsOf}
-use Rattle.bits.specs.Splice.{splice}
+use Rattle.bits.specs.Digits.{digitsOf, bitsOf}
 use Rattle.bits.proofs.Digits.{length-digits}
 use Rattle.bounds.proofs.Lists.{first-le, first-next, first-found}
 use Rattle.position_format.specs.Rows.{rows, inTable, code}
-use Rattle.position_format.specs.Steps.{stepOf, stepsFrom, steps, outside, firstOutside}
+use Rattle.position_format.specs.Steps.{stepOf, stepsFrom, steps, outside, firstOutside, stepHere}
 use Rattle.position_format.specs.Positions.{stepBits, positionBits, validPositions}
 use Rattle.position_format.proofs.Codes.{code-length}
 use Rattle.position_format.proofs.Valid.{length-steps, step-at}
-use Rattle.position_format.proofs.Parts.{stepHere, bits-more, valid-here}
+use Rattle.position_format.proofs.Parts.{bits-more, valid-here}
 use Rattle.position_codec.specs.Codes.{Coded, pointBits}
 
 -- ---- the step at a point
@@ -59,31 +58,13 @@ module _ (ts : List ℕ) (i : ℕ) where
   point-step : 2 ≤ i → pointBits ts i ≡ code rows (stepHere ts i)
   point-step h = ap (λ (t : Bool). cond t (bitsOf 64 (getD ts i 0)) (code rows (stepHere ts i))) (le-ltb i 2 h)
 
-  pub length-raw : i < 2 → length (pointBits ts i) ≡ 64
+  length-raw : i < 2 → length (pointBits ts i) ≡ 64
   length-raw h = ap length (point-raw h) ∙ length-digits 2 64 (getD ts i 0)
 
   -- of a step's code as one word
   module _ (h : 2 ≤ i) (n w : ℕ) (c : Coded n w (stepHere ts i)) where
     point-word : pointBits ts i ≡ bitsOf n w
     point-word = point-step h ∙ sym (c .bits)
-
-    pub length-step : length (pointBits ts i) ≡ n
-    length-step = ap length point-word ∙ length-digits 2 n w
-
--- the bits of point i put at `at`: y is x with them there, and they end at r
-abbrev pub Put : List ℕ → ℕ → List ℕ → List ℕ → ℕ → ℕ → Type 0
-Put ts i x y at r = (r ≡ at + length (pointBits ts i)) × (y ≡ splice x at (length (pointBits ts i)) (pointBits ts i))
-
-module _ (ts : List ℕ) (i : ℕ) (x y : List ℕ) (at : ℕ) where
-  pub put-raw : i < 2 → y ≡ splice x at 64 (bitsOf 64 (getD ts i 0)) → Put ts i x y at (at + 64)
-  put-raw h e =
-      let n : 64 ≡ length (pointBits ts i) = sym (length-raw ts i h) in
-      (ap (λ (m : ℕ). at + m) n, e ∙ ap₂ (λ (m : ℕ) (l : List ℕ). splice x at m l) n (sym (point-raw ts i h)))
-
-  pub put-step : 2 ≤ i → (n w : ℕ) → Coded n w (stepHere ts i) → y ≡ splice x at n (bitsOf n w) → Put ts i x y at (at + n)
-  put-step h n w c e =
-      let l : n ≡ length (pointBits ts i) = sym (length-step ts i h n w c) in
-      (ap (λ (m : ℕ). at + m) l, e ∙ ap₂ (λ (m : ℕ) (l : List ℕ). splice x at m l) l (sym (point-word ts i h n w c)))
 
 -- one point more
 pub point-more : (ts : List ℕ) (i : ℕ) → i < length ts → positionBits rows (take (i + 1) ts) ≡ positionBits rows (take i ts) ++ pointBits ts i
@@ -96,6 +77,15 @@ point-more (a ∷ b ∷ ts) (suc (suc i)) h =
     bits-more (a ∷ b ∷ ts) (suc (suc i)) (omega arith) h rows
     ∙ ap (λ (l : List ℕ). positionBits rows (take (suc (suc i)) (a ∷ b ∷ ts)) ++ l) (sym (point-step (a ∷ b ∷ ts) (suc (suc i)) (omega arith)))
 point-more (a ∷ []) (suc (suc i)) h = absurd (omega arith)
+
+-- from the third on, by the step's code as one word
+pub step-more : (ts : List ℕ) (i : ℕ) → 2 ≤ i → i < length ts → (n w : ℕ) → Coded n w (stepHere ts i) → positionBits rows (take (i + 1) ts) ≡ positionBits rows (take i ts) ++ bitsOf n w
+step-more ts i h here n w c = point-more ts i here ∙ ap (λ (l : List ℕ). positionBits rows (take i ts) ++ l) (point-word ts i h n w c)
+
+-- the code of the step 0 is one bit
+pub zero-coded : Coded 1 0 (pos 0)
+unfolding rows code digitsOf
+zero-coded = record { some = omega arith; few = omega arith; fits = omega arith; bits = refl }
 
 -- what stands after the first i points
 pub point-rest : (ts : List ℕ) (i : ℕ) → i ≤ length ts → (rest : List ℕ) × (positionBits rows ts ≡ positionBits rows (take i ts) ++ rest)
@@ -112,33 +102,21 @@ point-rest ts i h = go (length ts - i) i (omega arith)
 -- ---- where a point begins
 
 -- the offset of point i
-abbrev pub place : List ℕ → ℕ → ℕ
+abbrev place : List ℕ → ℕ → ℕ
 place ts i = length (positionBits rows (take i ts))
 
 module _ (ts : List ℕ) where
-  pub place-none : place ts 0 ≡ 0
+  place-none : place ts 0 ≡ 0
   unfolding positionBits
   place-none = refl
 
-  pub place-all : place ts (length ts) ≡ length (positionBits rows ts)
+  place-all : place ts (length ts) ≡ length (positionBits rows ts)
   place-all = ap (λ (l : List ℕ). length (positionBits rows l)) (take-length ts)
 
-  pub place-more : (i : ℕ) → i < length ts → place ts (i + 1) ≡ place ts i + length (pointBits ts i)
+  place-more : (i : ℕ) → i < length ts → place ts (i + 1) ≡ place ts i + length (pointBits ts i)
   place-more i h = ap length (point-more ts i h) ∙ length-append (positionBits rows (take i ts)) (pointBits ts i)
 
-  -- no point ends past the end
-  pub place-room : (i : ℕ) → i < length ts → place ts i + length (pointBits ts i) ≤ length (positionBits rows ts)
-  place-room i h =
-      let r = point-rest ts (i + 1) (omega arith) in
-      omega (arith, place-more i h, ap length (r .1), length-append (positionBits rows (take (i + 1) ts)) (r .0))
-
-  -- the first two take 64 bits each
-  pub place-raw : (i : ℕ) → i < 2 → i < length ts → place ts i ≡ 64 * i
-  place-raw zero h g = place-none
-  place-raw (suc zero) h g = place-more 0 (omega arith) ∙ omega (arith, place-none, length-raw ts 0 (omega arith))
-  place-raw (suc (suc i)) h g = absurd (omega arith)
-
-  -- and no point more
+  -- no point takes more than 64 bits
   module _ (valid : validPositions rows ts ≡ true) where
     point-le : (i : ℕ) → i < length ts → length (pointBits ts i) ≤ 64
     point-le zero h = omega (arith, length-raw ts 0 (omega arith))

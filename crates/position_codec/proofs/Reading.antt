@@ -104,6 +104,17 @@ module _ (n : ℕ) (body : List ℕ) where
         go (x ∷ []) g = length-digits 2 64 x
         go (x ∷ y ∷ vs) g = absurd (omega arith)
 
+    read-far : 2 ≤ length us → 128 ≤ at
+    unfolding positionBits
+    read-far h = rw (r .place) (go us h)
+      where
+        go : (vs : List ℕ) → 2 ≤ length vs → 128 ≤ length (positionBits rows vs)
+        go [] g = absurd (omega arith)
+        go (x ∷ []) g = absurd (omega arith)
+        go (x ∷ y ∷ vs) g =
+            let S : List ℕ = stepBits rows (stepsFrom x y vs) in
+            omega (arith, length-append (bitsOf 64 x) (bitsOf 64 y ++ S), length-append (bitsOf 64 y) S, length-digits 2 64 x, length-digits 2 64 y)
+
     -- ---- the next point
 
     module _ (more : length us < n) (a b : ℕ) (l : Last us a b) where
@@ -208,6 +219,10 @@ module _ (n : ℕ) (body o : List ℕ) (room : n ≤ length o) where
     -- the first two points stand at whole bytes
     pub state-raw : i < 2 → at ≡ 64 * i
     state-raw h = read-raw n body (take i out) at (s .read) (omega (arith, taken)) ∙ ap (λ (m : ℕ). 64 * m) taken
+
+    -- and take 128 bits
+    pub state-far : 2 ≤ i → 128 ≤ at
+    state-far h = read-far n body (take i out) at (s .read) (omega (arith, taken))
 
     -- the next point
     pub state-none : i < n → ((t : ℕ) → Stands i a b (drop at (bits body)) t → ⊥) → readPositions rows n body ≡ none

@@ -7,16 +7,13 @@ use native.Mathlib.Omega.{arith}
 use borrow.Author.Tests.{lt-ltb, le-ltb, ltb-true, ltb-false}
 use lib.Dec.{ltb}
 use lib.IntN.{ℤ}
-use lib.ListN.{length, take, drop, length-drop}
-use lib.Seq.{length-take-le}
+use lib.ListN.{length, take, drop}
 use Rattle.bits.specs.Below.{Below}
 use Rattle.bits.specs.Compare.{begins}
-use Rattle.bits.specs.Digits.{bitsOf, bytesOf, numberOf}
+use Rattle.bits.specs.Digits.{bitsOf, numberOf}
 use Rattle.bits.specs.Packing.{bits}
-use Rattle.bits.proofs.Below.{below-take, below-drop}
 use Rattle.bits.proofs.Compare.{begins-rest}
-use Rattle.bits.proofs.Digits.{two⁺, length-digits, number-digits-lt, digits-number}
-use Rattle.bits.proofs.Packing.{bits-bytes}
+use Rattle.bits.proofs.Digits.{two⁺, length-digits, number-digits-lt}
 use Rattle.bounds.specs.Points.{maxPosition}
 use Rattle.position_format.specs.Rows.{rows, inTable, code}
 use Rattle.position_format.specs.Steps.{stepOf}
@@ -27,7 +24,7 @@ use Rattle.position_format.proofs.Steps.{stepAt-code}
 use Rattle.position_format.proofs.Prefixes.{begins-take, take-begins, begins-short}
 use Rattle.position_codec.specs.Codes.{nextBits}
 use Rattle.position_codec.specs.Found.{Stands}
-use Rattle.position_codec.proofs.Laid.{bits-take, bits-drop}
+use Rattle.position_codec.proofs.Laid.{eight-bits}
 use Rattle.position_codec.proofs.Peek.{left-is}
 
 -- ---- the bits of a position at point i
@@ -96,13 +93,8 @@ module _ (body : List ℕ) (i : ℕ) (i< : i < 2) where
   module _ (bytes : Below 256 body) (room : 8 * i + 8 ≤ length body) (x : ℕ) (ex : x ≡ numberOf 256 (take 8 (drop (8 * i) body))) where
     first : take 64 ds ≡ bitsOf 64 x
     first =
-        let l = drop (8 * i) body in
-        let n : length (take 8 l) ≡ 8 = length-take-le 8 l (omega (arith, length-drop (8 * i) body)) in
         let e : 8 * (8 * i) ≡ 64 * i = omega arith in
-        ap (λ (m : ℕ). take 64 (drop m (bits body))) (sym e) ∙ ap (take 64) (sym (bits-drop body (8 * i) (omega arith)))
-        ∙ sym (bits-take l 8 (omega (arith, length-drop (8 * i) body)))
-        ∙ ap bits (sym (rw n at (digits-number 256 (take 8 l) (below-take 256 8 l (below-drop 256 (8 * i) body bytes)))) ∙ ap (bytesOf 8) (sym ex))
-        ∙ bits-bytes 8 x
+        ap (λ (m : ℕ). take 64 (drop m (bits body))) (sym e) ∙ eight-bits body (8 * i) x bytes room ex
 
     front : (a b : ℕ) → begins (nextBits i a b x) ds ≡ true
     front a b = take-begins (nextBits i a b x) ds (ap (λ (m : ℕ). take m ds) (length-next i a b x i<) ∙ first ∙ sym (next-raw i a b x i<))

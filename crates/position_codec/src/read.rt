@@ -1,28 +1,27 @@
 // Positions read: point by point, each in the one form that it is written in, and then the fill.
 ghost use mathlib.Core.Path.{_≡_};
-ghost use Prim.Native.Nat.{ℕ, _*_, _^_, _≤_, _<_};
+ghost use Prim.Native.Nat.{ℕ, _-_, _*_, _/_, _^_, _≤_, _<_};
 ghost use lib.IntN.{natAbs};
 ghost use lib.ListN.{length, getD, take, drop, replicate};
 ghost use Rattle.bits.specs.Compare.{same};
 ghost use Rattle.bits.specs.Digits.{numberOf};
 ghost use Rattle.bits.specs.Packing.{bits, fillOf};
 ghost use Rattle.bounds.specs.Outputs.{Filled};
-ghost use Rattle.position_format.specs.Rows.{rows, reading};
+ghost use Rattle.position_format.specs.Rows.{rows, holds, reading};
 ghost use Rattle.position_format.specs.Positions.{readPositions};
-ghost use Rattle.position_format.proofs.Codes.{noRow};
+ghost use Rattle.position_format.specs.Rows.{noRow};
 ghost use Rattle.position_codec.specs.Found.{Within, padded, StepFound, PositionFound, PointFound};
-use crate::table::HIGH;
-use crate::table::PREFIX_LEN;
-use crate::table::WIDTH;
-use crate::table::row_of;
+use crate::table::WIDTHS;
 use crate::table::within;
 use bounds::MAX_POSITION;
 
 // The most bytes that the coding of 4,096 positions has.
 const MAX_BYTES: usize = 18439;
 
-// The row by the first four bits of a code.
-const ROW: [usize; 16] = [0, 0, 0, 0, 0, 0, 0, 0, 1, 1, 1, 1, 2, 2, 3, 4];
+// Tables as one word, as in `table`: by the three bits after a first bit 1 a code's row, and how many bits it has.
+const ROWS_BY: u64 = 0x0403020201010101;
+
+const LENS_BY: u64 = 0x24100c0c09090909;
 
 // The step whose code stands at the front of bits, and how many bits that has.
 pub enum GotStep {
@@ -42,49 +41,81 @@ pub enum GotPoint {
     Nothing,
 }
 
-// The 36 bits from the bit offset `at` on, with 0 bits past the end.
+// The bits from the bit offset `at` on at the top of a word, at least 36 of them, with 0 bits past the end.
 fn peek(body: &[u8], at: usize) -> u64
-    requires { ⌜ Within (now body) at ⌝ }
-    ensures { λ r. ⌜ (r ≡ numberOf 2 (take 36 (padded (drop at (bits (now (body .entry))))))) × (r < 2 ^ 36) ⌝ }
+    requires { ⌜ (8 ≤ length (now body)) × (length (now body) ≤ 18439) × (at < 8 * length (now body)) ⌝ }
+    ensures { λ r. ⌜ r / 2 ^ 28 ≡ numberOf 2 (take 36 (padded (drop at (bits (now (body .entry)))))) ⌝ }
 {
-    let left = 8 * body.len() - at;
-    if 36 <= left {
-        return bits::get_bits(body, at, 36);
+    let b = at / 8;
+    if b + 8 <= body.len() {
+        return bits::get_bytes(body, b, 8) << (at % 8);
     }
-    bits::get_bits(body, at, left) << (36 - left)
+    let last = body.len() - 8;
+    bits::get_bytes(body, last, 8) << (at - 8 * last)
 }
 
-// The one number in a row's range that is x modulo 2^width.
+// How many steps a row holds: 2^width.
+fn size_of(row: usize) -> u64
+    requires { ⌜ row < 5 ⌝ }
+    ensures { λ r. ⌜ (r ≡ 2 ^ getD rows row noRow .width) × (0 < r) × (r ≤ 2 ^ 32) ⌝ }
+{
+    1 << ((WIDTHS >> (8 * row)) % 256)
+}
+
+// The one number in a row's range that is x modulo 2^width: counted from the lowest, and not by a test of x, which is hard to foretell.
 fn reading_in(row: usize, x: u64) -> i64
-    requires { ⌜ (row < 5) × (x < 2 ^ 32) ⌝ }
+    requires { ⌜ (row < 5) × (x < 2 ^ getD rows row noRow .width) ⌝ }
     ensures { λ r. ⌜ r ≡ reading (getD rows row noRow) x ⌝ }
 {
-    let y = x as i64;
-    if y <= HIGH[row] {
-        return y;
-    }
-    let size: u64 = 1 << WIDTH[row];
-    y - size as i64
+    let size = size_of(row);
+    let below = (size - 1) / 2;
+    let y = (x + below) % size;
+    y as i64 - below as i64
 }
 
-// The step whose code stands at the bit offset `at`: by the row of its first bits, if no row before that one holds it.
-fn get_step(body: &[u8], at: usize) -> GotStep
-    requires { ⌜ Within (now body) at ⌝ }
+// Whether the row before this one holds that number too.
+fn early(row: usize, x: u64) -> bool
+    requires { ⌜ (0 < row) × (row < 5) × (x < 2 ^ getD rows row noRow .width) ⌝ }
+    ensures { λ r. ⌜ r ≡ holds (getD rows (row - 1) noRow) (reading (getD rows row noRow) x) ⌝ }
+{
+    let size = size_of(row);
+    let before = size_of(row - 1);
+    (x + (before - 1) / 2) % size < before
+}
+
+// The step of more than one bit whose code stands at the bit offset `at`, at the top of w: by the row of its first bits, if the row
+// before that one does not hold it, and so no earlier one.
+fn get_long(body: &[u8], at: usize, w: u64) -> GotStep
+    requires { ⌜ Within (now body) at × (w / 2 ^ 28 ≡ numberOf 2 (take 36 (padded (drop at (bits (now body)))))) × (2 ^ 63 ≤ w) ⌝ }
     ensures { λ r. ⌜ StepFound (drop at (bits (now (body .entry)))) r ⌝ }
 {
-    let w = peek(body, at);
-    let top = (w >> 32) as usize;
-    let row = ROW[top];
-    let k = WIDTH[row];
-    let n = PREFIX_LEN[row] + k;
+    let top = (w >> 60) - 8;
+    let row = ((ROWS_BY >> (8 * top)) % 256) as usize;
+    let n = ((LENS_BY >> (8 * top)) % 256) as usize;
     if 8 * body.len() - at < n {
         return GotStep::Nothing;
     }
-    let z = reading_in(row, (w >> (36 - n)) % (1 << k));
-    if row_of(z) != row {
+    let x = (w >> (64 - n)) % size_of(row);
+    if early(row, x) {
         return GotStep::Nothing;
     }
+    let z = reading_in(row, x);
     GotStep::Step(z, n)
+}
+
+// The step whose code stands at the bit offset `at`: one bit, 0, for the step 0.
+fn get_step(body: &[u8], at: usize) -> GotStep
+    requires { ⌜ Within (now body) at × (128 ≤ at) ⌝ }
+    ensures { λ r. ⌜ StepFound (drop at (bits (now (body .entry)))) r ⌝ }
+{
+    if 8 * body.len() == at {
+        return GotStep::Nothing;
+    }
+    let w = peek(body, at);
+    if w < 9223372036854775808 {
+        return GotStep::Step(0, 1);
+    }
+    get_long(body, at, w)
 }
 
 // The position after a and b whose step is z. What z adds to b is compared with the room on either side, since the sum can leave 64 bits.
@@ -117,7 +148,7 @@ fn get_raw(body: &[u8], i: usize) -> GotPoint
 
 // The position of point i, which stands at the bit offset `at`, after the positions a and b.
 fn get_point(body: &[u8], at: usize, i: usize, a: u64, b: u64) -> GotPoint
-    requires { ⌜ Within (now body) at × (i < 2 → at ≡ 64 * i) × (a < 2 ^ 62) × (b < 2 ^ 62) ⌝ }
+    requires { ⌜ Within (now body) at × (i < 2 → at ≡ 64 * i) × (2 ≤ i → 128 ≤ at) × (a < 2 ^ 62) × (b < 2 ^ 62) ⌝ }
     ensures { λ r. ⌜ PointFound i a b (drop at (bits (now (body .entry)))) r ⌝ }
 {
     if i < 2 {

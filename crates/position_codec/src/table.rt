@@ -3,25 +3,28 @@ ghost use mathlib.Core.Bool.{true};
 ghost use mathlib.Core.Path.{_≡_};
 ghost use Prim.Native.Nat.{_^_, _≤_, _<_};
 ghost use lib.IntN.{natAbs};
+ghost use lib.ListN.{getD};
 ghost use lib.Signed.{leZ};
 ghost use Rattle.bits.specs.Compare.{both};
-ghost use Rattle.position_format.specs.Rows.{rows, inTable, residue};
+ghost use Rattle.position_format.specs.Rows.{rows, holds, inTable, residue};
 ghost use Rattle.position_format.specs.Steps.{stepOf};
-ghost use Rattle.position_format.proofs.Codes.{rowOf};
+ghost use Rattle.position_format.specs.Rows.{noRow, rowOf};
 ghost use Rattle.position_codec.specs.Codes.{Coded};
 
-// How many rows there are, and of each row the lowest and the highest step, the prefix, how many bits it has, and how many follow it.
-pub const ROWS: usize = 5;
+// How many rows there are, and of each row the lowest and the highest step.
+const ROWS: usize = 5;
 
-pub const LOW: [i64; 5] = [0, -63, -255, -2047, -2147483647];
+const LOW: [i64; 5] = [0, -63, -255, -2047, -2147483647];
 
-pub const HIGH: [i64; 5] = [0, 64, 256, 2048, 2147483648];
+const HIGH: [i64; 5] = [0, 64, 256, 2048, 2147483648];
 
-pub const PREFIX: [u64; 5] = [0, 2, 6, 14, 15];
+// Small tables as one word, a byte for each entry from the lowest on: an array would be put together anew wherever it is read.
+// By the row the prefix, how many bits it has, and how many follow it.
+const PREFIXES: u64 = 0x0f0e060200;
 
-pub const PREFIX_LEN: [usize; 5] = [1, 2, 3, 4, 4];
+const PREFIX_LENS: u64 = 0x0404030201;
 
-pub const WIDTH: [usize; 5] = [0, 7, 9, 12, 32];
+pub const WIDTHS: u64 = 0x200c090700;
 
 // A code: the lower len bits of word.
 pub struct Code {
@@ -44,18 +47,34 @@ pub fn within(z: i64, low: i64, high: i64) -> bool
     low <= z && z <= high
 }
 
+// Whether the row holds z.
+fn in_row(row: usize, z: i64) -> bool
+    requires { ⌜ row < 5 ⌝ }
+    ensures { λ r. ⌜ r ≡ holds (getD rows row noRow) z ⌝ }
+{
+    within(z, LOW[row], HIGH[row])
+}
+
 // The index of the first row that holds z; the number of rows where none does.
 pub fn row_of(z: i64) -> usize
     ensures { λ r. ⌜ r ≡ rowOf rows z ⌝ }
 {
-    let mut row = 0;
-    while row < ROWS {
-        if within(z, LOW[row], HIGH[row]) {
-            return row;
-        }
-        row += 1;
+    if in_row(0, z) {
+        return 0;
     }
-    row
+    if in_row(1, z) {
+        return 1;
+    }
+    if in_row(2, z) {
+        return 2;
+    }
+    if in_row(3, z) {
+        return 3;
+    }
+    if in_row(4, z) {
+        return 4;
+    }
+    ROWS
 }
 
 // Whether a row holds z.
@@ -73,18 +92,32 @@ fn modulo(z: i64, k: usize) -> u64
     ((z + 4294967296) as u64) % (1 << k)
 }
 
-// The code of z, which the table holds.
+// The code of z by the row, which is the first that holds it.
+fn code_in(row: usize, z: i64) -> Code
+    requires { ⌜ (inTable rows z ≡ true) × (rowOf rows z ≡ row) ⌝ }
+    ensures { λ r. ⌜ Coded (r .len) (r .word) z ⌝ }
+{
+    let k = ((WIDTHS >> (8 * row)) % 256) as usize;
+    let p = ((PREFIX_LENS >> (8 * row)) % 256) as usize;
+    let x = (PREFIXES >> (8 * row)) % 256;
+    let y = modulo(z, k);
+    Code {
+        len: p + k,
+        word: (x << k) + y,
+    }
+}
+
+// The code of z, which the table holds. Each row has a call of its own, whose numbers are then known.
 pub fn code_of(z: i64) -> Code
     requires { ⌜ inTable rows z ≡ true ⌝ }
     ensures { λ r. ⌜ Coded (r .len) (r .word) z ⌝ }
 {
     let row = row_of(z);
-    let k = WIDTH[row];
-    let p = PREFIX_LEN[row];
-    let x = PREFIX[row];
-    let y = modulo(z, k);
-    Code {
-        len: p + k,
-        word: (x << k) + y,
+    match row {
+        0 => code_in(0, z),
+        1 => code_in(1, z),
+        2 => code_in(2, z),
+        3 => code_in(3, z),
+        _ => code_in(4, z),
     }
 }

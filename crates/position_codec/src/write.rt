@@ -1,19 +1,20 @@
-// Positions written: the bits of one point after the other, then the fill.
+// Positions written: the bits of one point after the other, by way of a word that holds those that fill no eight bytes yet, then the fill.
 ghost use mathlib.Core.Bool.{true};
+ghost use mathlib.Core.List.{List, _++_};
 ghost use mathlib.Core.Path.{_≡_};
-ghost use Prim.Native.Nat.{_+_, _*_, _≤_, _<_};
-ghost use lib.ListN.{length, take, replicate};
-ghost use Rattle.bits.specs.Packing.{bits, fillOf};
-ghost use Rattle.bits.specs.Splice.{splice};
+ghost use Prim.Native.Nat.{ℕ, _+_, _^_, _≤_, _<_};
+ghost use lib.ListN.{length, take};
+ghost use Rattle.bits.specs.Below.{Below};
+ghost use Rattle.bits.specs.Digits.{bitsOf};
+ghost use Rattle.bits.specs.Packing.{pack};
 ghost use Rattle.bounds.specs.Outputs.{Placed};
 ghost use Rattle.bounds.specs.Points.{firstHigh};
-ghost use Rattle.bounds.specs.Tests.{over};
 ghost use Rattle.position_format.specs.Rows.{rows};
 ghost use Rattle.position_format.specs.Steps.{firstOutside};
 ghost use Rattle.position_format.specs.Positions.{positionBits, codedPositions, validPositions};
-ghost use Rattle.position_format.proofs.Parts.{stepHere};
-ghost use Rattle.position_codec.specs.Codes.{Coded, Point, pointBits};
-use crate::table::Code;
+ghost use Rattle.position_format.specs.Steps.{stepHere};
+ghost use Rattle.position_codec.specs.Codes.{Point};
+ghost use Rattle.position_codec.specs.Sinks.{Held, wordPut, Stored};
 use crate::table::code_of;
 use crate::table::in_table;
 use crate::table::step;
@@ -42,78 +43,108 @@ pub fn first_outside(positions: &[u64]) -> usize
     i
 }
 
-// Its code.
-fn code_at(positions: &[u64], i: usize) -> Code
-    requires { ⌜ (2 ≤ i) × Point (now positions) i ⌝ }
-    ensures { λ r. ⌜ Coded (r .len) (r .word) (stepHere (now (positions .entry)) i) ⌝ }
-{
-    code_of(step_at(positions, i))
+// Bits on their way into an output: whole bytes stand before `at`, and `held` has the `width` bits after them.
+pub struct Sink {
+    pub at: usize,
+    pub held: u64,
+    pub width: usize,
 }
 
-// How many bits point i takes.
-fn point_length(positions: &[u64], i: usize) -> usize
-    requires { ⌜ Point (now positions) i ⌝ }
-    ensures { λ r. ⌜ r ≡ length (pointBits (now (positions .entry)) i) ⌝ }
+// The eight bytes of x are written at `at`, if there is room for them.
+fn put_word(out: &mut [u8], at: usize, x: u64)
+    requires { ⌜ at ≤ 2 ^ 32 ⌝ }
+    ensures { λ _. ⌜ now (out .exit) ≡ wordPut (now (out .entry)) at x ⌝ }
 {
-    if i < 2 {
-        return 64;
+    if at + 8 <= out.len() {
+        bits::put_bytes(out, at, 8, x);
     }
-    let c = code_at(positions, i);
-    c.len
 }
 
-// How many bits all points take.
-fn bit_length(positions: &[u64]) -> usize
-    requires { ⌜ (validPositions rows (now positions) ≡ true) × (length (now positions) ≤ 4096) ⌝ }
-    ensures { λ r. ⌜ r ≡ length (positionBits rows (now (positions .entry))) ⌝ }
+// The n bits of w come after those of s: eight bytes are written when there are so many.
+fn lay(out: &mut [u8], s: Sink, n: usize, w: u64) -> Sink
+    requires { ⌜ (s .at ≤ 2 ^ 32) × (s .width < 64) × (s .held < 2 ^ s .width) × (n ≤ 36) × (w < 2 ^ n) ⌝ }
+    ensures { λ r. ⌜ ((ds : List ℕ) → Held ds (s .at) (s .held) (s .width) →
+        Held (ds ++ bitsOf n w) (r .at) (r .held) (r .width)
+        × ((o : List ℕ) → Stored o (now (out .entry)) ds (s .at) → Stored o (now (out .exit)) (ds ++ bitsOf n w) (r .at))) ⌝ }
 {
-    let mut n = 0;
-    let mut i = 0;
-    while i < positions.len() {
-        n += point_length(positions, i);
-        i += 1;
+    let at = s.at;
+    let held = s.held;
+    let width = s.width + n;
+    if width < 64 {
+        return Sink {
+            at,
+            held: (held << n) + w,
+            width,
+        };
     }
-    n
+    let more = width - 64;
+    put_word(out, at, (held << (n - more)) + (w >> more));
+    Sink {
+        at: at + 8,
+        held: w % (1 << more),
+        width: more,
+    }
 }
 
-// The bits of point i are written from the bit offset `at` on, where those of the points before it end. Returns the offset after them.
-fn put_point(positions: &[u64], i: usize, out: &mut [u8], at: usize) -> usize
-    requires { ⌜ Point (now positions) i × (at ≡ length (positionBits rows (take i (now positions)))) × (length (positionBits rows (now positions)) ≤ 8 * length (now out)) ⌝ }
-    ensures { λ r. ⌜ (r ≡ at + length (pointBits (now (positions .entry)) i))
-        × (bits (now (out .exit)) ≡ splice (bits (now (out .entry))) at (length (pointBits (now (positions .entry)) i)) (pointBits (now (positions .entry)) i)) ⌝ }
+// The bits of the first two points, or of so many as there are.
+fn put_first(positions: &[u64], out: &mut [u8]) -> Sink
+    ensures { λ r. ⌜ Held (positionBits rows (take 2 (now (positions .entry)))) (r .at) (r .held) (r .width)
+        × Stored (now (out .entry)) (now (out .exit)) (positionBits rows (take 2 (now (positions .entry)))) (r .at) ⌝ }
 {
-    if i < 2 {
-        bits::put_bytes(out, 8 * i, 8, positions[i]);
-        return at + 64;
+    let n = positions.len();
+    if n == 0 {
+        return Sink {
+            at: 0,
+            held: 0,
+            width: 0,
+        };
     }
-    let c = code_at(positions, i);
+    put_word(out, 0, positions[0]);
+    if n == 1 {
+        return Sink {
+            at: 8,
+            held: 0,
+            width: 0,
+        };
+    }
+    put_word(out, 8, positions[1]);
+    Sink {
+        at: 16,
+        held: 0,
+        width: 0,
+    }
+}
+
+// The bits of point i, from the third on, come after those of the points before it. The step 0 is the usual one, and its code one bit.
+fn put_point(positions: &[u64], i: usize, out: &mut [u8], s: Sink) -> Sink
+    requires { ⌜ (2 ≤ i) × Point (now positions) i × Held (positionBits rows (take i (now positions))) (s .at) (s .held) (s .width) ⌝ }
+    ensures { λ r. ⌜ Held (positionBits rows (take (i + 1) (now (positions .entry)))) (r .at) (r .held) (r .width)
+        × ((o : List ℕ) → Stored o (now (out .entry)) (positionBits rows (take i (now (positions .entry)))) (s .at)
+        → Stored o (now (out .exit)) (positionBits rows (take (i + 1) (now (positions .entry)))) (r .at)) ⌝ }
+{
+    let z = step_at(positions, i);
+    if z == 0 {
+        return lay(out, s, 1, 0);
+    }
+    let c = code_of(z);
     let n = c.len;
-    bits::put_bits(out, at, n, c.word);
-    at + n
+    lay(out, s, n, c.word)
 }
 
-// The bits of all points are written from the front on.
-fn put_points(positions: &[u64], out: &mut [u8])
-    requires { ⌜ (validPositions rows (now positions) ≡ true) × (length (now positions) ≤ 4096) × (length (positionBits rows (now positions)) ≤ 8 * length (now out)) ⌝ }
-    ensures { λ _. ⌜ bits (now (out .exit)) ≡ over (positionBits rows (now (positions .entry))) (bits (now (out .entry))) ⌝ }
+// The bits that are held come after those that are written, and 0 bits fill the last byte, if there is room.
+fn put_last(out: &mut [u8], s: Sink) -> Wrote
+    requires { ⌜ (s .at ≤ 2 ^ 32) × (s .width < 64) × (s .held < 2 ^ s .width) ⌝ }
+    ensures { λ r. ⌜ ((o ds : List ℕ) → Below 256 o → Below 2 ds → Held ds (s .at) (s .held) (s .width)
+        → Stored o (now (out .entry)) ds (s .at) → Placed (pack ds) r o (now (out .exit))) ⌝ }
 {
-    let mut p = 0;
-    let mut i = 0;
-    while i < positions.len() {
-        p = put_point(positions, i, out, p);
-        i += 1;
+    let at = s.at;
+    let width = s.width;
+    let n = (width + 7) / 8;
+    if out.len() < at + n {
+        return Wrote::NoRoom;
     }
-}
-
-// The bits from `at` to the end of its byte become 0.
-fn put_fill(out: &mut [u8], at: usize)
-    requires { ⌜ at ≤ 8 * length (now out) ⌝ }
-    ensures { λ _. ⌜ bits (now (out .exit)) ≡ splice (bits (now (out .entry))) at (fillOf at) (replicate (fillOf at) 0) ⌝ }
-{
-    let fill = (8 - at % 8) % 8;
-    if 0 < fill {
-        bits::put_bits(out, at, fill, 0);
-    }
+    bits::put_bytes(out, at, n, s.held << (8 * n - width));
+    Wrote::Done(at + n)
 }
 
 // The coding of the positions is written at the front of the output, whose rest stays, if there is room.
@@ -121,12 +152,11 @@ pub fn put_positions(positions: &[u64], out: &mut [u8]) -> Wrote
     requires { ⌜ (validPositions rows (now positions) ≡ true) × (length (now positions) ≤ 4096) ⌝ }
     ensures { λ r. ⌜ Placed (codedPositions rows (now (positions .entry))) r (now (out .entry)) (now (out .exit)) ⌝ }
 {
-    let n = bit_length(positions);
-    let size = (n + 7) / 8;
-    if out.len() < size {
-        return Wrote::NoRoom;
+    let mut s = put_first(positions, out);
+    let mut i = 2;
+    while i < positions.len() {
+        s = put_point(positions, i, out, s);
+        i += 1;
     }
-    put_points(positions, out);
-    put_fill(out, n);
-    Wrote::Done(size)
+    put_last(out, s)
 }

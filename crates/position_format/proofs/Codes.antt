@@ -6,7 +6,7 @@ use Prim.Native.Nat.{ℕ, zero, suc, _+_, _≤_, _<_}
 use native.Mathlib.Omega.{arith}
 use borrow.Author.Tests.{leb-true}
 use lib.Dec.{leb}
-use lib.IntN.{ℤ, pos}
+use lib.IntN.{ℤ}
 use lib.ListN.{length, getD, length-append}
 use Rattle.bits.specs.Below.{Below}
 use Rattle.bits.specs.Compare.{both}
@@ -16,15 +16,11 @@ use Rattle.bits.proofs.Compare.{both-true}
 use Rattle.bits.proofs.Digits.{two⁺, length-digits}
 use Rattle.bounds.specs.Lists.{firstIndex}
 use Rattle.bounds.proofs.Lists.{every, first-at, first-below}
-use Rattle.position_format.specs.Rows.{Row, row, rows, holds, inTable, residue, codeIn, code}
+use Rattle.position_format.specs.Rows.{Row, rows, holds, inTable, residue, codeIn, code, rowOf, noRow}
 use Rattle.position_format.proofs.Lists.{every-at}
 use Rattle.position_format.proofs.Rows.{goodTable, good-bits}
 
 -- ---- the first row that holds a step
-
--- its index, from 0; the number of rows where none does
-abbrev pub rowOf : List Row → ℤ → ℕ
-rowOf rs z = firstIndex (λ (r : Row). holds r z) rs
 
 found : (t b : Bool) (m n : ℕ) → (b ≡ true → m < n) → cond t true b ≡ true → cond t zero (suc m) < suc n
 found true b m n f e = omega arith
@@ -74,10 +70,6 @@ module _ (d : Row) (z : ℤ) where
   length-lead rs e = ap length (code-lead rs e) ∙ length-in (getD rs (rowOf rs z) d)
 
 -- ---- its bits
-
--- what stands past the end of a table, for laws that name no such row
-abbrev pub noRow : Row
-noRow = row [] 0 (pos 0) (pos 0)
 
 -- each is 0 or 1
 pub code-below : (rs : List Row) → goodTable rs ≡ true → (z : ℤ) → inTable rs z ≡ true → Below 2 (code rs z)

@@ -12,7 +12,7 @@ use lib.Seq.{take-suc, getD-take, length-take-le}
 use Rattle.bits.specs.Digits.{bitsOf}
 use Rattle.bounds.specs.Points.{maxPosition, tooHigh}
 use Rattle.position_format.specs.Rows.{Row, inTable, code}
-use Rattle.position_format.specs.Steps.{stepOf, stepsFrom, steps, outside}
+use Rattle.position_format.specs.Steps.{stepOf, stepsFrom, steps, outside, stepHere}
 use Rattle.position_format.specs.Positions.{stepBits, positionBits, validPositions}
 use Rattle.position_format.proofs.Lists.{none-snoc}
 use Rattle.position_format.proofs.Valid.{take-from, valid-parts, valid-of, valid-step}
@@ -87,10 +87,6 @@ module _ (rs : List Row) where
       (rw (steps-snoc ts t h) (none-snoc (outside rs) (steps ts) (stepNext ts t) (p .1) (ap not e)))
 
 -- ---- the position of index i
-
--- the step at it
-abbrev pub stepHere : List ℕ → ℕ → ℤ
-stepHere ts i = stepOf (getD ts (i - 2) 0) (getD ts (i - 1) 0) (getD ts i 0)
 
 module _ (ts : List ℕ) (i : ℕ) (two : 2 ≤ i) (here : i < length ts) where
   len : length (take i ts) ≡ i

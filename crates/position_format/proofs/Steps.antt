@@ -13,12 +13,12 @@ use Rattle.bits.specs.Digits.{bitsOf, numberOf}
 use Rattle.bits.proofs.Below.{below-take, below-drop}
 use Rattle.bits.proofs.Compare.{begins-own, begins-rest}
 use Rattle.bits.proofs.Digits.{two⁺, length-digits, number-lt, number-digits-lt, digits-number}
-use Rattle.position_format.specs.Rows.{Row, holds, inTable, residue, reading, codeIn, code}
+use Rattle.position_format.specs.Rows.{Row, holds, inTable, residue, reading, codeIn, code, noRow, rowOf}
 use Rattle.position_format.specs.Positions.{Taken, stepAt}
 use Rattle.position_format.proofs.Lists.{every-at}
 use Rattle.position_format.proofs.Prefixes.{apart-not, begins-take}
 use Rattle.position_format.proofs.Rows.{goodTable, full, apart, good-cons, good-full, residue-lt, reading-residue, reading-held, residue-reading}
-use Rattle.position_format.proofs.Codes.{noRow, rowOf, in-first, first-in, row-holds, code-lead, length-lead}
+use Rattle.position_format.proofs.Codes.{in-first, first-in, row-holds, code-lead, length-lead}
 
 -- a step and the bits after it
 abbrev pub taken : ℤ → List ℕ → Taken

@@ -15,18 +15,18 @@ use Rattle.bits.specs.Packing.{bits, fillOf, pack}
 use Rattle.bits.proofs.Below.{below-drop}
 use Rattle.bits.proofs.Packing.{length-bits, below-bits, pack-is}
 use Rattle.bounds.specs.Points.{maxPosition}
-use Rattle.position_format.specs.Rows.{Row, inTable, reading, code}
-use Rattle.position_format.specs.Steps.{stepsFrom, steps}
+use Rattle.position_format.specs.Rows.{Row, inTable, reading, code, rowOf}
+use Rattle.position_format.specs.Steps.{stepsFrom, steps, stepHere}
 use Rattle.position_format.specs.Positions.{after, stepBits, positionBits, codedPositions, validPositions, readPositions}
 use Rattle.position_format.proofs.Integers.{after-step}
 use Rattle.position_format.proofs.Rows.{goodTable}
-use Rattle.position_format.proofs.Codes.{rowOf, in-first}
+use Rattle.position_format.proofs.Codes.{in-first}
 use Rattle.position_format.proofs.Steps.{code-begins, front-row, front-step, front-enough, front-table, front-code}
 use Rattle.position_format.proofs.Valid.{valid-parts, valid-low, valid-none, valid-one, valid-two}
 use Rattle.position_format.proofs.Raw.{raw-one, raw-bits, coded-none, coded-one, coded-front}
 use Rattle.position_format.proofs.Positions.{steps-below, bits-coded, read-some, read-none}
 use Rattle.position_format.proofs.Sizes.{length-raw}
-use Rattle.position_format.proofs.Parts.{stepNext, stepHere, bits-snoc, valid-snoc, bits-more, valid-here, bits-split, take-more, next-here}
+use Rattle.position_format.proofs.Parts.{stepNext, bits-snoc, valid-snoc, bits-more, valid-here, bits-split, take-more, next-here}
 
 -- the body is the coding of the n positions ts
 pub record Coding (rs : List Row) (n : ℕ) (body ts : List ℕ) : Type 0 where

@@ -7,6 +7,7 @@
 --   residue k z     z modulo 2 ^ k
 --   codeIn r z      the code of z by the row r: the prefix, then z modulo 2 ^ width
 --   code rs z       the code of z by the first row that holds it
+--   rowOf rs z      the index of the first row that holds z
 --   reading r x     the one number inside the row's range that is x modulo 2 ^ width, of a row that holds 2 ^ width numbers, 0 among them
 -- The definitions that go by a table take it as an argument, and their laws are proved of every table that passes one computed test: no
 -- prefix begins another, and each row holds 2 ^ width numbers, 0 among them (proofs/Rows, goodTable).
@@ -17,6 +18,7 @@ use lib.IntN.{ℤ, pos, negsuc, negℤ, _-ℤ_}
 use lib.Signed.{leZ}
 use Rattle.bits.specs.Compare.{both}
 use Rattle.bits.specs.Digits.{bitsOf}
+use Rattle.bounds.specs.Lists.{firstIndex}
 
 -- a row of the table
 pub record Row : Type 0 where
@@ -69,3 +71,11 @@ code (r ∷ rs) z = cond (holds r z) (codeIn r z) (code rs z)
 -- the number of a row's range that its bits x stand for
 abbrev pub reading : Row → ℕ → ℤ
 reading r x = cond (leZ (pos x) (r .high)) (pos x) (pos x -ℤ pos (2 ^ r .width))
+
+-- the index of the first row that holds z, from 0; the number of rows where none does
+abbrev pub rowOf : List Row → ℤ → ℕ
+rowOf rs z = firstIndex (λ (r : Row). holds r z) rs
+
+-- a row that stands for one past the table
+abbrev pub noRow : Row
+noRow = row [] 0 (pos 0) (pos 0)

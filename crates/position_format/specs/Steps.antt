@@ -2,13 +2,15 @@
 --   stepOf a b t        the step at a point t after the points a and b: (t - b) - (b - a), exactly
 --   stepsFrom a b ts    the steps at the points ts after the points a and b
 --   steps ts            the steps of a list of positions, from the third on
+--   stepHere ts i       the step at the point of index i
 --   outside rs z        the table does not hold the step z
 --   firstOutside rs ts  the index of the first point whose step the table does not hold; where there is none, the number of positions, or 2
 --                       for fewer than two
 use mathlib.Core.Bool.{Bool, not}
 use mathlib.Core.List.{List, [], _∷_}
-use Prim.Native.Nat.{ℕ, _+_}
+use Prim.Native.Nat.{ℕ, _+_, _-_}
 use lib.IntN.{ℤ, pos, _-ℤ_}
+use lib.ListN.{getD}
 use Rattle.bounds.specs.Lists.{firstIndex}
 use Rattle.position_format.specs.Rows.{Row, inTable}
 
@@ -34,3 +36,7 @@ outside rs z = not (inTable rs z)
 -- the index among the points, which is two more than among the steps
 abbrev pub firstOutside : List Row → List ℕ → ℕ
 firstOutside rs ts = firstIndex (outside rs) (steps ts) + 2
+
+-- the step at the point of index i, from the third on
+abbrev pub stepHere : List ℕ → ℕ → ℤ
+stepHere ts i = stepOf (getD ts (i - 2) 0) (getD ts (i - 1) 0) (getD ts i 0)

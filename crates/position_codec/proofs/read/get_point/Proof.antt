@@ -36,7 +36,7 @@ returns c =
     subst (λ (n : ℕ). PointFound (a .i) (a .a) (a .b) (drop n (bits (a .body .now))) (c .get-raw .result)) (sym (s .pre .1 (c .before .if1 .taken))) (c .get-raw .ensures (a .a) (a .b))
 
 get-step-requires : tie.Need-get-step-requires
-get-step-requires c κs = search needs
+get-step-requires c κs = let p = c .before .before .pre in (p .0, p .2 (c .if1 .left))
 
 enum-known-z : tie.Need-enum-known-z
 enum-known-z c = search needs
@@ -68,7 +68,7 @@ back c = toZ-ofZ w64 (step c) (abs-fits (step c) (omega (arith, step-abs (step c
 next-position-requires : tie.Need-next-position-requires
 next-position-requires c κs =
     let p = c .before .before .before .before .before .before .pre in
-    (p .2, p .3, rw (back c) (step-abs (step c) (found c .0)))
+    (p .3, p .4, rw (back c) (step-abs (step c) (found c .0)))
 
 enum-known-t : tie.Need-enum-known-t
 enum-known-t c = search needs

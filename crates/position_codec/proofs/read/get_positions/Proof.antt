@@ -16,7 +16,7 @@ use Rattle.position_format.specs.Positions.{readPositions}
 use Rattle.position_codec.specs.declared.read.GotPoint.{GotPoint}
 use Rattle.position_codec.specs.Codes.{nextBits}
 use Rattle.position_codec.specs.Found.{Within, Stands, PointFound}
-use Rattle.position_codec.proofs.Reading.{State, read-long, read-inside, state-start, state-raw, state-none, state-more, state-end}
+use Rattle.position_codec.proofs.Reading.{State, read-long, read-inside, state-start, state-raw, state-far, state-none, state-more, state-end}
 use Rattle.position_codec.proofs.read.get_positions.Statement.{statement}
 use Rattle.position_codec.proofs.read.get_positions.Tie as tie
 
@@ -48,7 +48,7 @@ get-point-requires : tie.Need-get-point-requires Inv-loop μ-loop
 get-point-requires c κs =
     let s = c .before .before .before .before .before in
     let l = c .before .loop in
-    (inside (c .before), state-raw (s .args .count) (s .args .body .now) (s .args .out .now) (s .pre .0) (l .out) (l .at) (l .a) (l .b) (l .i) (l .inv), l .inv .a-small, l .inv .b-small)
+    (inside (c .before), state-raw (s .args .count) (s .args .body .now) (s .args .out .now) (s .pre .0) (l .out) (l .at) (l .a) (l .b) (l .i) (l .inv), state-far (s .args .count) (s .args .body .now) (s .args .out .now) (s .pre .0) (l .out) (l .at) (l .a) (l .b) (l .i) (l .inv), l .inv .a-small, l .inv .b-small)
 
 enum-known-t : tie.Need-enum-known-t Inv-loop μ-loop
 enum-known-t c = search needs

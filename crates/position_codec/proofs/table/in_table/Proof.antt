@@ -5,8 +5,7 @@ use borrow.Author.Needs.{needs}
 use lib.Dec.{ltb}
 use mir.Syntax.{w64}
 use mir.ValLaws.{toZ-ofZ}
-use Rattle.position_format.specs.Rows.{rows}
-use Rattle.position_format.proofs.Codes.{rowOf}
+use Rattle.position_format.specs.Rows.{rows, rowOf}
 use Rattle.position_codec.proofs.Tables.{in-test}
 use Rattle.position_codec.proofs.table.in_table.Statement.{statement}
 use Rattle.position_codec.proofs.table.in_table.Tie as tie

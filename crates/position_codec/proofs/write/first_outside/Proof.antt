@@ -8,8 +8,7 @@ use lib.ListN.{length}
 use mir.Syntax.{w64}
 use mir.ValLaws.{toZ-ofZ}
 use Rattle.position_format.specs.Rows.{rows, inTable}
-use Rattle.position_format.specs.Steps.{firstOutside}
-use Rattle.position_format.proofs.Parts.{stepHere}
+use Rattle.position_format.specs.Steps.{firstOutside, stepHere}
 use Rattle.position_codec.proofs.Points.{outside-here, outside-later, outside-none}
 use Rattle.position_codec.proofs.write.first_outside.Statement.{statement}
 use Rattle.position_codec.proofs.write.first_outside.Tie as tie

@@ -1,99 +1,93 @@
--- `put_point` meets its contract: eight bytes, or the step's code as one word.
-use mathlib.Core.Path.{_≡_, sym, ap, _∙_}
-use Prim.Native.Nat.{ℕ, _+_, _*_, _≤_, _<_}
+-- `put_point` meets its contract: the bits laid are the code of the step.
+use mathlib.Core.Path.{_≡_, sym, ap, _∙_, subst}
+use Prim.Native.Nat.{_^_, _≤_, _<_}
 use native.Mathlib.Omega.{arith}
+use lib.IntN.{ℤ, pos}
+use lib.ListN.{take}
+use mir.Syntax.{w64}
+use mir.Val.{toZ, ofZ}
+use mir.ValLaws.{toZ-ofZ}
+use Rattle.position_format.specs.Rows.{rows, inTable}
+use Rattle.position_format.specs.Positions.{positionBits}
+use Rattle.position_format.proofs.Valid.{valid-parts}
+use Rattle.position_format.specs.Steps.{stepHere}
+use Rattle.position_format.proofs.Parts.{valid-here}
+use Rattle.position_codec.specs.Codes.{Coded}
+use Rattle.position_codec.proofs.Points.{place-le, step-more, zero-coded}
 use borrow.Author.Needs.{needs}
-use lib.ListN.{length, getD}
-use Rattle.bits.specs.Digits.{bitsOf}
-use Rattle.bits.specs.Packing.{bits}
-use Rattle.bits.specs.Splice.{splice}
-use Rattle.position_codec.specs.Codes.{pointBits}
-use Rattle.position_codec.proofs.Laid.{bytes-laid}
-use Rattle.position_codec.proofs.Points.{length-raw, length-step, put-raw, put-step, place-raw, place-room, place-le}
 use Rattle.position_codec.proofs.write.put_point.Statement.{statement}
 use Rattle.position_codec.proofs.write.put_point.Tie as tie
 
--- there is room for the point, and its offset is small
-room : (s : tie.Start) → (s .args .at + length (pointBits (s .args .positions .now) (s .args .i)) ≤ 8 * length (s .args .out .now)) × (s .args .at ≤ 64 * 4096)
-room s =
-    let ts = s .args .positions .now in
-    let p = s .pre .0 in
-    (omega (arith, place-room ts (s .args .i) (p .here)), omega (arith, place-le ts (p .valid) (s .args .i) (omega arith)))
+step-at-requires : tie.Need-step-at-requires
+step-at-requires c κs =
+    let p = c .before .before .pre in
+    (p .0, p .1 .here, omega (arith, valid-parts rows (c .before .before .args .positions .now) (p .1 .valid) .0))
 
-mul-put-bytes : tie.Need-mul-put-bytes
-mul-put-bytes c = search needs
+-- what is held before the point
+ready : (s : tie.Start) → (s .args .s .at ≤ 2 ^ 32) × (s .args .s .width < 64) × (s .args .s .held < 2 ^ s .args .s .width)
+ready s =
+    let p = s .pre .1 in
+    let h = s .pre .2 in
+    (omega (arith, h .size, p .many, p .here, place-le (s .args .positions .now) (p .valid) (s .args .i) (omega (arith, p .here))), h .small, h .fits)
 
-mul-put-bytes-2 : tie.Need-mul-put-bytes-2
-mul-put-bytes-2 c = search needs
+-- the step, read back from its bits
+step-is : (c : tie.After-step-at) → toZ w64 (ofZ w64 (c .step-at .result)) ≡ stepHere (c .before .before .before .args .positions .now) (c .before .before .before .args .i)
+step-is c = toZ-ofZ w64 (c .step-at .result) (record { sfits = c .step-at .ok }) ∙ c .step-at .ensures
 
-shared-slice-read-put-bytes : tie.Need-shared-slice-read-put-bytes
-shared-slice-read-put-bytes c = search needs
-
--- the offset of one of the first two points is that of a byte
-raw-at : (s : tie.Start) → s .args .i < 2 → s .args .at ≡ 8 * (8 * s .args .i)
-raw-at s h = s .pre .1 ∙ omega (arith, place-raw (s .args .positions .now) (s .args .i) h (s .pre .0 .here))
-
-put-bytes-requires : tie.Need-put-bytes-requires
-put-bytes-requires c κs =
-    let s = c .before .before .before .before .before in
-    let h = c .before .before .if1 .taken in
-    omega (arith, room s .0, raw-at s h, length-raw (s .args .positions .now) (s .args .i) h)
-
-add-result : tie.Need-add-result
-add-result c = omega (arith, room (c .before .before .before .before .before .before .before .before) .1)
+lay-requires : tie.Need-lay-requires
+lay-requires c κs =
+    let r = ready (c .before .before .before .before .before) in
+    (r .0, r .1, r .2, omega arith, omega arith)
 
 same-length : tie.Need-same-length
 same-length c = search needs
 
+-- the test is whether it is 0
+zero : (c : tie.Then1) → pos 0 ≡ stepHere (c .before .before .before .before .args .positions .now) (c .before .before .before .before .args .i)
+zero c = sym (ap (toZ w64) (c .if1 .taken)) ∙ step-is (c .before)
+
 returns : tie.Need-returns
 returns c =
-    let s = c .before .before .before .before .before .before .before .before in
-    let h = c .before .before .before .before .before .if1 .taken in
-    let a = s .args in
-    let x = getD (a .positions .now) (a .i) 0 in
-    let o = bits (a .out .now) in
-    put-raw (a .positions .now) (a .i) o (bits (c .before .before .put-bytes .last .0)) (a .at) h
-    (ap bits (c .before .before .put-bytes .ensures)
-    ∙ bytes-laid (a .out .now) (8 * a .i) 8 x (omega (arith, room s .0, raw-at s h, length-raw (a .positions .now) (a .i) h))
-    ∙ ap (λ (m : ℕ). splice o m 64 (bitsOf 64 x)) (sym (raw-at s h)))
+    let k = c .before .before .before .before in
+    let s = k .before .before .before .before in
+    let ts = s .args .positions .now in
+    let i = s .args .i in
+    rw (step-more ts i (s .pre .0) (s .pre .1 .here) 1 0 (subst (λ (z : ℤ). Coded 1 0 z) (zero k) zero-coded))
+    (c .before .before .lay .ensures (positionBits rows (take i ts)) (s .pre .2))
 
-code-at-requires : tie.Need-code-at-requires
-code-at-requires c κs = search needs
+code-of-requires : tie.Need-code-of-requires
+code-of-requires c κs =
+    let s = c .before .before .before .before in
+    ap (inTable rows) (step-is (c .before)) ∙ valid-here (s .args .positions .now) (s .args .i) (s .pre .0) (s .pre .1 .here) rows (s .pre .1 .valid)
 
-put-bits-requires : tie.Need-put-bits-requires
-put-bits-requires c κs =
-    let s = c .before .before .before .before .before in
-    let r = c .before .code-at .result in
-    let e = c .before .code-at .ensures in
-    let n = length-step (s .args .positions .now) (s .args .i) (c .before .before .if1 .left) (r .len) (r .word) e in
-    (e .some, omega (arith, e .few), e .fits, omega (arith, room s .0))
-
-add-result-2 : tie.Need-add-result-2
-add-result-2 c = omega (arith, room (c .before .before .before .before .before .before .before .before) .1, c .before .before .before .before .code-at .ensures .few)
+lay-requires-2 : tie.Need-lay-requires-2
+lay-requires-2 c κs =
+    let r = ready (c .before .before .before .before .before .before) in
+    let e = c .before .code-of .ensures in
+    (r .0, r .1, r .2, e .few, e .fits)
 
 same-length-2 : tie.Need-same-length-2
 same-length-2 c = search needs
 
 returns-2 : tie.Need-returns-2
 returns-2 c =
-    let a = c .before .before .before .before .before .before .before .before .args in
-    let k = c .before .before .before .before .code-at in
-    let p = c .before .before .put-bits in
-    put-step (a .positions .now) (a .i) (bits (a .out .now)) (bits (p .last .0)) (a .at) (c .before .before .before .before .before .if1 .left) (k .result .len) (k .result .word) (k .ensures) (p .ensures)
+    let k = c .before .before .before .before in
+    let s = k .before .before .before .before .before in
+    let ts = s .args .positions .now in
+    let i = s .args .i in
+    let g = k .code-of in
+    rw (step-more ts i (s .pre .0) (s .pre .1 .here) (g .result .len) (g .result .word) (subst (λ (z : ℤ). Coded (g .result .len) (g .result .word) z) (step-is (k .before .before)) (g .ensures)))
+    (c .before .before .lay2 .ensures (positionBits rows (take i ts)) (s .pre .2))
 
 pub put-point-spec : {M : Type 1} → statement M
 put-point-spec =
     tie.close
     (tie.spec
-    mul-put-bytes
-    mul-put-bytes-2
-    shared-slice-read-put-bytes
-    put-bytes-requires
-    add-result
+    step-at-requires
+    lay-requires
     same-length
     returns
-    code-at-requires
-    put-bits-requires
-    add-result-2
+    code-of-requires
+    lay-requires-2
     same-length-2
     returns-2)

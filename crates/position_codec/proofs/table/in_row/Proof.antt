@@ -1,0 +1,40 @@
+-- `in_row` meets its contract: the tables hold the ends of the row's range.
+use mathlib.Core.Path.{ap, _∙_}
+use borrow.Author.Needs.{needs}
+use mir.Syntax.{w64}
+use mir.ValLaws.{toZ-ofZ}
+use Rattle.position_format.specs.Rows.{holds}
+use Rattle.position_codec.proofs.Tables.{rowAt, range-row}
+use Rattle.position_codec.proofs.table.in_row.Statement.{statement}
+use Rattle.position_codec.proofs.table.in_row.Tie as tie
+
+mul-within : tie.Need-mul-within
+mul-within c = search needs
+
+array-copy-out-within : tie.Need-array-copy-out-within
+array-copy-out-within c = search needs
+
+mul-within-2 : tie.Need-mul-within-2
+mul-within-2 c = search needs
+
+array-copy-out-within-2 : tie.Need-array-copy-out-within-2
+array-copy-out-within-2 c = search needs
+
+within-requires : tie.Need-within-requires
+within-requires c κs = search needs
+
+returns : tie.Need-returns
+returns c =
+    let s = c .before .before .before in
+    c .within .ensures ∙ range-row _ (s .args .row) (s .pre) ∙ ap (holds (rowAt (s .args .row))) (toZ-ofZ w64 (s .args .z) (s .fits .z))
+
+pub in-row-spec : {M : Type 1} → statement M
+in-row-spec =
+    tie.close
+    (tie.spec
+    mul-within
+    array-copy-out-within
+    mul-within-2
+    array-copy-out-within-2
+    within-requires
+    returns)

@@ -3,7 +3,8 @@
 //!
 //! Usage: bench [samples]
 //!
-//! Live addition is set beside a straightforward one that takes and returns its state by value.
+//! Live addition and stepping are set beside straightforward ones that take and return their
+//! state by value. At the end stand the targets that were not met.
 //!
 //! Each sample of the library is timed between two of the straightforward implementation. A
 //! ratio says how many times as fast the library is as the mean of these two; printed are
@@ -16,7 +17,7 @@ mod answers;
 mod library;
 mod plain;
 
-use answers::{Live, Reading, Written};
+use answers::{Cursor, Live, Making, Reading, Stepped, Written};
 use std::hint::black_box;
 
 const POINTS: usize = 4_096;
@@ -156,6 +157,8 @@ struct Calls {
     read_open: fn(u32, &[u8], &mut [u64], &mut [u64]) -> Reading,
     live_new: fn() -> Live,
     live_add: fn(&mut Live, u64, &mut [u8]) -> Written,
+    cursor_new: fn(u64) -> Making,
+    step: fn(&[u8], Cursor) -> Stepped,
 }
 
 const LIBRARY: Calls = Calls {
@@ -164,6 +167,8 @@ const LIBRARY: Calls = Calls {
     read_open: library::read_open,
     live_new: library::live_new,
     live_add: library::live_add,
+    cursor_new: library::cursor_new,
+    step: library::step,
 };
 
 const PLAIN: Calls = Calls {
@@ -172,6 +177,8 @@ const PLAIN: Calls = Calls {
     read_open: plain::read_open,
     live_new: plain::live_new,
     live_add: plain::live_add_by_value,
+    cursor_new: plain::cursor_new,
+    step: plain::step,
 };
 
 #[derive(Clone, Copy, PartialEq)]
@@ -180,6 +187,7 @@ enum Call {
     Strict,
     Open,
     Live,
+    Step,
 }
 
 fn name(call: Call) -> &'static str {
@@ -188,10 +196,17 @@ fn name(call: Call) -> &'static str {
         Call::Strict => "strict read",
         Call::Open => "open read",
         Call::Live => "live addition",
+        Call::Step => "step",
     }
 }
 
-/// Does one call on a run, or for live coding one addition for each of its ratios.
+/// The body of field 4 of a record.
+fn ratios_body(record: &[u8]) -> &[u8] {
+    let field = 15 + usize::from(u16::from_be_bytes([record[13], record[14]]));
+    &record[field + 3..]
+}
+
+/// Does one call on a run, or one addition or step for each of its ratios.
 fn work(calls: &Calls, call: Call, run: &Run, out: &mut Output) {
     match call {
         Call::Write => {
@@ -216,6 +231,16 @@ fn work(calls: &Calls, call: Call, run: &Run, out: &mut Output) {
             }
             assert_eq!(state.seen, run.ratios.len() as u64);
         }
+        Call::Step => {
+            let body = ratios_body(&run.record);
+            let mut cursor = (calls.cursor_new)(run.ratios.len() as u64).cursor;
+            for ratio in &mut out.ratios[..run.ratios.len()] {
+                let step = (calls.step)(body, cursor);
+                *ratio = step.ratio;
+                cursor = step.next;
+            }
+            assert_eq!(cursor.place, body.len() as u64);
+        }
     }
 }
 
@@ -229,10 +254,8 @@ fn check(calls: &Calls, call: Call, run: &Run, out: &mut Output) {
         Call::Strict | Call::Open => {
             out.positions.starts_with(run.positions) && out.ratios.starts_with(run.ratios)
         }
-        Call::Live => {
-            let field = 15 + usize::from(u16::from_be_bytes([record[13], record[14]]));
-            out.bytes.starts_with(&record[field + 3..])
-        }
+        Call::Live => out.bytes.starts_with(ratios_body(record)),
+        Call::Step => out.ratios.starts_with(run.ratios),
     };
     assert!(same, "{} differs on a run of {count} points", name(call));
 }
@@ -334,12 +357,31 @@ fn measure(call: Call, runs: &[Run], samples: usize) -> Cell {
     }
 }
 
-fn table(call: Call, length: usize, samples: usize) {
+/// The least ratio that is wanted of a call on runs of a length: on one of the kinds, where the
+/// straightforward implementation does so many MB/s.
+fn target(call: Call, length: usize, kind: usize, plain: f64) -> f64 {
+    match call {
+        _ if length == SHORT => 1.0 / 3.0,
+        Call::Write | Call::Strict => match kind {
+            2..=5 | 8 => 3.0,
+            6 | 7 => 2.0,
+            _ if plain > 1000.0 => 0.5,
+            _ => 1.0,
+        },
+        Call::Open if matches!(kind, 3 | 5 | 7) => 1.5,
+        Call::Open => 0.9,
+        Call::Live | Call::Step => 1.0,
+    }
+}
+
+/// Prints the table of a call, and answers how each target that is not met was missed.
+fn table(call: Call, length: usize, samples: usize) -> Vec<String> {
+    let mut missed = Vec::new();
     println!("\n{}, {length} points", name(call));
     print!("{:24}", "MB/s");
-    // Live additions take no positions.
+    // Live additions and steps take no positions.
     let steps: &[&str] = match call {
-        Call::Live => &[""],
+        Call::Live | Call::Step => &[""],
         _ => &["regular", "irregular"],
     };
     for steps in steps {
@@ -356,6 +398,14 @@ fn table(call: Call, length: usize, samples: usize) {
             print!(" | {:14.0} {:7.0}", cell.copy, cell.plain);
             print!(" {:7.0} {:7.2}", cell.library, cell.ratio);
             all_ratios.push(cell.ratio);
+            let wanted = target(call, length, kind, cell.plain);
+            if cell.ratio < wanted {
+                missed.push(format!(
+                    "{} of {length} points, {name}, {steps}: {:.2} and not {wanted:.2}",
+                    self::name(call),
+                    cell.ratio
+                ));
+            }
         }
         println!();
     }
@@ -364,6 +414,21 @@ fn table(call: Call, length: usize, samples: usize) {
         print!(" | {:38.2}", median(ratios));
     }
     println!();
+    missed
+}
+
+/// Prints what a point costs in runs of several lengths.
+fn growth(samples: usize) {
+    println!("\nlibrary, two sines, irregular steps: ns a point by the number of points");
+    let (positions, ratios) = (positions(false), ratios(3));
+    for call in [Call::Write, Call::Strict, Call::Open] {
+        print!("{:24}", name(call));
+        for length in [256, 1_024, POINTS] {
+            let cell = measure(call, &runs(&positions, &ratios, length), samples);
+            print!(" | {length:5}: {:7.1}", 8_000.0 / cell.library);
+        }
+        println!();
+    }
 }
 
 fn main() {
@@ -377,9 +442,21 @@ fn main() {
     };
     println!("copy: the positions and ratios (live: ratios) copied; plain: straightforward");
     println!("ratio: how many times as fast as plain the library is; medians of {samples} samples");
+    let mut missed = Vec::new();
     for length in [POINTS, SHORT] {
-        for call in [Call::Write, Call::Strict, Call::Open, Call::Live] {
-            table(call, length, samples);
+        for call in [
+            Call::Write,
+            Call::Strict,
+            Call::Open,
+            Call::Live,
+            Call::Step,
+        ] {
+            missed.extend(table(call, length, samples));
         }
+    }
+    growth(samples);
+    println!("\ntargets not met: {}", missed.len());
+    for line in missed {
+        println!("{line}");
     }
 }

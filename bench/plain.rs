@@ -1,10 +1,10 @@
-//! A straightforward implementation of writing, reading and live addition, to be timed beside
-//! the library. It scans the window newest first, stops at an equal ratio, and takes both counts
+//! A straightforward implementation of writing, reading, live addition and stepping, to be timed
+//! beside the library. It scans the window newest first, stops at an equal ratio, and takes both counts
 //! at each entry; the run's own slice is the window. Its calls are not inlined, since those of
 //! the library cannot be.
 
 use crate::answers::WINDOW;
-use crate::answers::{Live, Reading, Written};
+use crate::answers::{Cursor, Live, Making, Reading, Stepped, Written};
 
 const RATES: [u32; 6] = [44_100, 48_000, 88_200, 96_000, 176_400, 192_000];
 const MOST_POINTS: usize = 4_096;
@@ -24,6 +24,7 @@ enum Form {
 }
 
 /// The form to write for a ratio: a place, or a place with the trailing count and the length.
+#[inline(always)]
 fn choose(window: &[u64], ratio: u64) -> Form {
     let mut best = Form::Exception;
     let mut best_sum = 1;
@@ -43,6 +44,7 @@ fn choose(window: &[u64], ratio: u64) -> Form {
 }
 
 /// Writes a ratio's form and answers its length, or nothing where there is no room.
+#[inline(always)]
 fn put_ratio(window: &[u64], ratio: u64, out: &mut [u8]) -> Option<usize> {
     match choose(window, ratio) {
         Form::Reference(place) => {
@@ -68,6 +70,7 @@ fn put_ratio(window: &[u64], ratio: u64, out: &mut [u8]) -> Option<usize> {
 }
 
 /// Reads one form: the ratio and the form's length.
+#[inline(always)]
 fn take_ratio(window: &[u64], bytes: &[u8], strict: bool) -> Option<(u64, usize)> {
     let first = *bytes.first()?;
     if first == 255 {
@@ -280,6 +283,7 @@ fn body(record: &[u8], at: usize, tag: u8, length: Option<usize>) -> Result<&[u8
     rest.get(..stated).ok_or((10, at))
 }
 
+#[inline(always)]
 fn try_read(
     expected: u32,
     record: &[u8],
@@ -319,6 +323,7 @@ fn try_read(
     Ok((rate, count, field + 3 + at))
 }
 
+#[inline(always)]
 fn read(
     expected: u32,
     record: &[u8],
@@ -415,4 +420,64 @@ pub fn live_add_by_value(state: &mut Live, ratio: u64, out: &mut [u8]) -> Writte
     let (answer, next) = live_added(*state, ratio, out);
     *state = next;
     answer
+}
+
+// Stepping
+
+#[inline(never)]
+pub fn cursor_new(count: u64) -> Making {
+    let refused = count > MOST_POINTS as u64;
+    Making {
+        number: if refused { 15 } else { 0 },
+        place: 0,
+        cursor: Cursor {
+            place: 0,
+            count: if refused { 0 } else { count },
+            seen: 0,
+            ratios: [0; WINDOW],
+            fill: 0,
+        },
+    }
+}
+
+/// One step, with the state taken and returned by value.
+#[inline(never)]
+pub fn step(body: &[u8], cursor: Cursor) -> Stepped {
+    let refuse = |number| Stepped {
+        number,
+        place: 0,
+        ratio: 0,
+        next: cursor,
+    };
+    let fill = cursor.seen.min(WINDOW as u64) as usize;
+    let bad = cursor.fill != fill as u64
+        || cursor.seen > cursor.count
+        || cursor.count > MOST_POINTS as u64
+        || cursor.place > body.len() as u64;
+    if bad {
+        return refuse(7);
+    }
+    let place = cursor.place as usize;
+    if cursor.seen == cursor.count {
+        return refuse(if place == body.len() { 8 } else { 18 });
+    }
+    let Some((ratio, length)) = take_ratio(&cursor.ratios[..fill], &body[place..], true) else {
+        return refuse(18);
+    };
+    let mut next = cursor;
+    next.place += length as u64;
+    next.seen += 1;
+    if fill == WINDOW {
+        next.ratios.copy_within(1.., 0);
+        next.ratios[WINDOW - 1] = ratio;
+    } else {
+        next.ratios[fill] = ratio;
+        next.fill += 1;
+    }
+    Stepped {
+        number: 0,
+        place: 0,
+        ratio,
+        next,
+    }
 }

@@ -43,6 +43,17 @@ pub fn get_bytes(s: &[u8], at: usize, n: usize) -> u64
     y
 }
 
+// The same where eight bytes stand at `at`: by one load of them.
+pub fn get_first(s: &[u8], at: usize, n: usize) -> u64
+    requires { ⌜ (n ≤ 8) × (at + 8 ≤ length (now s)) ⌝ }
+    ensures { λ r. ⌜ (r ≡ numberOf 256 (take n (drop at (now (s .entry))))) × (r < 256 ^ n) ⌝ }
+{
+    if n == 0 {
+        return 0;
+    }
+    get_bytes(s, at, 8) >> (8 * (8 - n))
+}
+
 // The k bits from the bit offset `at` on become those of v; all other bits stay.
 // One word holds the first byte's bits before them, the k bits, and the last byte's bits after them.
 pub fn put_bits(out: &mut [u8], at: usize, k: usize, v: u64)

@@ -3,3 +3,4 @@ pub mod Named
 pub mod Marked
 pub mod Sent
 pub mod Got
+pub mod Places

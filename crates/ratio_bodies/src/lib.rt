@@ -7,22 +7,22 @@ ghost use lib.ListN.{length, take, getD};
 ghost use Rattle.bounds.specs.Outputs.{Placed, Filled};
 ghost use Rattle.ratio_format.specs.Windows.{windowSize, windowOf};
 ghost use Rattle.ratio_format.specs.Forms.{coded};
-ghost use Rattle.ratio_format.specs.Open.{openRead};
 ghost use Rattle.ratio_format.specs.Bodies.{codedRatios, openRatios, strictRatios};
 ghost use Rattle.ratio_search.specs.Planes.{Planes};
 
+pub mod ahead;
 pub mod choice;
 pub mod strict;
 
+use ahead::open_from;
+use ahead::open_nth;
 use bounds::Wrote;
 use choice::choose_nth;
 use choice::refresh;
 use choice::repeats;
-use ratio_codec::read_open;
 use ratio_codec::write::put_form;
 use ratio_codec::write::put_reference;
 use ratio_format::Read;
-use ratio_search::window_start;
 use strict::accepts;
 use strict::mark;
 
@@ -62,15 +62,6 @@ pub fn put_ratios(ratios: &[u64], out: &mut [u8]) -> Wrote
     Wrote::Done(at)
 }
 
-// Ratio i is read by the open rule at the front of the bytes, against the ratios before it.
-pub fn open_nth(ratios: &[u64], i: usize, s: &[u8]) -> Read
-    requires { ⌜ i ≤ length (now ratios) ⌝ }
-    ensures { λ r. ⌜ r ≡ openRead (windowOf windowSize (take i (now (ratios .entry)))) (now (s .entry)) ⌝ }
-{
-    let from = window_start(i);
-    read_open(&ratios[from..i], s)
-}
-
 // The ratios that the body is the coding of, as many as count, are put at the front of the output.
 pub fn get_strict(body: &[u8], count: usize, out: &mut [u64]) -> bool
     requires { ⌜ count ≤ length (now out) ⌝ }
@@ -106,7 +97,7 @@ pub fn get_open(body: &[u8], count: usize, out: &mut [u64]) -> bool
     let mut at: usize = 0;
     let mut i: usize = 0;
     while i < count {
-        let r = open_nth(out, i, &body[at..]);
+        let r = open_from(out, i, body, at);
         let Read::Ratio(v, n) = r else {
             return false;
         };

@@ -1,10 +1,15 @@
 -- `get_open` meets its contract. The invariant: the first i ratios stand at the front, and reading on from there gives the whole reading.
 use mathlib.Core.Bool.{false}
-use Prim.Native.Nat.{_-_}
+use mathlib.Core.List.{List}
+use mathlib.Core.Path.{_≡_, sym, ap, _∙_}
+use Prim.Native.Nat.{ℕ, _-_}
 use native.Mathlib.Omega.{arith}
 use borrow.Author.Needs.{needs}
 use lib.Dec.{eqb}
-use lib.ListN.{length}
+use lib.ListN.{length, take, drop}
+use Rattle.bits.proofs.Parts.{rest-is}
+use Rattle.ratio_format.specs.declared.Read.{Read}
+use Rattle.ratio_format.specs.Windows.{windowSize, windowOf}
 use Rattle.ratio_format.specs.Open.{openRead}
 use Rattle.ratio_bodies.proofs.Got.{Got, filled-open, open-within, got-none, got-refused, got-within, got-more, got-all}
 use Rattle.ratio_bodies.proofs.get_open.Statement.{statement}
@@ -21,17 +26,12 @@ loop-holds c =
     let a = c .before .before .args in
     got-none openRead (a .count) (a .body .now) (a .out .now)
 
-sub-open-nth : tie.Need-sub-open-nth Inv-loop μ-loop
-sub-open-nth c = search needs
+open-from-requires : tie.Need-open-from-requires Inv-loop μ-loop
+open-from-requires c κs = search needs
 
-part-open-nth-start : tie.Need-part-open-nth-start Inv-loop μ-loop
-part-open-nth-start c = search needs
-
-part-open-nth-end : tie.Need-part-open-nth-end Inv-loop μ-loop
-part-open-nth-end c = search needs
-
-open-nth-requires : tie.Need-open-nth-requires Inv-loop μ-loop
-open-nth-requires c κs = search needs
+-- what was read is what the rest of the body gives
+rest : (l : List ℕ) (at : ℕ) (w : List ℕ) {r : Read} → r ≡ openRead w (drop at l) → r ≡ openRead w (take (length l - at) (drop at l))
+rest l at w e = e ∙ ap (openRead w) (sym (rest-is at l))
 
 enum-known-r : tie.Need-enum-known-r Inv-loop μ-loop
 enum-known-r c = search needs
@@ -44,12 +44,12 @@ same-length c = search needs
 
 returns : tie.Need-returns Inv-loop μ-loop
 returns c =
-    let r = c .before .before .open-nth in
-    let l = c .before .before .before .before .before .before .loop in
-    let d = c .before .before .before .before .before .before .before .before in
+    let r = c .before .before .open-from in
+    let l = c .before .before .before .before .before .loop in
+    let d = c .before .before .before .before .before .before .before in
     let a = d .before .args in
     filled-open (a .count) (a .body .now) (a .out .now) (l .out) false
-    (got-refused openRead (a .count) (a .body .now) (a .out .now) (l .out) (l .at) (l .i) (l .inv) (omega arith) (r .result) (r .ensures) (c .enum-told .given .1))
+    (got-refused openRead (a .count) (a .body .now) (a .out .now) (l .out) (l .at) (l .i) (l .inv) (omega arith) (r .result) (rest (a .body .now) (l .at) (windowOf windowSize (take (l .i) (l .out))) (r .ensures)) (c .enum-told .given .1))
 
 mul-out : tie.Need-mul-out Inv-loop μ-loop
 mul-out c = search needs
@@ -59,11 +59,11 @@ slice-write-out c = search needs
 
 add-at : tie.Need-add-at Inv-loop μ-loop
 add-at c =
-    let r = c .before .before .before .open-nth in
-    let l = c .before .before .before .before .before .before .before .loop in
-    let a = c .before .before .before .before .before .before .before .before .before .before .args in
+    let r = c .before .before .before .open-from in
+    let l = c .before .before .before .before .before .before .loop in
+    let a = c .before .before .before .before .before .before .before .before .before .args in
     let g = c .before .r .given in
-    omega (arith, got-within openRead (a .count) (a .body .now) (a .out .now) (l .out) (l .at) (l .i) (l .inv) (omega arith) (r .result) (r .ensures) open-within (g .0 .0) (g .0 .1 .0) (g .1))
+    omega (arith, got-within openRead (a .count) (a .body .now) (a .out .now) (l .out) (l .at) (l .i) (l .inv) (omega arith) (r .result) (rest (a .body .now) (l .at) (windowOf windowSize (take (l .i) (l .out))) (r .ensures)) open-within (g .0 .0) (g .0 .1 .0) (g .1))
 
 add-i : tie.Need-add-i Inv-loop μ-loop
 add-i c = search needs
@@ -73,12 +73,12 @@ loop-less c = search needs
 
 loop-again : tie.Need-loop-again Inv-loop μ-loop
 loop-again c =
-    let r = c .before .before .before .open-nth in
-    let l = c .before .before .before .before .before .before .before .loop in
-    let d = c .before .before .before .before .before .before .before .before .before .before in
+    let r = c .before .before .before .open-from in
+    let l = c .before .before .before .before .before .before .loop in
+    let d = c .before .before .before .before .before .before .before .before .before in
     let a = d .args in
     let g = c .before .r .given in
-    got-more openRead (a .count) (a .body .now) (a .out .now) (l .out) (l .at) (l .i) (l .inv) (omega arith) (r .result) (r .ensures) open-within (g .0 .0) (g .0 .1 .0) (g .1) (d .pre)
+    got-more openRead (a .count) (a .body .now) (a .out .now) (l .out) (l .at) (l .i) (l .inv) (omega arith) (r .result) (rest (a .body .now) (l .at) (windowOf windowSize (take (l .i) (l .out))) (r .ensures)) open-within (g .0 .0) (g .0 .1 .0) (g .1) (d .pre)
 
 same-length-2 : tie.Need-same-length-2 Inv-loop μ-loop
 same-length-2 c = search needs
@@ -98,10 +98,7 @@ get-open-spec =
     Inv-loop
     μ-loop
     loop-holds
-    sub-open-nth
-    part-open-nth-start
-    part-open-nth-end
-    open-nth-requires
+    open-from-requires
     enum-known-r
     enum-told
     same-length

@@ -5,8 +5,8 @@ use Prim.Native.Nat.{ℕ}
 use Rattle.ratio_format.specs.Open.{openRead}
 use Rattle.ratio_bodies.proofs.Start.{start-window}
 use borrow.Author.Needs.{needs}
-use Rattle.ratio_bodies.proofs.open_nth.Statement.{statement}
-use Rattle.ratio_bodies.proofs.open_nth.Tie as tie
+use Rattle.ratio_bodies.proofs.ahead.open_nth.Statement.{statement}
+use Rattle.ratio_bodies.proofs.ahead.open_nth.Tie as tie
 
 window-start-requires : tie.Need-window-start-requires
 window-start-requires c κs = search needs

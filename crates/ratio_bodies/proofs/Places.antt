@@ -1,0 +1,93 @@
+-- A ratio of a list read by the open rule, from the first byte b of what stands ahead: b % 128 is the place in the window, and the ratio
+-- there stands in the list itself.
+use mathlib.Core.Path.{_≡_, refl, sym, ap, _∙_}
+use mathlib.Core.Bool.{Bool, true, false}
+use mathlib.Core.List.{List, reverse}
+use Prim.Native.Nat.{ℕ, _+_, _-_, _*_, _/_, _%_, _^_, _≤_, _<_}
+use native.Mathlib.Omega.{arith}
+use lib.ListN.{length, getD, take, drop, length-take, length-reverse, length-drop}
+use lib.Bits.{bitXor}
+use lib.Seq.{getD-drop, drop-drop}
+use lib.Dec.{ltb}
+use borrow.Author.Tests.{ltb-true, ltb-false}
+use Rattle.bits.specs.Digits.{numberOf}
+use Rattle.ratio_format.specs.declared.Read.{Read}
+use Rattle.ratio_format.specs.declared.Read.the-variants.{Ratio, Refused}
+use Rattle.ratio_format.specs.Windows.{windowSize, windowOf}
+use Rattle.ratio_format.specs.Open.{openRead, openXor}
+use Rattle.ratio_format.proofs.Reading.{xor-high, xor-good, open-reference, open-far, open-xor, open-away, open-exception}
+use Rattle.ratio_search.proofs.Found.{window-has, window-at}
+
+-- the first byte of a rest
+pub rest-first : (at : ℕ) (l : List ℕ) → getD (drop at l) 0 0 ≡ getD l at 0
+rest-first at l =
+    let z : at + 0 ≡ at = omega arith in
+    getD-drop at l 0 0 ∙ ap (λ (k : ℕ). getD l k 0) z
+
+-- what stands after the byte of a place that holds u, where nine bytes are left
+module _ (u at : ℕ) (l : List ℕ) (room : at + 9 ≤ length l) where
+  many : 9 ≤ length (drop at l)
+  many = omega (arith, length-drop at l)
+
+  some : length (drop at l) ≡ 0 → ⊥
+  some e = omega (arith, many)
+
+  pub ahead-high : 8 < getD l at 0 / 16 + getD l at 0 % 16 → Refused ≡ openXor u (drop at l)
+  ahead-high h = xor-high u (drop at l) some (rw (rest-first at l) h)
+
+  pub ahead-good : (m r : ℕ) → getD l at 0 / 16 + getD l at 0 % 16 ≤ 8 → m ≡ numberOf 256 (take (getD l at 0 % 16) (drop (at + 1) l))
+      → r ≡ m * 256 ^ (getD l at 0 / 16) → Ratio (bitXor r u) (getD l at 0 % 16 + 2) ≡ openXor u (drop at l)
+  ahead-good m r h e q =
+      let f = sym (rest-first at l) in
+      rw f (xor-good u (drop at l) m r some (rw (rest-first at l) h) (rw (rest-first at l) (omega (arith, many)))
+      (rw (rest-first at l, drop-drop 1 at l) e) (rw (rest-first at l) q))
+
+-- where ten bytes are left
+pub ten-some : (at : ℕ) (l : List ℕ) → at + 10 ≤ length l → length (drop at l) ≡ 0 → ⊥
+ten-some at l h e = omega (arith, length-drop at l)
+
+pub ahead-exception : (w : List ℕ) (at : ℕ) (l : List ℕ) → at + 10 ≤ length l → (v : ℕ) → getD l at 0 ≡ 255
+    → v ≡ numberOf 256 (take 8 (drop (at + 1) l)) → Ratio v 9 ≡ openRead w (drop at l)
+ahead-exception w at l h v b e =
+    open-exception w (drop at l) v (omega (arith, rest-first at l, b)) (omega (arith, length-drop at l)) (rw (drop-drop 1 at l) e)
+
+-- a ratio after those of a list, whose window they are
+module _ (rs : List ℕ) (i : ℕ) (room : i ≤ length rs) where
+  abbrev w : List ℕ
+  w = windowOf windowSize (take i rs)
+
+  most : (length w ≤ 127) × (length w ≤ i)
+  most = let m = length-take windowSize (reverse (take i rs)) in let n = length-reverse (take i rs) in let k = length-take i rs in (omega arith, omega arith)
+
+  module _ (s : List ℕ) (b : ℕ) (is : getD s 0 0 ≡ b) (some : length s ≡ 0 → ⊥) (byte : b < 256) (plain : b ≡ 255 → ⊥) where
+    -- no ratio stands at the place
+    none : length w ≤ b % 128 → Refused ≡ openRead w s
+    none h = go (ltb b 128) refl
+      where
+        go : (t : Bool) → ltb b 128 ≡ t → Refused ≡ openRead w s
+        go true e = let l = ltb-true b 128 e in open-far w s some (omega arith) (omega arith)
+        go false e = let l = ltb-false b 128 e in open-away w s some (omega arith) (omega arith) (omega arith)
+
+    pub far : i ≤ b % 128 → Refused ≡ openRead w s
+    far h = none (omega (arith, most))
+
+    pub past : b % 128 ≡ 127 → Refused ≡ openRead w s
+    past e = none (omega (arith, most))
+
+    -- one does
+    module _ (v : ℕ) (in-list : b % 128 < i) (in-window : b % 128 ≡ 127 → ⊥) (at : v ≡ getD rs (i - 1 - b % 128) 0) where
+      few : b % 128 < 127
+      few = omega arith
+
+      holds : (p : ℕ) → p ≡ b % 128 → (p < length w) × (v ≡ getD w p 0)
+      holds p e = rw e (window-has rs v i room (b % 128) few in-list, at ∙ sym (window-at rs v i room (b % 128) few in-list))
+
+      pub named : b < 128 → Ratio v 1 ≡ openRead w s
+      named l =
+          let h = holds (getD s 0 0) (omega arith) in
+          open-reference w s v some (omega arith) (h .0) (h .1)
+
+      pub xored : 128 ≤ b → (r : Read) → r ≡ openXor v (drop 1 s) → r ≡ openRead w s
+      xored l r e =
+          let h = holds (getD s 0 0 - 128) (omega arith) in
+          open-xor w s v r some (omega arith) (omega arith) (h .0) (h .1) e

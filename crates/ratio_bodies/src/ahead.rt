@@ -1,0 +1,73 @@
+// One ratio read by the open rule where no form can run out of bytes: one test of room, and the middle by one load.
+ghost use mathlib.Core.Path.{_≡_};
+ghost use Prim.Native.Nat.{_+_, _≤_};
+ghost use lib.ListN.{length, take, drop};
+ghost use Rattle.ratio_format.specs.Windows.{windowSize, windowOf};
+ghost use Rattle.ratio_format.specs.Open.{openXor, openRead};
+use bits::get_bytes;
+use bits::get_first;
+use ratio_codec::read::raised;
+use ratio_codec::read_open;
+use ratio_format::Read;
+use ratio_search::window_start;
+
+// The most bytes that a form has.
+const LONGEST: usize = 10;
+
+// Ratio i is read by the open rule at the front of the bytes, against the ratios before it.
+pub fn open_nth(ratios: &[u64], i: usize, s: &[u8]) -> Read
+    requires { ⌜ i ≤ length (now ratios) ⌝ }
+    ensures { λ r. ⌜ r ≡ openRead (windowOf windowSize (take i (now (ratios .entry)))) (now (s .entry)) ⌝ }
+{
+    let from = window_start(i);
+    read_open(&ratios[from..i], s)
+}
+
+// What stands after the byte of a place that holds u: the two counts, and the middle.
+fn xor_ahead(u: u64, body: &[u8], at: usize) -> Read
+    requires { ⌜ at + 9 ≤ length (now body) ⌝ }
+    ensures { λ r. ⌜ r ≡ openXor u (drop at (now (body .entry))) ⌝ }
+{
+    let c = body[at] as usize;
+    let trail = c / 16;
+    let len = c % 16;
+    if 8 < trail + len {
+        return Read::Refused;
+    }
+    let m = get_first(body, at + 1, len);
+    Read::Ratio(raised(m, trail) ^ u, len + 2)
+}
+
+// Ratio i, which stands at the offset `at`.
+fn open_ahead(ratios: &[u64], i: usize, body: &[u8], at: usize) -> Read
+    requires { ⌜ (i ≤ length (now ratios)) × (at + 10 ≤ length (now body)) ⌝ }
+    ensures { λ r. ⌜ r ≡ openRead (windowOf windowSize (take i (now (ratios .entry)))) (drop at (now (body .entry))) ⌝ }
+{
+    let b = body[at] as usize;
+    if b == 255 {
+        return Read::Ratio(get_bytes(body, at + 1, 8), 9);
+    }
+    let p = b % 128;
+    if i <= p {
+        return Read::Refused;
+    }
+    if p == 127 {
+        return Read::Refused;
+    }
+    let u = ratios[i - 1 - p];
+    if b < 128 {
+        return Read::Ratio(u, 1);
+    }
+    xor_ahead(u, body, at + 1)
+}
+
+// Ratio i, which stands at the offset `at`, if any does.
+pub fn open_from(ratios: &[u64], i: usize, body: &[u8], at: usize) -> Read
+    requires { ⌜ (i ≤ length (now ratios)) × (at ≤ length (now body)) ⌝ }
+    ensures { λ r. ⌜ r ≡ openRead (windowOf windowSize (take i (now (ratios .entry)))) (drop at (now (body .entry))) ⌝ }
+{
+    if LONGEST <= body.len() - at {
+        return open_ahead(ratios, i, body, at);
+    }
+    open_nth(ratios, i, &body[at..])
+}

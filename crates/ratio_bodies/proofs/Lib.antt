@@ -4,3 +4,4 @@ pub mod Marked
 pub mod Sent
 pub mod Got
 pub mod Places
+pub mod Indexed

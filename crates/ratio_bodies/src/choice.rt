@@ -1,8 +1,8 @@
 // The form of one ratio of a run, by the search over planes where the window is not small.
 ghost use mathlib.Core.Path.{_≡_};
-ghost use mathlib.Core.Bool.{true, false};
-ghost use Prim.Native.Nat.{_-_, _≤_, _<_};
-ghost use lib.ListN.{length, take, getD};
+ghost use mathlib.Core.Bool.{false};
+ghost use Prim.Native.Nat.{_-_, _≤_};
+ghost use lib.ListN.{length, take};
 ghost use Rattle.ratio_format.specs.Windows.{windowSize, windowOf};
 ghost use Rattle.ratio_format.specs.Choice.{form};
 ghost use Rattle.ratio_search.specs.Planes.{Planes, Kept};
@@ -15,17 +15,6 @@ use ratio_search::window_start;
 
 // With fewer ratios before it than this a ratio is chosen by the plain scan, so that a short run needs no planes.
 const FEW: usize = 16;
-
-// Whether ratio i is equal to the one before it.
-pub fn repeats(ratios: &[u64], i: usize) -> bool
-    requires { ⌜ i < length (now ratios) ⌝ }
-    ensures { λ r. ⌜ (r ≡ true → (0 < i) × (getD (now (ratios .entry)) (i - 1) 0 ≡ getD (now (ratios .entry)) i 0)) ⌝ }
-{
-    if i == 0 {
-        return false;
-    }
-    ratios[i - 1] == ratios[i]
-}
 
 // The planes are brought up to ratio i unless it needs none; the answer is the index that they go up to.
 pub fn refresh(planes: &mut [u8; 1024], ratios: &[u64], done: usize, i: usize, skip: bool) -> usize

@@ -1,7 +1,7 @@
 // A whole list of ratios, the body of document 01's field 4: written and read in one pass.
 // The window of a ratio is the part of the list before it, at most 127 ratios. Internal: callers meet each `requires`.
 ghost use mathlib.Core.Path.{_≡_};
-ghost use mathlib.Core.Bool.{true, false};
+ghost use mathlib.Core.List.{[], _∷_};
 ghost use Prim.Native.Nat.{_-_, _≤_, _<_};
 ghost use lib.ListN.{length, take, getD};
 ghost use Rattle.bounds.specs.Outputs.{Placed, Filled};
@@ -12,6 +12,7 @@ ghost use Rattle.ratio_search.specs.Planes.{Planes};
 
 pub mod ahead;
 pub mod choice;
+pub mod index;
 pub mod strict;
 
 use ahead::open_from;
@@ -19,22 +20,24 @@ use ahead::open_nth;
 use bounds::Wrote;
 use choice::choose_nth;
 use choice::refresh;
-use choice::repeats;
+use index::NONE;
+use index::known;
+use index::note;
 use ratio_codec::write::put_form;
 use ratio_codec::write::put_reference;
 use ratio_format::Read;
 use strict::accepts;
 use strict::mark;
 
-// Ratio i is coded at the front of the output, against the ratios before it; `same` says that it repeats the one before it.
-pub fn put_nth(planes: &[u8; 1024], ratios: &[u64], i: usize, same: bool, out: &mut [u8]) -> Wrote
+// Ratio i is coded at the front of the output, against the ratios before it; `place` is its place in the window, if the index knows one.
+pub fn put_nth(planes: &[u8; 1024], ratios: &[u64], i: usize, place: usize, out: &mut [u8]) -> Wrote
     requires { ⌜ (i < length (now ratios))
-        × (same ≡ true → (0 < i) × (getD (now ratios) (i - 1) 0 ≡ getD (now ratios) i 0))
-        × (same ≡ false → 16 ≤ i → Planes (now planes) (now ratios) (i - windowSize) i) ⌝ }
+        × (place < 127 → coded (getD (now ratios) i 0) (windowOf windowSize (take i (now ratios))) ≡ place ∷ [])
+        × (127 ≤ place → 16 ≤ i → Planes (now planes) (now ratios) (i - windowSize) i) ⌝ }
     ensures { λ r. ⌜ Placed (coded (getD (now (ratios .entry)) i 0) (windowOf windowSize (take i (now (ratios .entry))))) r (now (out .entry)) (now (out .exit)) ⌝ }
 {
-    if same {
-        return put_reference(out, 0);
+    if place < NONE {
+        return put_reference(out, place);
     }
     let v = ratios[i];
     let f = choose_nth(planes, ratios, i, v);
@@ -43,19 +46,22 @@ pub fn put_nth(planes: &[u8; 1024], ratios: &[u64], i: usize, same: bool, out: &
 
 // The coding of the ratios is put at the front of the output.
 pub fn put_ratios(ratios: &[u64], out: &mut [u8]) -> Wrote
+    requires { ⌜ length (now ratios) ≤ 4096 ⌝ }
     ensures { λ r. ⌜ Placed (codedRatios (now (ratios .entry))) r (now (out .entry)) (now (out .exit)) ⌝ }
 {
     let mut planes = [0; 1024];
+    let mut slots: [u16; 509] = [0; 509];
     let mut done: usize = 0;
     let mut at: usize = 0;
     let mut i: usize = 0;
     while i < ratios.len() {
-        let same = repeats(ratios, i);
-        done = refresh(&mut planes, ratios, done, i, same);
-        let r = put_nth(&planes, ratios, i, same, &mut out[at..]);
+        let place = known(&slots, ratios, i);
+        done = refresh(&mut planes, ratios, done, i, place < NONE);
+        let r = put_nth(&planes, ratios, i, place, &mut out[at..]);
         let Wrote::Done(n) = r else {
             return Wrote::NoRoom;
         };
+        note(&mut slots, i, ratios[i]);
         at += n;
         i += 1;
     }

@@ -68,6 +68,7 @@ fn put_third(positions: &[u64], out: &mut [u8]) -> Wrote
 
 // The field of the ratios, at the front of the output.
 fn put_fourth(ratios: &[u64], out: &mut [u8]) -> Wrote
+    requires { ⌜ length (now ratios) ≤ 4096 ⌝ }
     ensures { λ r. ⌜ Placed (field 4 (codedRatios (now (ratios .entry)))) r (now (out .entry)) (now (out .exit)) ⌝ }
 {
     if out.len() < 3 {
@@ -82,7 +83,7 @@ fn put_fourth(ratios: &[u64], out: &mut [u8]) -> Wrote
 
 // The fields of the positions and of the ratios.
 fn put_back(positions: &[u64], ratios: &[u64], out: &mut [u8]) -> Wrote
-    requires { ⌜ (validPositions rows (now positions) ≡ true) × (length (now positions) ≤ 4096) ⌝ }
+    requires { ⌜ (validPositions rows (now positions) ≡ true) × (length (now positions) ≤ 4096) × (length (now ratios) ≤ 4096) ⌝ }
     ensures { λ r. ⌜ Placed (field 3 (codedPositions rows (now (positions .entry))) ++ field 4 (codedRatios (now (ratios .entry)))) r (now (out .entry)) (now (out .exit)) ⌝ }
 {
     let Wrote::Done(n) = put_third(positions, out) else {
@@ -96,7 +97,7 @@ fn put_back(positions: &[u64], ratios: &[u64], out: &mut [u8]) -> Wrote
 
 // The record of a run whose tests 1 to 5 do not apply.
 fn put_record(rate: u32, positions: &[u64], ratios: &[u64], out: &mut [u8]) -> Wrote
-    requires { ⌜ (validPositions rows (now positions) ≡ true) × (length (now positions) ≤ 4096) ⌝ }
+    requires { ⌜ (validPositions rows (now positions) ≡ true) × (length (now positions) ≤ 4096) × (length (now ratios) ≤ 4096) ⌝ }
     ensures { λ r. ⌜ Placed (recordOf (run rate (now (positions .entry)) (now (ratios .entry)))) r (now (out .entry)) (now (out .exit)) ⌝ }
 {
     let Wrote::Done(n) = put_front(rate, positions.len(), out) else {

@@ -1,4 +1,4 @@
--- `put_nth` meets its contract: a repeated ratio is a reference to the newest place, any other is written in its form.
+-- `put_nth` meets its contract: a ratio of a known place is a reference to it, any other is written in its form.
 use mathlib.Core.Path.{sym, subst}
 use mathlib.Core.List.{List}
 use Prim.Native.Nat.{ℕ}
@@ -7,7 +7,7 @@ use lib.ListN.{getD}
 use Rattle.bounds.specs.Outputs.{Placed}
 use Rattle.ratio_format.specs.declared.Form.{Form}
 use Rattle.ratio_format.specs.Forms.{written, coded}
-use Rattle.ratio_bodies.proofs.Start.{window-fit, coded-newest}
+use Rattle.ratio_bodies.proofs.Start.{window-fit}
 use borrow.Author.Needs.{needs}
 use Rattle.ratio_bodies.proofs.put_nth.Statement.{statement}
 use Rattle.ratio_bodies.proofs.put_nth.Tie as tie
@@ -22,10 +22,7 @@ returns : tie.Need-returns
 returns c =
     let p = c .before .before .put-reference in
     let d = c .before .before .before .before .before .before .before in
-    let a = d .args in
-    let n = d .pre .1 (c .before .before .before .before .if1 .taken) in
-    subst (λ (bs : List ℕ). Placed bs (p .result) (a .out .now) (p .last .0))
-    (sym (coded-newest (a .ratios .now) (a .i) (getD (a .ratios .now) (a .i) 0) (n .0) (omega arith) (n .1))) (p .ensures)
+    subst (λ (bs : List ℕ). Placed bs (p .result) (d .args .out .now) (p .last .0)) (sym (d .pre .1 (c .before .before .before .before .if1 .taken))) (p .ensures)
 
 mul-v : tie.Need-mul-v
 mul-v c = search needs

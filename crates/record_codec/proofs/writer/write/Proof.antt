@@ -1,5 +1,6 @@
 use mathlib.Core.Path.{sym, ap, _∙_}
 use Prim.Native.Nat.{ℕ}
+use native.Mathlib.Omega.{arith}
 use borrow.Author.Needs.{needs}
 use lib.ListN.{replicate}
 use Rattle.bounds.specs.declared.Refusal.{Refusal}
@@ -36,7 +37,7 @@ returns c =
 put-record-requires : tie.Need-put-record-requires
 put-record-requires c κs =
     let f = accepted-fits (run (c .before .before .before .before .before .before .args .rate) (c .before .before .before .before .before .before .args .positions .now) (c .before .before .before .before .before .before .args .ratios .now)) (clear-accepts (run (c .before .before .before .before .before .before .args .rate) (c .before .before .before .before .before .before .args .positions .now) (c .before .before .before .before .before .before .args .ratios .now)) (sym (ap number (c .before .before .check-run .ensures)) ∙ c .before .if1 .left)) in
-    (f .valid, f .few)
+    (f .valid, f .few, omega (arith, f .few, f .paired))
 
 enum-known-n : tie.Need-enum-known-n
 enum-known-n c = search needs

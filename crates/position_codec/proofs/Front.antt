@@ -1,6 +1,6 @@
--- A step's code at the front of bits: the row by their first four bits, the field after its prefix, and that no other step's code stands there.
+-- A step's code at the top of a word: the row by its first four bits, the field after its prefix, and that no other step's code stands there.
 use mathlib.Core.Bool.{Bool, true, false, cond}
-use mathlib.Core.List.{List, [], _∷_, _++_, append-assoc}
+use mathlib.Core.List.{List, [], _∷_, _++_}
 use mathlib.Core.Path.{_≡_, refl, sym, ap, ap₂, _∙_}
 use Prim.Native.Nat.{ℕ, zero, suc, _+_, _-_, _*_, _/_, _%_, _^_, _≤_, _<_}
 use native.Mathlib.Nat.{mod-lt, mod-one}
@@ -8,24 +8,23 @@ use native.Mathlib.Omega.{arith}
 use borrow.Author.Tests.{lt-ltb, le-ltb, ltb-true, eqb-true, eqb-false}
 use lib.Dec.{ltb, eqb}
 use lib.IntN.{ℤ, pos}
-use lib.ListN.{length, getD, take, drop, replicate, length-append}
+use lib.ListN.{length, getD, take, drop}
 use lib.Pow.{pow-pos, shr-shr}
 use lib.Seq.{length-take-le}
 use Rattle.bits.specs.Below.{Below}
 use Rattle.bits.specs.Compare.{both, begins}
 use Rattle.bits.specs.Digits.{bitsOf, numberOf}
+use Rattle.bits.proofs.Below.{below-digits}
 use Rattle.bits.proofs.Compare.{both-true, begins-rest}
-use Rattle.bits.proofs.Digits.{length-digits}
+use Rattle.bits.proofs.Digits.{two⁺, length-digits}
 use Rattle.bounds.specs.Lists.{firstIndex}
 use Rattle.position_format.specs.Rows.{rows, holds, inTable, code, reading, noRow, rowOf}
 use Rattle.position_format.proofs.Lists.{not-so}
 use Rattle.position_format.proofs.Rows.{rows-good}
-use Rattle.position_format.proofs.Codes.{length-lead, code-length}
-use Rattle.position_format.proofs.Prefixes.{take-begins, begins-short}
+use Rattle.position_format.proofs.Prefixes.{take-begins}
 use Rattle.position_format.proofs.Steps.{front-row, front-step, front-table, front-code}
-use Rattle.position_codec.specs.Found.{padded}
 use Rattle.position_codec.proofs.Tables.{rowAt, rows-count, row-is-not, row-is-it, prefixOf, prefixLenOf, widthOf, fields, reading-in-row}
-use Rattle.position_codec.proofs.Peek.{length-padded, below-padded, take-padded, word-first, word-field}
+use Rattle.position_codec.proofs.Peek.{word-first, word-field}
 
 -- ---- the row by the first four bits
 
@@ -137,9 +136,11 @@ module _ (w : ℕ) (w< : w < 2 ^ 64) where
       let z : fieldIn w ≡ 0 = ap (λ (k : ℕ). w / 2 ^ (64 - lenIn w) % 2 ^ k) e ∙ mod-one (w / 2 ^ (64 - lenIn w)) in
       ap₂ (λ (i x : ℕ). reading (rowAt i) x) r z
 
--- ---- the code at the front of the bits ds
+  -- ---- the code at the front of the word's bits
 
-module _ (ds : List ℕ) (below : Below 2 ds) (w : ℕ) (w< : w < 2 ^ 64) (ew : w / 2 ^ 28 ≡ numberOf 2 (take 36 (padded ds))) where
+  abbrev ds : List ℕ
+  ds = bitsOf 64 w
+
   abbrev r : ℕ
   r = rowIn w
 
@@ -152,108 +153,86 @@ module _ (ds : List ℕ) (below : Below 2 ds) (w : ℕ) (w< : w < 2 ^ 64) (ew : 
   abbrev x : ℕ
   x = fieldIn w
 
-  row< : r < 5
-  row< = row-in w w<
-
   r< : r < length rows
-  r< = omega (arith, row<, rows-count)
-
-  p≤ : p ≤ 4
-  p≤ = prefix-in w w<
-
-  pk≤ : p + k ≤ 36
-  pk≤ = omega (arith, p≤, width-in w w<)
+  r< = omega (arith, row-in, rows-count)
 
   length-prefix : length (rowAt r .prefix) ≡ p
-  length-prefix = ap length (fields r row< .prefix) ∙ length-digits 2 p (prefixOf r)
+  length-prefix = ap length (fields r row-in .prefix) ∙ length-digits 2 p (prefixOf r)
 
-  front : begins (rowAt r .prefix) (padded ds) ≡ true
+  front : begins (rowAt r .prefix) ds ≡ true
   front =
-      let e : 28 + (36 - p) ≡ 60 + (4 - p) = omega (arith, p≤) in
-      let q : w / 2 ^ 28 / 2 ^ (36 - p) ≡ prefixOf r = shr-shr w 28 (36 - p) ∙ ap (λ (n : ℕ). w / 2 ^ n) e ∙ sym (shr-shr w 60 (4 - p)) ∙ led w w< .prefix in
-      take-begins (rowAt r .prefix) (padded ds)
-      (ap (λ (n : ℕ). take n (padded ds)) length-prefix ∙ word-first ds below (w / 2 ^ 28) ew p (omega (arith, p≤)) ∙ ap (bitsOf p) q ∙ sym (fields r row< .prefix))
+      let e : 60 + (4 - p) ≡ 64 - p = omega (arith, prefix-in) in
+      let q : w / 2 ^ (64 - p) ≡ prefixOf r = ap (λ (n : ℕ). w / 2 ^ n) (sym e) ∙ sym (shr-shr w 60 (4 - p)) ∙ led .prefix in
+      take-begins (rowAt r .prefix) ds
+      (ap (λ (n : ℕ). take n ds) length-prefix ∙ word-first w p (omega (arith, prefix-in)) ∙ ap (bitsOf p) q ∙ sym (fields r row-in .prefix))
 
-  field : numberOf 2 (take (rowAt r .width) (drop (length (rowAt r .prefix)) (padded ds))) ≡ x
+  field : numberOf 2 (take (rowAt r .width) (drop (length (rowAt r .prefix)) ds)) ≡ x
   field =
-      let e : 28 + (36 - (p + k)) ≡ 64 - lenIn w = omega (arith, pk≤, len-is w w<) in
-      ap₂ (λ (m n : ℕ). numberOf 2 (take m (drop n (padded ds)))) (fields r row< .width) length-prefix
-      ∙ word-field ds below (w / 2 ^ 28) ew p k pk≤
-      ∙ ap (λ (y : ℕ). y % 2 ^ k) (shr-shr w 28 (36 - (p + k)) ∙ ap (λ (n : ℕ). w / 2 ^ n) e)
+      ap₂ (λ (m n : ℕ). numberOf 2 (take m (drop n ds))) width-is length-prefix
+      ∙ word-field w p k (omega (arith, prefix-in, width-in))
+      ∙ ap (λ (n : ℕ). w / 2 ^ (64 - n) % 2 ^ k) (sym len-is)
 
   -- the step whose code stands there is by this row, and is the reading of the field
   module _ (z : ℤ) (e : inTable rows z ≡ true) (stands : begins (code rows z) ds ≡ true) where
     abbrev rest : List ℕ
     rest = begins-rest (code rows z) ds stands .0
 
-    is : padded ds ≡ code rows z ++ (rest ++ replicate 36 0)
-    unfolding padded
-    is = ap (λ (l : List ℕ). l ++ replicate 36 0) (begins-rest (code rows z) ds stands .1) ∙ append-assoc (code rows z) rest (replicate 36 0)
+    is : ds ≡ code rows z ++ rest
+    is = begins-rest (code rows z) ds stands .1
 
     row-is : rowOf rows z ≡ r
-    row-is = front-row noRow rows rows-good r r< (padded ds) front z e (rest ++ replicate 36 0) is
+    row-is = front-row noRow rows rows-good r r< ds front z e rest is
 
     step-is : reading (rowAt r) x ≡ z
-    step-is = ap (reading (rowAt r)) (sym field) ∙ front-step noRow rows rows-good r r< (padded ds) front z e (rest ++ replicate 36 0) is
+    step-is = ap (reading (rowAt r)) (sym field) ∙ front-step noRow rows rows-good r r< ds front z e rest is
 
-    enough : p + k ≤ length ds
-    enough =
-        let l : length (code rows z) ≡ p + k =
-        length-lead noRow z rows e ∙ ap (λ (j : ℕ). length (rowAt j .prefix) + rowAt j .width) row-is ∙ ap₂ (λ (m n : ℕ). m + n) length-prefix (fields r row< .width) in
-        omega (arith, ap length (begins-rest (code rows z) ds stands .1), length-append (code rows z) (begins-rest (code rows z) ds stands .0))
-
-  -- so none does where the bits are too few, or where the row before holds the reading
-  pub none-short : length ds < lenIn w → (z : ℤ) → inTable rows z ≡ true → begins (code rows z) ds ≡ false
-  none-short h z e = not-so (begins (code rows z) ds) (λ s. omega (arith, enough z e s, len-is w w<))
-
+  -- so none does where the row before holds the reading
   pub none-other : 0 < r → holds (rowAt (r - 1)) (reading (rowAt r) x) ≡ true → (z : ℤ) → inTable rows z ≡ true → begins (code rows z) ds ≡ false
   none-other l t z e =
-      not-so (begins (code rows z) ds) (λ s. row-is-not (reading (rowAt r) x) r l row< t (ap (rowOf rows) (step-is z e s) ∙ row-is z e s))
+      not-so (begins (code rows z) ds) (λ s. row-is-not (reading (rowAt r) x) r l row-in t (ap (rowOf rows) (step-is z e s) ∙ row-is z e s))
 
   -- and otherwise it is the reading
-  module _ (h : lenIn w ≤ length ds) (first : rowOf rows (reading (rowAt r) x) ≡ r) where
+  module _ (first : rowOf rows (reading (rowAt r) x) ≡ r) where
     abbrev z : ℤ
     z = reading (rowAt r) x
 
     abbrev y : ℤ
-    y = reading (rowAt r) (numberOf 2 (take (rowAt r .width) (drop (length (rowAt r .prefix)) (padded ds))))
+    y = reading (rowAt r) (numberOf 2 (take (rowAt r .width) (drop (length (rowAt r .prefix)) ds)))
 
     same-step : y ≡ z
     same-step = ap (reading (rowAt r)) field
 
-    size : length (rowAt r .prefix) + rowAt r .width ≡ p + k
-    size = ap₂ (λ (m n : ℕ). m + n) length-prefix (fields r row< .width)
+    size : length (rowAt r .prefix) + rowAt r .width ≡ lenIn w
+    size = ap₂ (λ (m n : ℕ). m + n) length-prefix width-is ∙ sym len-is
 
-    fits : length (rowAt r .prefix) + rowAt r .width ≤ length (padded ds)
-    fits = omega (arith, size, length-padded ds, len-is w w<)
+    room : lenIn w ≤ length ds
+    room = omega (arith, len-in .1, length-digits 2 64 w)
+
+    fits : length (rowAt r .prefix) + rowAt r .width ≤ length ds
+    fits = omega (arith, size, room)
 
     lead : rowOf rows y ≡ r
     lead = ap (rowOf rows) same-step ∙ first
 
     found : (inTable rows z ≡ true) × (begins (code rows z) ds ≡ true) × (lenIn w ≡ length (code rows z))
     found =
-        let held : inTable rows z ≡ true = ap (inTable rows) (sym same-step) ∙ front-table noRow rows rows-good r r< (padded ds) front (below-padded ds below) fits lead in
-        let m : p + k ≤ length ds = omega (arith, len-is w w<) in
-        let is : code rows z ≡ take (p + k) ds =
-        ap (code rows) (sym same-step) ∙ front-code noRow rows rows-good r r< (padded ds) front (below-padded ds below) fits lead
-        ∙ ap (λ (n : ℕ). take n (padded ds)) size ∙ take-padded ds (p + k) m in
-        let l : length (code rows z) ≡ p + k = ap length is ∙ length-take-le (p + k) ds m in
-        (held, take-begins (code rows z) ds (ap (λ (n : ℕ). take n ds) l ∙ sym is), len-is w w< ∙ sym l)
+        let below : Below 2 ds = below-digits 2 two⁺ 64 w in
+        let held : inTable rows z ≡ true = ap (inTable rows) (sym same-step) ∙ front-table noRow rows rows-good r r< ds front below fits lead in
+        let is : code rows z ≡ take (lenIn w) ds =
+        ap (code rows) (sym same-step) ∙ front-code noRow rows rows-good r r< ds front below fits lead ∙ ap (λ (n : ℕ). take n ds) size in
+        let l : length (code rows z) ≡ lenIn w = ap length is ∙ length-take-le (lenIn w) ds room in
+        (held, take-begins (code rows z) ds (ap (λ (n : ℕ). take n ds) l ∙ sym is), sym l)
 
-  pub found-long : lenIn w ≤ length ds → 0 < r → holds (rowAt (r - 1)) (reading (rowAt r) x) ≡ false
+  pub found-long : 0 < r → holds (rowAt (r - 1)) (reading (rowAt r) x) ≡ false
       → (inTable rows (reading (rowAt r) x) ≡ true) × (begins (code rows (reading (rowAt r) x)) ds ≡ true) × (lenIn w ≡ length (code rows (reading (rowAt r) x)))
-  found-long h l t = found h (row-is-it (reading (rowAt r) x) r l row< t (reading-in-row r row< x (field-lt w w<)))
+  found-long l t = found (row-is-it (reading (rowAt r) x) r l row-in t (reading-in-row r row-in x field-lt))
 
   -- a first bit that is 0
-  pub found-zero : 0 < length ds → w < 2 ^ 63 → (inTable rows (pos 0) ≡ true) × (begins (code rows (pos 0)) ds ≡ true) × (1 ≡ length (code rows (pos 0)))
+  pub found-zero : w < 2 ^ 63 → (inTable rows (pos 0) ≡ true) × (begins (code rows (pos 0)) ds ≡ true) × (1 ≡ length (code rows (pos 0)))
   unfolding rows firstIndex
-  found-zero h l =
-      let z = zero-is w w< l in
-      let n : lenIn w ≡ 1 = len-is w w< ∙ ap (λ (i : ℕ). prefixLenOf i + widthOf i) (row-zero w w< l) in
+  found-zero l =
+      let z = zero-is l in
+      let n : lenIn w ≡ 1 = len-is ∙ ap (λ (i : ℕ). prefixLenOf i + widthOf i) (row-zero l) in
       let f : (inTable rows (pos 0) ≡ true) × (begins (code rows (pos 0)) ds ≡ true) × (lenIn w ≡ length (code rows (pos 0))) =
-      rw z at (found (omega arith) (ap (rowOf rows) z ∙ sym (row-zero w w< l))) in
+      rw z at (found (ap (rowOf rows) z ∙ sym (row-zero l))) in
       (f .0, f .1, sym n ∙ f .2)
-
--- no bits are no code
-pub none-empty : (ds : List ℕ) → length ds ≡ 0 → (z : ℤ) → inTable rows z ≡ true → begins (code rows z) ds ≡ false
-none-empty ds h z e = begins-short (code rows z) ds (omega (arith, code-length z e .0))

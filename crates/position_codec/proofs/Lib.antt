@@ -9,4 +9,5 @@ pub mod Ends
 pub mod Front
 pub mod Follow
 pub mod Stand
+pub mod Alike
 pub mod Reading

@@ -1,16 +1,15 @@
 -- What the internal readers say of what they find at the front of bits (document 01, "Positions").
 --   Within body at          a bit offset that is not past the end of a body, which is no longer than a coding can be
---   padded ds               the bits ds with 0 bits after them, enough for a code
 --   StepFound ds r          the step whose code the bits ds begin with, and how many bits that has, or that there is none
 --   PositionFound a b z r   the position after a and b whose step is z, or that there is none in range
 --   Stands i a b ds t       the bits ds begin with those of the position t at point i, after the positions a and b
 --   PointFound i a b ds r   such a position, and how many bits it takes, or that there is none
 use mathlib.Core.Bool.{true, false}
-use mathlib.Core.List.{List, _++_}
+use mathlib.Core.List.{List}
 use mathlib.Core.Path.{_≡_}
 use Prim.Native.Nat.{ℕ, _*_, _≤_}
 use lib.IntN.{ℤ}
-use lib.ListN.{length, replicate}
+use lib.ListN.{length}
 use Rattle.bits.specs.Compare.{begins}
 use Rattle.bounds.specs.Points.{maxPosition}
 use Rattle.position_format.specs.Rows.{rows, inTable, code}
@@ -27,10 +26,6 @@ use Rattle.position_codec.specs.Codes.{nextBits}
 pub record Within (body : List ℕ) (at : ℕ) : Type 0 where
   pub short : length body ≤ 18439
   pub inside : at ≤ 8 * length body
-
--- bits, and 0 bits past their end
-unfoldable pub padded : List ℕ → List ℕ
-padded ds = ds ++ replicate 36 0
 
 -- a step that the table holds, by its code
 abbrev pub StepFound : List ℕ → GotStep → Type 0

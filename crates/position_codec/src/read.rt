@@ -1,16 +1,17 @@
 // Positions read: point by point, each in the one form that it is written in, and then the fill.
 ghost use mathlib.Core.Path.{_≡_};
-ghost use Prim.Native.Nat.{ℕ, _-_, _*_, _/_, _^_, _≤_, _<_};
+ghost use mathlib.Core.List.{_++_};
+ghost use Prim.Native.Nat.{ℕ, _+_, _-_, _*_, _^_, _≤_, _<_};
 ghost use lib.IntN.{natAbs};
-ghost use lib.ListN.{length, getD, take, drop, replicate};
+ghost use lib.ListN.{length, getD, drop, replicate};
 ghost use Rattle.bits.specs.Compare.{same};
-ghost use Rattle.bits.specs.Digits.{numberOf};
+ghost use Rattle.bits.specs.Digits.{bitsOf};
 ghost use Rattle.bits.specs.Packing.{bits, fillOf};
 ghost use Rattle.bounds.specs.Outputs.{Filled};
 ghost use Rattle.position_format.specs.Rows.{rows, holds, reading};
 ghost use Rattle.position_format.specs.Positions.{readPositions};
 ghost use Rattle.position_format.specs.Rows.{noRow};
-ghost use Rattle.position_codec.specs.Found.{Within, padded, StepFound, PositionFound, PointFound};
+ghost use Rattle.position_codec.specs.Found.{Within, StepFound, PositionFound, PointFound};
 use crate::table::WIDTHS;
 use crate::table::within;
 use bounds::MAX_POSITION;
@@ -41,15 +42,11 @@ pub enum GotPoint {
     Nothing,
 }
 
-// The bits from the bit offset `at` on at the top of a word, at least 36 of them, with 0 bits past the end.
+// The bits from the bit offset `at` on, which lies in the last eight bytes, at the top of a word, with 0 bits past the end.
 fn peek(body: &[u8], at: usize) -> u64
-    requires { ⌜ (8 ≤ length (now body)) × (length (now body) ≤ 18439) × (at < 8 * length (now body)) ⌝ }
-    ensures { λ r. ⌜ r / 2 ^ 28 ≡ numberOf 2 (take 36 (padded (drop at (bits (now (body .entry)))))) ⌝ }
+    requires { ⌜ (8 ≤ length (now body)) × (length (now body) ≤ 18439) × (8 * length (now body) ≤ at + 64) × (at < 8 * length (now body)) ⌝ }
+    ensures { λ r. ⌜ bitsOf 64 r ≡ drop at (bits (now (body .entry))) ++ replicate (at + 64 - 8 * length (now (body .entry))) 0 ⌝ }
 {
-    let b = at / 8;
-    if b + 8 <= body.len() {
-        return bits::get_bytes(body, b, 8) << (at % 8);
-    }
     let last = body.len() - 8;
     bits::get_bytes(body, last, 8) << (at - 8 * last)
 }
@@ -83,18 +80,15 @@ fn early(row: usize, x: u64) -> bool
     (x + (before - 1) / 2) % size < before
 }
 
-// The step of more than one bit whose code stands at the bit offset `at`, at the top of w: by the row of its first bits, if the row
-// before that one does not hold it, and so no earlier one.
-fn get_long(body: &[u8], at: usize, w: u64) -> GotStep
-    requires { ⌜ Within (now body) at × (w / 2 ^ 28 ≡ numberOf 2 (take 36 (padded (drop at (bits (now body)))))) × (2 ^ 63 ≤ w) ⌝ }
-    ensures { λ r. ⌜ StepFound (drop at (bits (now (body .entry)))) r ⌝ }
+// The step of more than one bit whose code stands at the top of w: by the row of its first bits, if the row before that one does not
+// hold it, and so no earlier one.
+fn long_ahead(w: u64) -> GotStep
+    requires { ⌜ 2 ^ 63 ≤ w ⌝ }
+    ensures { λ r. ⌜ StepFound (bitsOf 64 w) r ⌝ }
 {
     let top = (w >> 60) - 8;
     let row = ((ROWS_BY >> (8 * top)) % 256) as usize;
     let n = ((LENS_BY >> (8 * top)) % 256) as usize;
-    if 8 * body.len() - at < n {
-        return GotStep::Nothing;
-    }
     let x = (w >> (64 - n)) % size_of(row);
     if early(row, x) {
         return GotStep::Nothing;
@@ -103,19 +97,46 @@ fn get_long(body: &[u8], at: usize, w: u64) -> GotStep
     GotStep::Step(z, n)
 }
 
-// The step whose code stands at the bit offset `at`: one bit, 0, for the step 0.
+// The step whose code stands at the top of w: one bit, 0, for the step 0.
+fn step_ahead(w: u64) -> GotStep
+    ensures { λ r. ⌜ StepFound (bitsOf 64 w) r ⌝ }
+{
+    if w < 9223372036854775808 {
+        return GotStep::Step(0, 1);
+    }
+    long_ahead(w)
+}
+
+// The step whose code stands at the bit offset `at`, which lies in the last eight bytes: there may be fewer bits than the code has.
+fn last_step(body: &[u8], at: usize) -> GotStep
+    requires { ⌜ Within (now body) at × (8 ≤ length (now body)) × (8 * length (now body) ≤ at + 64) ⌝ }
+    ensures { λ r. ⌜ StepFound (drop at (bits (now (body .entry)))) r ⌝ }
+{
+    let left = 8 * body.len() - at;
+    if left == 0 {
+        return GotStep::Nothing;
+    }
+    let got = step_ahead(peek(body, at));
+    let GotStep::Step(_, n) = got else {
+        return GotStep::Nothing;
+    };
+    if left < n {
+        return GotStep::Nothing;
+    }
+    got
+}
+
+// The step whose code stands at the bit offset `at`. Eight bytes from the offset's own on hold at least 57 bits from it on, and a code
+// has at most 36: where so many bytes stand there, nothing else is tested.
 fn get_step(body: &[u8], at: usize) -> GotStep
     requires { ⌜ Within (now body) at × (128 ≤ at) ⌝ }
     ensures { λ r. ⌜ StepFound (drop at (bits (now (body .entry)))) r ⌝ }
 {
-    if 8 * body.len() == at {
-        return GotStep::Nothing;
+    let b = at / 8;
+    if b + 8 <= body.len() {
+        return step_ahead(bits::get_bytes(body, b, 8) << (at % 8));
     }
-    let w = peek(body, at);
-    if w < 9223372036854775808 {
-        return GotStep::Step(0, 1);
-    }
-    get_long(body, at, w)
+    last_step(body, at)
 }
 
 // The position after a and b whose step is z. What z adds to b is compared with the room on either side, since the sum can leave 64 bits.

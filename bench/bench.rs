@@ -4,7 +4,9 @@
 //! Usage: bench [samples]
 //!
 //! Live addition and stepping are set beside straightforward ones that take and return their
-//! state by value. At the end stand the targets that were not met.
+//! state by value; the straightforward step is a C function as the library's is, so that both
+//! are handed the state in the same way. Positions are timed in runs of one ratio throughout,
+//! which takes a byte and no search. At the end stand the targets that were not met.
 //!
 //! Each sample of the library is timed between two of the straightforward implementation. A
 //! ratio says how many times as fast the library is as the mean of these two; printed are
@@ -39,6 +41,9 @@ const KINDS: [&str; 9] = [
     "one plus noise",
     "mixture of all",
 ];
+
+/// One ratio throughout: a kind of its own, to time the positions.
+const SAME: usize = 9;
 
 // Data
 
@@ -91,6 +96,7 @@ fn ratios(kind: usize) -> Vec<u64> {
             4 => random.bits(),
             5 => 0x3ff0 << 48 | random.bits() >> 16,
             6 => (random.below(2_000) as f64).to_bits(),
+            SAME => ratio,
             _ => (1.0 + random.fraction() * 1e-3).to_bits(),
         };
         ratio
@@ -417,6 +423,37 @@ fn table(call: Call, length: usize, samples: usize) -> Vec<String> {
     missed
 }
 
+/// Prints how fast runs of one ratio throughout are, and answers where they are slower than
+/// those of the straightforward implementation: positions should never be.
+fn positions_table(samples: usize) -> Vec<String> {
+    let mut missed = Vec::new();
+    println!("\npositions, {POINTS} points of one ratio");
+    print!("{:24}", "MB/s");
+    for steps in ["regular", "irregular"] {
+        print!(" | {steps:9} copy   plain library   ratio");
+    }
+    println!();
+    let ratios = ratios(SAME);
+    for call in [Call::Write, Call::Strict, Call::Open] {
+        print!("{:24}", name(call));
+        for steps in ["regular", "irregular"] {
+            let positions = positions(steps == "regular");
+            let cell = measure(call, &runs(&positions, &ratios, POINTS), samples);
+            print!(" | {:14.0} {:7.0}", cell.copy, cell.plain);
+            print!(" {:7.0} {:7.2}", cell.library, cell.ratio);
+            if cell.ratio < 1.0 {
+                missed.push(format!(
+                    "positions, {} of one ratio, {steps}: {:.2} and not 1.00",
+                    name(call),
+                    cell.ratio
+                ));
+            }
+        }
+        println!();
+    }
+    missed
+}
+
 /// Prints what a point costs in runs of several lengths.
 fn growth(samples: usize) {
     println!("\nlibrary, two sines, irregular steps: ns a point by the number of points");
@@ -454,6 +491,7 @@ fn main() {
             missed.extend(table(call, length, samples));
         }
     }
+    missed.extend(positions_table(samples));
     growth(samples);
     println!("\ntargets not met: {}", missed.len());
     for line in missed {

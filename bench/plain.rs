@@ -441,8 +441,15 @@ pub fn cursor_new(count: u64) -> Making {
 }
 
 /// One step, with the state taken and returned by value.
-#[inline(never)]
 pub fn step(body: &[u8], cursor: Cursor) -> Stepped {
+    step_in_c(body.as_ptr(), body.len(), cursor)
+}
+
+/// The same as a C function with the signature of the library's.
+#[inline(never)]
+extern "C" fn step_in_c(body: *const u8, length: usize, cursor: Cursor) -> Stepped {
+    // SAFETY: `step` alone calls this, with the parts of a slice.
+    let body = unsafe { std::slice::from_raw_parts(body, length) };
     let refuse = |number| Stepped {
         number,
         place: 0,

@@ -2,6 +2,7 @@
 use mathlib.Core.Path.{_≡_, refl, sym, ap, _∙_}
 use mathlib.Core.Bool.{Bool, true, false}
 use mathlib.Core.List.{List, [], _∷_}
+use mathlib.Core.Logic.{_⊎_, inl, inr}
 use Prim.Native.Nat.{ℕ, _+_, _-_, _≤_, _<_}
 use native.Mathlib.Nat.{lt-of-not-le}
 use native.Mathlib.Omega.{arith}
@@ -15,37 +16,73 @@ use Rattle.ratio_format.specs.Choice.{find}
 use Rattle.ratio_format.specs.Forms.{coded}
 use Rattle.ratio_format.proofs.Choice.{find-at, find-lt, find-first}
 use Rattle.ratio_search.proofs.Found.{window-has, window-at, window-length}
-use Rattle.ratio_bodies.specs.Indexes.{keyOf, Indexed}
+use Rattle.ratio_bodies.specs.Indexes.{keyOf, Bounded, Indexed, Trailing}
 use Rattle.ratio_bodies.proofs.Start.{coded-in}
 
 -- of no ratio
-pub indexed-none : (l : List ℕ) → Indexed (replicate 509 0) l 0
-indexed-none l = (
-  length-replicate {A = ℕ} 509 0,
-  λ k. omega (arith, below-at 1 (omega arith) (replicate 509 0) (below-replicate 1 509 {d = 0} (omega arith)) k),
+pub trailing-none : (l : List ℕ) → Trailing (replicate 509 0) l 0
+trailing-none l = (
+  (length-replicate {A = ℕ} 509 0, λ k. omega (arith, below-at 1 (omega arith) (replicate 509 0) (below-replicate 1 509 {d = 0} (omega arith)) k)),
   λ j h. absurd (omega arith),
 )
 
--- of one more
-pub indexed-more : (ss l : List ℕ) (i : ℕ) → Indexed ss l i → Indexed (set ss (keyOf (getD l i 0)) (i + 1)) l (i + 1)
-indexed-more ss l i x = (length-set ss key (i + 1) ∙ x .0, λ k. within k (eqb key k) refl, λ j h. passed j h (eqb key (keyOf (getD l j 0))) refl)
+-- no slot names a later one
+later : (ss : List ℕ) (i : ℕ) → Bounded ss i → Bounded ss (i + 1)
+later ss i b = (b .0, λ k. omega (arith, b .1 k))
+
+-- one more: what is known of those before, and that the new one is the last
+more : (ss l : List ℕ) (i : ℕ) → Bounded ss i
+    → ((j : ℕ) → j < i → (j < getD ss (keyOf (getD l j 0)) 0) ⊎ (getD l j 0 ≡ getD l i 0)) → Trailing ss l (i + 1)
+more ss l i b x = (later ss i b, λ j g. rw z (go j g (eqb j i) refl))
+  where
+    z : i + 1 - 1 ≡ i
+    z = omega arith
+
+    go : (j : ℕ) → j < i + 1 → (t : Bool) → eqb j i ≡ t → (j < getD ss (keyOf (getD l j 0)) 0) ⊎ (getD l j 0 ≡ getD l i 0)
+    go j g true q = inr (ap (λ (k : ℕ). getD l k 0) (eqb-true j i q))
+    go j g false q = let n = eqb-false j i q in x j (omega arith)
+
+-- the first
+pub trailing-first : (ss l : List ℕ) → Trailing ss l 0 → Trailing ss l (0 + 1)
+trailing-first ss l x = more ss l 0 (x .0) (λ j g. absurd (omega arith))
+
+-- one that repeats the last
+pub trailing-same : (ss l : List ℕ) (i : ℕ) → 0 < i → getD l (i - 1) 0 ≡ getD l i 0 → Trailing ss l i → Trailing ss l (i + 1)
+trailing-same ss l i h e x = more ss l i (x .0) (λ j g. carry j (x .1 j g))
+  where
+    carry : (j : ℕ) → (j < getD ss (keyOf (getD l j 0)) 0) ⊎ (getD l j 0 ≡ getD l (i - 1) 0) → (j < getD ss (keyOf (getD l j 0)) 0) ⊎ (getD l j 0 ≡ getD l i 0)
+    carry j (inl f) = inl f
+    carry j (inr f) = inr (f ∙ e)
+
+-- any, where all are noted
+pub trailing-more : (ss l : List ℕ) (i : ℕ) → Indexed ss l i → Trailing ss l (i + 1)
+trailing-more ss l i x = more ss l i (x .0) (λ j g. inl (x .1 j g))
+
+-- the last is noted, and with it all that are equal to it
+pub noted : (ss l : List ℕ) (i : ℕ) → 0 < i → Trailing ss l i → Indexed (set ss (keyOf (getD l (i - 1) 0)) (i - 1 + 1)) l i
+noted ss l i h x =
+    ((length-set ss key (i - 1 + 1) ∙ x .0 .0, λ k. within k (eqb key k) refl), λ j g. passed j g (eqb key (keyOf (getD l j 0))) refl)
   where
     key : ℕ
-    key = keyOf (getD l i 0)
+    key = keyOf (getD l (i - 1) 0)
 
-    here : getD (set ss key (i + 1)) key 0 ≡ i + 1
-    here = getD-set-same ss key (i + 1) 0 (omega (arith, x .0))
+    here : getD (set ss key (i - 1 + 1)) key 0 ≡ i - 1 + 1
+    here = getD-set-same ss key (i - 1 + 1) 0 (omega (arith, x .0 .0))
 
-    within : (k : ℕ) (t : Bool) → eqb key k ≡ t → getD (set ss key (i + 1)) k 0 ≤ i + 1
+    within : (k : ℕ) (t : Bool) → eqb key k ≡ t → getD (set ss key (i - 1 + 1)) k 0 ≤ i
     within k true e = rw (← eqb-true key k e) (omega (arith, here))
-    within k false e = omega (arith, getD-set-other ss key k (i + 1) 0 (λ q. eqb-false key k e (sym q)), x .1 k)
+    within k false e = omega (arith, getD-set-other ss key k (i - 1 + 1) 0 (λ q. eqb-false key k e (sym q)), x .0 .1 k)
 
-    passed : (j : ℕ) → j < i + 1 → (t : Bool) → eqb key (keyOf (getD l j 0)) ≡ t → j < getD (set ss key (i + 1)) (keyOf (getD l j 0)) 0
-    passed j h true e = rw (← eqb-true key (keyOf (getD l j 0)) e) (omega (arith, here))
-    passed j h false e =
-        let n = eqb-false key (keyOf (getD l j 0)) e in
-        let other : j ≡ i → ⊥ = λ q. n (ap (λ (m : ℕ). keyOf (getD l m 0)) (sym q)) in
-        omega (arith, getD-set-other ss key (keyOf (getD l j 0)) (i + 1) 0 (λ q. n (sym q)), x .2 j (omega arith))
+    passed : (j : ℕ) → j < i → (t : Bool) → eqb key (keyOf (getD l j 0)) ≡ t → j < getD (set ss key (i - 1 + 1)) (keyOf (getD l j 0)) 0
+    passed j g true e = rw (← eqb-true key (keyOf (getD l j 0)) e) (omega (arith, here))
+    passed j g false e = go (x .1 j g)
+      where
+        n : key ≡ keyOf (getD l j 0) → ⊥
+        n = eqb-false key (keyOf (getD l j 0)) e
+
+        go : (j < getD ss (keyOf (getD l j 0)) 0) ⊎ (getD l j 0 ≡ getD l (i - 1) 0) → j < getD (set ss key (i - 1 + 1)) (keyOf (getD l j 0)) 0
+        go (inl f) = omega (arith, getD-set-other ss key (keyOf (getD l j 0)) (i - 1 + 1) 0 (λ q. n (sym q)), f)
+        go (inr f) = absurd (n (ap keyOf (sym f)))
 
 -- the reference at place p is written, where the ratio there is equal and no newer one is
 pub coded-at : (l : List ℕ) (i v p : ℕ) → i ≤ length l → p < 127 → p < i → getD l (i - 1 - p) 0 ≡ v
@@ -65,7 +102,7 @@ coded-at l i v p h small in-list is newest =
 pub found-at : (ss l : List ℕ) (i n : ℕ) → i ≤ length l → Indexed ss l i → n ≡ getD ss (keyOf (getD l i 0)) 0 → (n ≡ 0 → ⊥) → i - n < 127
     → getD l (n - 1) 0 ≡ getD l i 0 → coded (getD l i 0) (windowOf windowSize (take i l)) ≡ (i - n) ∷ []
 found-at ss l i n h x is some small e =
-    let most : n ≤ i = rw is (x .1 (keyOf (getD l i 0))) in
+    let most : n ≤ i = rw is (x .0 .1 (keyOf (getD l i 0))) in
     let z : i - 1 - (i - n) ≡ n - 1 = omega arith in
     coded-at l i (getD l i 0) (i - n) h small (omega arith) (rw z e)
-    (λ k f g q. let later : k < n = rw is (rw q at (x .2 k g)) in omega arith)
+    (λ k f g q. let later : k < n = rw is (rw q at (x .1 k g)) in omega arith)

@@ -6,7 +6,7 @@ ghost use Prim.Native.Nat.{_+_, _%_, _≤_, _<_};
 ghost use lib.ListN.{length, take, getD, set};
 ghost use Rattle.ratio_format.specs.Windows.{windowSize, windowOf};
 ghost use Rattle.ratio_format.specs.Forms.{coded};
-ghost use Rattle.ratio_bodies.specs.Indexes.{keyOf, Indexed};
+ghost use Rattle.ratio_bodies.specs.Indexes.{keyOf, Indexed, Trailing};
 
 // Stands for no place.
 pub const NONE: usize = 127;
@@ -38,20 +38,6 @@ pub fn looked_up(slots: &[u16; 509], ratios: &[u64], i: usize) -> usize
     NONE
 }
 
-// The same; a ratio that repeats the one before it needs no index.
-pub fn known(slots: &[u16; 509], ratios: &[u64], i: usize) -> usize
-    requires { ⌜ (i < length (now ratios)) × Indexed (now slots) (now ratios) i ⌝ }
-    ensures { λ r. ⌜ (r < 127 → coded (getD (now (ratios .entry)) i 0) (windowOf windowSize (take i (now (ratios .entry)))) ≡ r ∷ []) ⌝ }
-{
-    if i == 0 {
-        return NONE;
-    }
-    if ratios[i - 1] == ratios[i] {
-        return 0;
-    }
-    looked_up(slots, ratios, i)
-}
-
 // Ratio i, of value v, is passed.
 pub fn note(slots: &mut [u16; 509], i: usize, v: u64)
     requires { ⌜ i < 4096 ⌝ }
@@ -59,4 +45,20 @@ pub fn note(slots: &mut [u16; 509], i: usize, v: u64)
 {
     let k = key_of(v);
     slots[k] = (i + 1) as u16;
+}
+
+// The same before the ratio before ratio i is noted; where ratio i repeats it, nothing is. A run of repeats is noted once, at its end.
+pub fn known(slots: &mut [u16; 509], ratios: &[u64], i: usize) -> usize
+    requires { ⌜ (i < length (now ratios)) × (length (now ratios) ≤ 4096) × Trailing (now slots) (now ratios) i ⌝ }
+    ensures { λ r. ⌜ Trailing (now (slots .exit)) (now (ratios .entry)) (i + 1)
+        × (r < 127 → coded (getD (now (ratios .entry)) i 0) (windowOf windowSize (take i (now (ratios .entry)))) ≡ r ∷ []) ⌝ }
+{
+    if i == 0 {
+        return NONE;
+    }
+    if ratios[i - 1] == ratios[i] {
+        return 0;
+    }
+    note(slots, i - 1, ratios[i - 1]);
+    looked_up(slots, ratios, i)
 }

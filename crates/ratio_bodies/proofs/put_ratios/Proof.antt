@@ -1,23 +1,22 @@
 -- `put_ratios` meets its contract. The invariant: the coding of the first i ratios stands at the front, and the rest stays; the planes are
--- those of the ratios before `done`, and the index that of the ratios before i.
-use mathlib.Core.Path.{refl, sym, subst}
-use mathlib.Core.List.{List}
-use Prim.Native.Nat.{ℕ, _+_, _-_, _≤_}
+-- those of the ratios before `done`, and the index that of the ratios before i, but for the last repeats.
+use mathlib.Core.Path.{refl}
+use Prim.Native.Nat.{_-_, _≤_}
 use native.Mathlib.Omega.{arith}
 use borrow.Author.Needs.{needs}
 use borrow.Author.Tests.{le-ltb}
 use lib.ListN.{length, replicate}
 use Rattle.ratio_search.specs.Planes.{Kept}
 use Rattle.ratio_search.proofs.Slots.{kept-none, planes-part}
-use Rattle.ratio_bodies.specs.Indexes.{Indexed}
-use Rattle.ratio_bodies.proofs.Indexed.{indexed-none, indexed-more}
+use Rattle.ratio_bodies.specs.Indexes.{Trailing}
+use Rattle.ratio_bodies.proofs.Indexed.{trailing-none}
 use Rattle.ratio_bodies.proofs.Sent.{Sent, sent-none, sent-full, sent-fits, sent-more, sent-all}
 use Rattle.ratio_bodies.proofs.put_ratios.Statement.{statement}
 use Rattle.ratio_bodies.proofs.put_ratios.Tie as tie
 
 abbrev Inv-loop : tie.InvT-loop
 Inv-loop ratios out₀ planes₀ slots₀ done₀ at₀ i₀ out planes slots done at i =
-    Sent ratios out₀ out at i × Kept planes ratios done × (done ≤ i) × Indexed slots ratios i
+    Sent ratios out₀ out at i × Kept planes ratios done × (done ≤ i) × Trailing slots ratios i
 
 abbrev μ-loop : tie.MeasureT-loop
 μ-loop ratios out₀ planes₀ slots₀ done₀ at₀ i₀ out planes slots done at i = length ratios - i
@@ -25,12 +24,12 @@ abbrev μ-loop : tie.MeasureT-loop
 loop-holds : tie.Need-loop-holds Inv-loop μ-loop
 loop-holds c =
     let a = c .before .before .args in
-    (sent-none (a .ratios .now) (a .out .now), kept-none (replicate 1024 0) (a .ratios .now) refl, omega arith, indexed-none (a .ratios .now))
+    (sent-none (a .ratios .now) (a .out .now), kept-none (replicate 1024 0) (a .ratios .now) refl, omega arith, trailing-none (a .ratios .now))
 
 known-requires : tie.Need-known-requires Inv-loop μ-loop
 known-requires c κs =
     let l = c .before .before .loop in
-    (omega arith, l .inv .3)
+    (omega arith, c .before .before .before .before .before .pre, l .inv .3)
 
 refresh-requires : tie.Need-refresh-requires Inv-loop μ-loop
 refresh-requires c κs =
@@ -53,7 +52,7 @@ put-nth-requires c κs =
     let l = c .before .before .before .before .before .before .before .loop in
     let a = c .before .before .before .before .before .before .before .before .before .before .args in (
       omega arith,
-      k .ensures,
+      k .ensures .1,
       λ e h.
           let q = f .ensures .2 (le-ltb (k .result) 127 e) h in
           planes-part (f .last .0) (a .ratios .now) (f .result - 128) (f .result) (l .i - 127) (l .i) (omega arith) (omega arith) (f .ensures .0 .1),
@@ -75,22 +74,13 @@ returns c =
     let a = c .before .before .before .before .before .before .before .before .before .before .before .before .before .before .before .args in
     sent-full (a .ratios .now) (a .out .now) (l .out) (l .at) (l .i) (l .inv .0) (omega arith) (p .result) (p .last .1 .1 .1 .1 .0) (c .enum-told .given .1) (p .ensures)
 
-mul-note : tie.Need-mul-note Inv-loop μ-loop
-mul-note c = search needs
-
-shared-slice-read-note : tie.Need-shared-slice-read-note Inv-loop μ-loop
-shared-slice-read-note c = search needs
-
-note-requires : tie.Need-note-requires Inv-loop μ-loop
-note-requires c κs = omega (arith, c .before .before .before .before .before .before .before .before .before .before .before .before .before .before .before .before .before .before .pre, c .before .before .before .before .before .before .before .before .before .before .before .before .before .before .loop-test .taken)
-
 add-at : tie.Need-add-at Inv-loop μ-loop
 add-at c =
-    let p = c .before .before .before .before .before .before .before .before .put-nth in
-    let l = c .before .before .before .before .before .before .before .before .before .before .before .before .before .before .before .before .loop in
-    let d = c .before .before .before .before .before .before .before .before .before .before .before .before .before .before .before .before .before .before .before in
+    let p = c .before .before .before .before .before .put-nth in
+    let l = c .before .before .before .before .before .before .before .before .before .before .before .before .before .loop in
+    let d = c .before .before .before .before .before .before .before .before .before .before .before .before .before .before .before .before in
     let a = d .args in
-    let r = c .before .before .before .before .r .given in
+    let r = c .before .r .given in
     omega (arith, sent-fits (a .ratios .now) (a .out .now) (l .out) (l .at) (l .i) (l .inv .0) (omega arith) (p .result) (r .0 .0) (p .last .1 .1 .1 .1 .0) (r .1) (p .ensures), d .good)
 
 add-i : tie.Need-add-i Inv-loop μ-loop
@@ -101,15 +91,15 @@ loop-less c = search needs
 
 loop-again : tie.Need-loop-again Inv-loop μ-loop
 loop-again c =
-    let p = c .before .before .before .before .before .before .before .before .put-nth in
-    let f = c .before .before .before .before .before .before .before .before .before .before .before .refresh in
-    let l = c .before .before .before .before .before .before .before .before .before .before .before .before .before .before .before .before .loop in
-    let a = c .before .before .before .before .before .before .before .before .before .before .before .before .before .before .before .before .before .before .before .args in
-    let r = c .before .before .before .before .r .given in (
+    let p = c .before .before .before .before .before .put-nth in
+    let f = c .before .before .before .before .before .before .before .before .refresh in
+    let l = c .before .before .before .before .before .before .before .before .before .before .before .before .before .loop in
+    let a = c .before .before .before .before .before .before .before .before .before .before .before .before .before .before .before .before .args in
+    let r = c .before .r .given in (
       sent-more (a .ratios .now) (a .out .now) (l .out) (l .at) (l .i) (l .inv .0) (omega arith) (p .result) (r .0 .0) (p .last .1 .1 .1 .1 .0) (r .1) (p .ensures) (p .kept .1 .1 .1 .1 .0),
       f .ensures .0,
       omega arith,
-      subst (λ (ss : List ℕ). Indexed ss (a .ratios .now) (l .i + 1)) (sym (c .note .ensures)) (indexed-more (l .slots) (a .ratios .now) (l .i) (l .inv .3)),
+      c .before .before .before .before .before .before .before .before .before .before .known .ensures .0,
     )
 
 same-length-2 : tie.Need-same-length-2 Inv-loop μ-loop
@@ -138,9 +128,6 @@ put-ratios-spec =
     enum-told
     same-length
     returns
-    mul-note
-    shared-slice-read-note
-    note-requires
     add-at
     add-i
     loop-less

@@ -24,13 +24,13 @@ element-copy-out-next : tie.Need-element-copy-out-next
 element-copy-out-next c = search needs
 
 cast-next : tie.Need-cast-next
-cast-next c = omega (arith, c .before .before .before .before .pre .1 .1 (c .before .key-of .result))
+cast-next c = omega (arith, c .before .before .before .before .pre .1 .0 .1 (c .before .key-of .result))
 
 returns : tie.Need-returns
 returns c = λ h. absurd (omega arith)
 
 sub-if2 : tie.Need-sub-if2
-sub-if2 c = omega (arith, c .before .before .before .before .before .pre .1 .1 (c .before .before .key-of .result))
+sub-if2 c = omega (arith, c .before .before .before .before .before .pre .1 .0 .1 (c .before .before .key-of .result))
 
 returns-2 : tie.Need-returns-2
 returns-2 c = λ h. absurd (omega arith)
@@ -39,13 +39,13 @@ sub-if3 : tie.Need-sub-if3
 sub-if3 c = search needs
 
 mul-if3 : tie.Need-mul-if3
-mul-if3 c = omega (arith, c .before .before .before .before .before .before .pre .1 .1 (c .before .before .before .key-of .result))
+mul-if3 c = omega (arith, c .before .before .before .before .before .before .pre .1 .0 .1 (c .before .before .before .key-of .result))
 
 shared-slice-read-if3 : tie.Need-shared-slice-read-if3
-shared-slice-read-if3 c = omega (arith, c .before .before .before .before .before .before .before .pre .1 .1 (c .before .before .before .before .key-of .result))
+shared-slice-read-if3 c = omega (arith, c .before .before .before .before .before .before .before .pre .1 .0 .1 (c .before .before .before .before .key-of .result))
 
 sub-result : tie.Need-sub-result
-sub-result c = omega (arith, c .before .before .before .before .before .before .before .before .pre .1 .1 (c .before .before .before .before .before .key-of .result))
+sub-result c = omega (arith, c .before .before .before .before .before .before .before .before .pre .1 .0 .1 (c .before .before .before .before .before .key-of .result))
 
 returns-3 : tie.Need-returns-3
 returns-3 c = λ h.

@@ -17,7 +17,7 @@ use Rattle.ratio_format.specs.Forms.{coded}
 use Rattle.ratio_format.proofs.Choice.{find-at, find-lt, find-first}
 use Rattle.ratio_search.proofs.Found.{window-has, window-at, window-length}
 use Rattle.ratio_bodies.specs.Indexes.{keyOf, Bounded, Indexed, Trailing}
-use Rattle.ratio_bodies.proofs.Start.{coded-in}
+use Rattle.ratio_codec.proofs.Named.{coded-in}
 
 -- of no ratio
 pub trailing-none : (l : List ℕ) → Trailing (replicate 509 0) l 0

@@ -17,9 +17,10 @@ use Rattle.ratio_format.specs.Choice.{find}
 use Rattle.ratio_format.specs.Forms.{coded}
 use Rattle.ratio_format.specs.Open.{openRead}
 use Rattle.ratio_format.proofs.Choice.{find-at, find-first, find-lt}
+use Rattle.ratio_codec.proofs.Named.{named-begins}
 use Rattle.ratio_search.proofs.Found.{window-length, window-has, window-at}
 use Rattle.ratio_bodies.specs.Marks.{slotOf, Last, Again, Marks}
-use Rattle.ratio_bodies.proofs.Named.{one-named, named-begins, longer-absent}
+use Rattle.ratio_bodies.proofs.Named.{one-named, longer-absent}
 
 -- before the first ratio
 pub marks-none : (ms l : List ℕ) → length ms ≡ 128 → Marks ms l 0

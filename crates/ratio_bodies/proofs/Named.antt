@@ -16,14 +16,9 @@ use Rattle.ratio_format.specs.Forms.{coded}
 use Rattle.ratio_format.specs.Open.{openRead, openXor}
 use Rattle.ratio_format.proofs.Choice.{find-at, find-lt}
 use Rattle.ratio_format.proofs.RoundTrip.{read-reference}
-use Rattle.ratio_codec.proofs.Heads.{one-is}
-use Rattle.ratio_bodies.proofs.Start.{coded-in}
+use Rattle.ratio_codec.proofs.Named.{Named, coded-in}
 
 module _ (w : List ℕ) (v : ℕ) where
-  -- the first byte is a place of the window that holds v
-  abbrev pub Named : List ℕ → Type 0
-  Named s = (1 ≤ length s) × (getD s 0 0 < length w) × (getD w (getD s 0 0) 0 ≡ v)
-
   never : {A : Type 0} → Refused ≡ Ratio v 1 → A
   never e = let z : _≡_ {A = ℕ} 0 1 = cc in absurd (omega arith)
 
@@ -37,7 +32,7 @@ module _ (w : List ℕ) (v : ℕ) where
       go true false e = never e
       go false y e = never e
 
-  pub one-named : (s : List ℕ) → openRead w s ≡ Ratio v 1 → Named s
+  pub one-named : (s : List ℕ) → openRead w s ≡ Ratio v 1 → Named w v s
   unfolding openRead
   one-named [] e = never e
   one-named (b ∷ s) e = go (ltb b 128) (ltb b (length w)) refl (ltb b 255) (ltb (b - 128) (length w)) (leb 8 (length s)) e
@@ -45,17 +40,13 @@ module _ (w : List ℕ) (v : ℕ) where
       go : (x y : Bool) → ltb b (length w) ≡ y → (z t u : Bool)
           → cond x (cond y (Ratio (getD w b 0) 1) Refused)
           (cond z (cond t (openXor (getD w (b - 128) 0) s) Refused) (cond u (Ratio (numberOf 256 (take 8 s)) 9) Refused)) ≡ Ratio v 1
-          → Named (b ∷ s)
+          → Named w v (b ∷ s)
       go true true f z t u e = (omega arith, ltb-true b (length w) f, cc)
       go true false f z t u e = never e
       go false y f true true u e = absurd (xor-longer (getD w (b - 128) 0) s e)
       go false y f true false u e = never e
       go false y f false t true e = let n : _≡_ {A = ℕ} 9 1 = cc in absurd (omega arith)
       go false y f false t false e = never e
-
-  -- a reference is the one that is written where its place is the smallest
-  pub named-begins : (s : List ℕ) → Named s → begins (coded v w) s ≡ eqb (find v w) (getD s 0 0)
-  named-begins s n = ap (λ (c : List ℕ). begins c s) (coded-in w v (getD s 0 0) (n .1) (n .2)) ∙ sym (one-is s (find v w) (n .0))
 
   -- what is accepted and takes more than one byte is not in the window
   begins-one : (s : List ℕ) (a : ℕ) → begins (a ∷ []) s ≡ true → (rest : List ℕ) × (s ≡ a ∷ rest)

@@ -1,16 +1,14 @@
--- The part of a list that is the window of a ratio in it, and what is written against that window.
+-- The part of a list that is the window of a ratio in it, and the form against that window.
 use mathlib.Core.Path.{_≡_, sym, ap, _∙_}
-use mathlib.Core.List.{List, [], _∷_, reverse}
-use Prim.Native.Nat.{ℕ, _-_, _≤_, _<_}
+use mathlib.Core.List.{List, reverse}
+use Prim.Native.Nat.{ℕ, _-_, _≤_}
 use native.Mathlib.Omega.{arith}
-use lib.ListN.{length, getD, take, drop, length-take}
-use borrow.Author.Tests.{lt-ltb}
+use lib.ListN.{length, take, drop, length-take}
 use Rattle.ratio_format.specs.declared.Form.{Form}
 use Rattle.ratio_format.specs.Windows.{windowSize, windowOf}
-use Rattle.ratio_format.specs.Choice.{find, form}
-use Rattle.ratio_format.specs.Forms.{written, coded, Fit}
+use Rattle.ratio_format.specs.Choice.{form}
+use Rattle.ratio_format.specs.Forms.{Fit}
 use Rattle.ratio_format.proofs.Windows.{window-of}
-use Rattle.ratio_format.proofs.Choice.{find-lt}
 use Rattle.ratio_codec.proofs.Chosen.{chosen-fit}
 
 -- from its start f up to the ratio i
@@ -22,8 +20,3 @@ pub window-fit : (l : List ℕ) (i v : ℕ) (f : Form) → i ≤ length l → f 
 window-fit l i v f h e =
     let a = i - windowSize in
     chosen-fit (take (i - a) (drop a l)) v f (e ∙ ap (form v) (sym (window-of windowSize l i h))) (omega (arith, length-take (i - a) (drop a l)))
-
--- a ratio of the window is written as its smallest place
-pub coded-in : (w : List ℕ) (v p : ℕ) → p < length w → getD w p 0 ≡ v → coded v w ≡ find v w ∷ []
-unfolding coded written form
-coded-in w v p h e = rw (lt-ltb (find v w) (length w) (find-lt v w p h e))

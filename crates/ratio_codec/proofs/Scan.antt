@@ -1,26 +1,23 @@
--- A scan of a window from its newest ratio on, as the search goes: the best of the ratios passed, with one more, and where it ends.
+-- A scan of a window from its newest ratio on, as the search goes: the best of the ratios passed, with one more, with more that are passed
+-- over, and where it ends.
 use mathlib.Core.Path.{_≡_, refl, sym, ap, _∙_}
 use mathlib.Core.Bool.{Bool, true, false}
 use mathlib.Core.List.{List, [], _∷_, _++_, append-nil, reverse}
-use Prim.Native.Nat.{ℕ, _+_, _-_, _≤_, _<_}
+use Prim.Native.Nat.{ℕ, suc, _+_, _-_, _≤_, _<_}
 use native.Mathlib.Numerals.{add-one}
 use native.Mathlib.Omega.{arith}
 use borrow.Author.Tests.{leb-true, leb-false}
-use lib.Bits.{bitXor}
 use lib.Dec.{leb}
-use lib.ListN.{length, take, drop, getD, length-reverse, take-append-drop}
-use lib.Seq.{take-suc, take-all, length-take-le, append-snoc}
+use lib.ListN.{length, take, drop, getD, length-take, length-reverse, take-append-drop}
+use lib.Seq.{take-suc, take-all, take-add, length-take-le, append-snoc, getD-take, getD-drop}
 use Rattle.ratio_format.specs.Zeros.{score}
 use Rattle.ratio_format.specs.Choice.{Best, newer, best}
-use Rattle.ratio_format.proofs.Zeros.{lead-le, trail-le}
 use Rattle.ratio_format.proofs.Score.{score-same}
 use Rattle.ratio_format.proofs.Choice.{best-most, best-wins, best-stays}
 use Rattle.ratio_format.proofs.Windows.{back}
-
--- no sum is above 16
-score-le : (v u : ℕ) → score v u ≤ 16
-unfolding score
-score-le v u = omega (arith, lead-le (bitXor v u), trail-le (bitXor v u))
+use Rattle.ratio_codec.specs.Passed.{Passed}
+use Rattle.ratio_codec.proofs.Passed.{passed-one}
+use Rattle.ratio_codec.proofs.Sums.{score-le}
 
 module _ (v : ℕ) where
   -- one ratio more makes the best sum no smaller
@@ -58,16 +55,17 @@ module _ (v : ℕ) where
         go ih false e false f =
             absurd (omega (arith, leb-false (score v u) (best v w .sum) e, ap (λ (b : Best). b .sum) (best-stays v x w refl (leb-false (best v w .sum) (score v x) f))))
 
-  -- older ratios change nothing where the sum is 16
-  best-full : (w rest : List ℕ) → best v w .sum ≡ 16 → best v (w ++ rest) ≡ best v w
-  best-full w [] e = ap (best v) (append-nil w)
-  best-full w (x ∷ rest) e =
-      let l = older-loses x w (omega (arith, score-le v x)) in
-      ap (best v) (sym (append-snoc w x rest)) ∙ best-full (w ++ (x ∷ [])) rest (ap (λ (b : Best). b .sum) l ∙ e) ∙ l
+  -- older ratios with no larger sum change nothing
+  best-over : (w rest : List ℕ) → Passed v rest (best v w .sum) 0 (length rest) → best v (w ++ rest) ≡ best v w
+  best-over w [] h = ap (best v) (append-nil w)
+  best-over w (x ∷ rest) h =
+      let l = older-loses x w (h 0 (omega arith) (omega arith)) in
+      let e : best v (w ++ (x ∷ [])) .sum ≡ best v w .sum = ap (λ (b : Best). b .sum) l in
+      ap (best v) (sym (append-snoc w x rest)) ∙ best-over (w ++ (x ∷ [])) rest (λ k f g. rw e (h (suc k) (omega arith) (omega arith))) ∙ l
 
-  -- of the slice l, oldest first: the i newest are passed, and p and s are the best of them
+  -- of the slice l, oldest first: the i newest are passed, none of them is equal, and p and s are the best of them
   abbrev pub Scanned : List ℕ → ℕ → ℕ → ℕ → Type 0
-  Scanned l i p s = (i ≤ length l) × (s < 16) × (best v (take i (reverse l)) ≡ record { place = p; sum = s })
+  Scanned l i p s = (i ≤ length l) × (s ≤ 7) × (best v (take i (reverse l)) ≡ record { place = p; sum = s })
 
   pub scan-none : (l : List ℕ) → Scanned l 0 0 0
   unfolding best
@@ -76,6 +74,25 @@ module _ (v : ℕ) where
   -- all are passed
   pub scan-all : (l : List ℕ) (i p s : ℕ) → Scanned l i p s → length l ≤ i → best v (reverse l) ≡ record { place = p; sum = s }
   scan-all l i p s h g = ap (best v) (sym (take-all i (reverse l) (rw length-reverse g))) ∙ h .2
+
+  -- more are passed, up to r
+  module _ (l : List ℕ) (i p s : ℕ) (h : Scanned l i p s) (r : ℕ) (g : i ≤ r) (q : Passed v (reverse l) s i r) where
+    abbrev rest : List ℕ
+    rest = take (r - i) (drop i (reverse l))
+
+    split : take r (reverse l) ≡ take i (reverse l) ++ rest
+    split =
+        let e : r ≡ i + (r - i) = omega arith in
+        ap (λ (n : ℕ). take n (reverse l)) e ∙ take-add i (r - i) (reverse l)
+
+    quiet : Passed v rest (best v (take i (reverse l)) .sum) 0 (length rest)
+    quiet k f x =
+        let n : k < r - i = omega (arith, length-take (r - i) (drop i (reverse l))) in
+        let e : getD rest k 0 ≡ getD (reverse l) (i + k) 0 = getD-take (r - i) (drop i (reverse l)) k 0 n ∙ getD-drop i (reverse l) k 0 in
+        omega (arith, ap (λ (b : Best). b .sum) (h .2), ap (score v) e, q (i + k) (omega arith) (omega arith))
+
+    pub scan-pass : r ≤ length l → Scanned l r p s
+    scan-pass f = (f, h .1, ap (best v) split ∙ best-over (take i (reverse l)) rest quiet ∙ h .2)
 
   -- the next one
   module _ (l : List ℕ) (i p s : ℕ) (h : Scanned l i p s) (g : i < length l) where
@@ -99,11 +116,11 @@ module _ (v : ℕ) where
         ap (best v) more ∙ older-wins next (take i (reverse l)) (omega (arith, sum-is))
         ∙ ap (λ (n : ℕ). record { place = n; sum = score v next }) passed
 
-    pub scan-wins : s < score v next → score v next < 16 → Scanned l (i + 1) i (score v next)
+    pub scan-wins : s < score v next → score v next ≤ 7 → Scanned l (i + 1) i (score v next)
     scan-wins k m = (omega arith, m, wins k)
 
     pub scan-loses : score v next ≤ s → Scanned l (i + 1) p s
-    scan-loses k = (omega arith, h .1, ap (best v) more ∙ older-loses next (take i (reverse l)) (omega (arith, sum-is)) ∙ h .2)
+    scan-loses k = scan-pass l i p s h (i + 1) (omega arith) (passed-one v (reverse l) s i (rw (back l i g) k)) (omega arith)
 
     -- an equal one ends the scan
     pub scan-equal : next ≡ v → best v (reverse l) ≡ record { place = i; sum = 16 }
@@ -111,5 +128,6 @@ module _ (v : ℕ) where
         let q : score v next ≡ 16 = ap (score v) e ∙ score-same v in
         let b = wins (omega arith) in
         ap (best v) (sym (take-append-drop (i + 1) (reverse l)))
-        ∙ best-full (take (i + 1) (reverse l)) (drop (i + 1) (reverse l)) (ap (λ (b : Best). b .sum) b ∙ q)
+        ∙ best-over (take (i + 1) (reverse l)) (drop (i + 1) (reverse l))
+        (λ k f n. omega (arith, ap (λ (b : Best). b .sum) b, score-le v (getD (drop (i + 1) (reverse l)) k 0)))
         ∙ b ∙ ap (λ (n : ℕ). record { place = i; sum = n }) q

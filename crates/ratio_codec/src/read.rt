@@ -7,6 +7,7 @@ ghost use Rattle.bits.specs.Compare.{begins};
 ghost use Rattle.ratio_format.specs.Open.{openXor, openRead, strictRead};
 ghost use Rattle.ratio_format.specs.Forms.{Fit};
 ghost use Rattle.ratio_codec.specs.Heads.{head};
+use super::search::pass_equal;
 use super::write::choose;
 use bits::get_bytes;
 use ratio_format::Form;
@@ -108,7 +109,7 @@ pub fn has_head(f: Form, s: &[u8]) -> bool
 }
 
 // The ratio at the front of the bytes, where they are those that are written for it: of bytes that are read as a ratio, the head decides.
-pub fn read_strict(window: &[u64], s: &[u8]) -> Read
+fn read_by_head(window: &[u64], s: &[u8]) -> Read
     requires { ⌜ length (now window) ≤ 127 ⌝ }
     ensures { λ r. ⌜ r ≡ strictRead (reverse (now (window .entry))) (now (s .entry)) ⌝ }
 {
@@ -121,4 +122,23 @@ pub fn read_strict(window: &[u64], s: &[u8]) -> Read
         return Read::Ratio(v, n);
     }
     Read::Refused
+}
+
+// The same. A place needs no search: it is what is written where no nearer one holds an equal ratio.
+pub fn read_strict(window: &[u64], s: &[u8]) -> Read
+    requires { ⌜ length (now window) ≤ 127 ⌝ }
+    ensures { λ r. ⌜ r ≡ strictRead (reverse (now (window .entry))) (now (s .entry)) ⌝ }
+{
+    if s.len() == 0 {
+        return Read::Refused;
+    }
+    let b = s[0] as usize;
+    if b < window.len() {
+        let v = window[window.len() - 1 - b];
+        if pass_equal(window, 0, v) == b {
+            return Read::Ratio(v, 1);
+        }
+        return Read::Refused;
+    }
+    read_by_head(window, s)
 }

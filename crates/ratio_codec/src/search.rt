@@ -1,8 +1,11 @@
 // The search for the ratio of a window that agrees with a given one in the most leading and trailing zero bytes.
 ghost use mathlib.Core.Path.{_≡_};
 ghost use mathlib.Core.List.{reverse};
+ghost use Prim.Native.Nat.{ℕ, _+_, _-_, _^_, _≤_};
+ghost use lib.ListN.{length, drop};
 ghost use Rattle.ratio_format.specs.Zeros.{leadZeros, trailZeros, score};
-ghost use Rattle.ratio_format.specs.Choice.{best};
+ghost use Rattle.ratio_format.specs.Choice.{find, best};
+ghost use Rattle.ratio_codec.specs.Passed.{Passed};
 
 // A place of the window and the sum there.
 pub struct Best {
@@ -32,7 +35,55 @@ pub fn score_of(v: u64, u: u64) -> usize
     lead_zeros(x) + trail_zeros(x)
 }
 
-// The largest sum at its smallest place. The newest ratio is looked at first, and an equal one, whose sum is the largest there is, ends it.
+// The first place from `from` on whose ratio is v, or the window's length.
+pub fn pass_equal(window: &[u64], from: usize, v: u64) -> usize
+    requires { ⌜ from ≤ length (now window) ⌝ }
+    ensures { λ r. ⌜ r ≡ from + find v (drop from (reverse (now (window .entry)))) ⌝ }
+{
+    let mut i = from;
+    while i < window.len() {
+        if window[window.len() - 1 - i] == v {
+            return i;
+        }
+        i += 1;
+    }
+    i
+}
+
+// The first place from `from` on whose ratio may have a sum above s, where `bound` is 256 ^ (7 - s), or the window's length: an xor from
+// the bound on has at most s leading zero bytes, and one whose lowest byte is not 0 has no trailing one.
+fn pass_over(window: &[u64], from: usize, v: u64, bound: u64) -> usize
+    requires { ⌜ from ≤ length (now window) ⌝ }
+    ensures { λ r. ⌜ (from ≤ r) × (r ≤ length (now (window .entry)))
+        × ((s : ℕ) → 256 ^ (7 - s) ≤ bound → Passed v (reverse (now (window .entry))) s from r) ⌝ }
+{
+    let mut i = from;
+    while i < window.len() {
+        let x = v ^ window[window.len() - 1 - i];
+        if x < bound {
+            return i;
+        }
+        if x % 256 == 0 {
+            return i;
+        }
+        i += 1;
+    }
+    i
+}
+
+// The first place from `from` on whose ratio may have a larger sum, or the window's length. Only an equal ratio has a sum above 7.
+fn pass(window: &[u64], from: usize, v: u64, sum: usize) -> usize
+    requires { ⌜ (from ≤ length (now window)) × (sum ≤ 7) ⌝ }
+    ensures { λ r. ⌜ (from ≤ r) × (r ≤ length (now (window .entry))) × Passed v (reverse (now (window .entry))) sum from r ⌝ }
+{
+    if sum == 7 {
+        return pass_equal(window, from, v);
+    }
+    pass_over(window, from, v, 1 << (8 * (7 - sum)))
+}
+
+// The largest sum at its smallest place. The newest ratio is looked at first, ratios that cannot have a larger sum are passed over, and
+// an equal one, whose sum is the largest there is, ends it.
 pub fn search(window: &[u64], v: u64) -> Best
     ensures { λ r. ⌜ (r .place ≡ best v (reverse (now (window .entry))) .place) × (r .sum ≡ best v (reverse (now (window .entry))) .sum) ⌝ }
 {
@@ -49,7 +100,7 @@ pub fn search(window: &[u64], v: u64) -> Best
             place = i;
             sum = s;
         }
-        i += 1;
+        i = pass(window, i + 1, v, sum);
     }
     Best { place, sum }
 }

@@ -10,7 +10,7 @@ use lib.Dec.{eqb, leb}
 use lib.ListN.{getD}
 use Rattle.ratio_format.specs.Zeros.{score}
 use Rattle.ratio_search.specs.Planes.{byteAt, Differs, Planes}
-use Rattle.ratio_search.specs.Passed.{Apart}
+use Rattle.ratio_search.specs.Apart.{Apart}
 use Rattle.ratio_search.proofs.Differ.{differ-le}
 
 or-off : (p q : Bool) → (p || q) ≡ false → (p ≡ false) × (q ≡ false)

@@ -10,7 +10,7 @@ use Rattle.bits.proofs.Digits.{pow-bytes}
 use Rattle.ratio_format.specs.Zeros.{zerosAt, leadZeros, trailZeros}
 use Rattle.ratio_format.proofs.Zeros.{lowBytes, lead-is, trail-is}
 use Rattle.ratio_search.specs.Planes.{byteAt}
-use Rattle.ratio_search.specs.Passed.{Apart}
+use Rattle.ratio_search.specs.Apart.{Apart}
 
 -- zeros end at an element that is not 0
 zeros-le : (bs : List ℕ) (k : ℕ) → k < length bs → (getD bs k 0 ≡ 0 → ⊥) → zerosAt bs ≤ k

@@ -5,7 +5,7 @@ use lib.Bits.{bitXor, xor-shr, xor-mod}
 use Rattle.ratio_format.specs.Zeros.{score}
 use Rattle.ratio_format.proofs.Score.{xor-zero}
 use Rattle.ratio_search.specs.Planes.{byteAt}
-use Rattle.ratio_search.specs.Passed.{Apart}
+use Rattle.ratio_search.specs.Apart.{Apart}
 use Rattle.ratio_search.proofs.Bytes.{apart-le}
 
 -- a byte of the xor is the xor of the bytes

@@ -4,22 +4,15 @@ use mathlib.Core.List.{List, reverse}
 use Prim.Native.Nat.{ℕ, _+_, _-_, _≤_, _<_}
 use native.Mathlib.Nat.{lt-of-not-le}
 use native.Mathlib.Omega.{arith}
-use lib.Bits.{bitXor}
 use lib.ListN.{length, take, getD, length-take, length-reverse}
 use lib.Seq.{getD-take, length-take-le}
 use Rattle.ratio_format.specs.Windows.{windowSize, windowOf}
 use Rattle.ratio_format.specs.Zeros.{score}
 use Rattle.ratio_format.specs.Choice.{best}
-use Rattle.ratio_format.proofs.Zeros.{lead-le, trail-le}
 use Rattle.ratio_format.proofs.Windows.{back-at}
 use Rattle.ratio_format.proofs.Choice.{best-at, best-most, best-first}
 use Rattle.ratio_codec.specs.Searched.{Searched}
-use Rattle.ratio_search.specs.Passed.{Passed}
-
--- no sum is above 16
-pub score-most : (v u : ℕ) → score v u ≤ 16
-unfolding score
-score-most v u = omega (arith, lead-le (bitXor v u), trail-le (bitXor v u))
+use Rattle.ratio_codec.specs.Passed.{Passed}
 
 module _ (l : List ℕ) (v i : ℕ) (h : i ≤ length l) where
   abbrev w : List ℕ

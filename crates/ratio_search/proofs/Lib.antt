@@ -1,6 +1,5 @@
 pub mod Bytes
 pub mod Differ
-pub mod Passed
 pub mod Slots
 pub mod Blocks
 pub mod Found

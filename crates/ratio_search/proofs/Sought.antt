@@ -11,9 +11,10 @@ use Rattle.ratio_format.specs.Windows.{windowSize, windowOf}
 use Rattle.ratio_format.specs.Zeros.{score}
 use Rattle.ratio_format.proofs.Score.{score-same}
 use Rattle.ratio_codec.specs.Searched.{Searched}
-use Rattle.ratio_search.specs.Passed.{Passed}
-use Rattle.ratio_search.proofs.Passed.{passed-none, passed-more, passed-join, passed-mono}
-use Rattle.ratio_search.proofs.Found.{score-most, found-none, found-best}
+use Rattle.ratio_codec.specs.Passed.{Passed}
+use Rattle.ratio_codec.proofs.Passed.{passed-none, passed-more, passed-join, passed-mono}
+use Rattle.ratio_codec.proofs.Sums.{score-le}
+use Rattle.ratio_search.proofs.Found.{found-none, found-best}
 
 module _ (v : ℕ) (l : List ℕ) (i : ℕ) where
   -- the sum is that of the newest ratio with the largest sum, at the index `at`
@@ -74,4 +75,4 @@ module _ (v : ℕ) (l : List ℕ) (i : ℕ) where
           let p : i - 1 - (q - 1) ≡ i - q = omega arith in
           subst (λ (n : ℕ). Searched v (windowOf windowSize (take i l)) n 16) p
           (found-best l v i h (q - 1) 16 (omega arith) (omega arith) (omega arith) (ap (score v) e ∙ score-same v)
-          (λ k a b. omega (arith, s .5 k (omega arith) b)) (λ k a b. score-most v (getD l k 0)))
+          (λ k a b. omega (arith, s .5 k (omega arith) b)) (λ k a b. score-le v (getD l k 0)))

@@ -5,7 +5,7 @@ ghost use mathlib.Core.Logic.{_⊎_};
 ghost use Prim.Native.Nat.{ℕ, _+_, _≤_, _<_};
 ghost use Rattle.ratio_format.specs.Zeros.{leadZeros, trailZeros};
 ghost use Rattle.ratio_search.specs.Planes.{byteAt, Differs};
-ghost use Rattle.ratio_search.specs.Passed.{Apart};
+ghost use Rattle.ratio_search.specs.Apart.{Apart};
 use super::planes::byte_of;
 use ratio_codec::search::lead_zeros;
 use ratio_codec::search::trail_zeros;

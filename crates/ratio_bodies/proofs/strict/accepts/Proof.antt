@@ -12,9 +12,10 @@ use Rattle.ratio_format.specs.declared.Read.the-variants.{Ratio}
 use Rattle.ratio_format.specs.Windows.{windowSize, windowOf}
 use Rattle.ratio_codec.specs.Heads.{head}
 use Rattle.ratio_codec.proofs.Heads.{head-decides}
+use Rattle.ratio_codec.proofs.Named.{Named, named-begins}
 use Rattle.ratio_search.proofs.Found.{window-length}
 use Rattle.ratio_bodies.proofs.Start.{window-fit}
-use Rattle.ratio_bodies.proofs.Named.{Named, one-named, named-begins}
+use Rattle.ratio_bodies.proofs.Named.{one-named}
 use Rattle.ratio_bodies.proofs.Marked.{mark-decides}
 use borrow.Author.Needs.{needs}
 use Rattle.ratio_bodies.proofs.strict.accepts.Statement.{statement}

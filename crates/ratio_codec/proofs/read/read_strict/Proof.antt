@@ -1,86 +1,96 @@
--- `read_strict` meets its contract: an open reading, and the head of the form that is chosen for what was read.
+-- `read_strict` meets its contract: a place is accepted where it is the smallest that holds its ratio, and the head decides of all else.
+use mathlib.Core.Path.{_≡_, refl, sym, _∙_}
 use mathlib.Core.List.{List, reverse}
-use mathlib.Core.Path.{_≡_, sym, ap, _∙_}
-use Prim.Native.Nat.{ℕ, _≤_}
-use lib.ListN.{length, length-reverse}
-use Rattle.bits.specs.Compare.{begins}
-use Rattle.bits.proofs.Below.{below-of}
-use Rattle.ratio_format.specs.declared.Form.{Form}
-use Rattle.ratio_format.specs.Forms.{coded}
-use Rattle.ratio_format.proofs.Reading.{strict-refused, strict-good, strict-other}
-use Rattle.ratio_codec.specs.Heads.{head}
-use Rattle.ratio_codec.proofs.Chosen.{chosen-fit}
-use Rattle.ratio_codec.proofs.Heads.{head-decides}
+use Prim.Native.Nat.{ℕ, _-_, _≤_}
+use native.Mathlib.Omega.{arith}
+use lib.ListN.{length, getD, length-reverse}
+use Rattle.ratio_format.specs.declared.Read.the-variants.{Refused}
+use Rattle.ratio_format.specs.Choice.{find}
+use Rattle.ratio_format.proofs.Windows.{back}
+use Rattle.ratio_format.proofs.Reading.{open-empty, strict-refused}
+use Rattle.ratio_codec.proofs.Named.{Named, named-good, named-other}
 use borrow.Author.Needs.{needs}
 use Rattle.ratio_codec.proofs.read.read_strict.Statement.{statement}
 use Rattle.ratio_codec.proofs.read.read_strict.Tie as tie
 
-read-open-requires : tie.Need-read-open-requires
-read-open-requires c κs = search needs
-
-enum-known-r : tie.Need-enum-known-r
-enum-known-r c = search needs
-
-enum-told : tie.Need-enum-told
-enum-told c = search needs
-
 returns : tie.Need-returns
 returns c =
-    let o = c .before .before .read-open in
-    let a = c .before .before .before .before .before .args in
-    strict-refused (reverse (a .window .now)) (a .s .now) (o .result) (o .ensures) (c .enum-told .given .1)
+    let a = c .before .before .before .args in
+    let w = reverse (a .window .now) in
+    strict-refused w (a .s .now) Refused (open-empty w (a .s .now) (c .if1 .taken)) refl
 
-choose-requires : tie.Need-choose-requires
-choose-requires c κs = search needs
+shared-slice-read-b : tie.Need-shared-slice-read-b
+shared-slice-read-b c = search needs
 
-has-head-requires : tie.Need-has-head-requires
-has-head-requires c κs =
-    let d = c .before .before .before .before .before .before .before in
-    chosen-fit (d .args .window .now) (c .before .before .r .given .0 .0) (c .choose .result) (c .choose .ensures) (d .pre)
+cast-b : tie.Need-cast-b
+cast-b c = omega (arith, c .shared-slice-known3 .given 0)
 
--- what the test of the head says
-module _ (c : tie.After-has-head) where
+sub-v : tie.Need-sub-v
+sub-v c = search needs
+
+sub-v-2 : tie.Need-sub-v-2
+sub-v-2 c = search needs
+
+mul-v : tie.Need-mul-v
+mul-v c = search needs
+
+shared-slice-read-v : tie.Need-shared-slice-read-v
+shared-slice-read-v c = search needs
+
+pass-equal-requires : tie.Need-pass-equal-requires
+pass-equal-requires c κs = search needs
+
+-- the ratio at the place, and that the place was looked for
+module _ (c : tie.After-pass-equal) where
   abbrev l : List ℕ
-  l = c .before .before .before .before .before .before .before .before .args .window .now
+  l = c .before .before .before .before .before .before .before .args .window .now
 
   abbrev s : List ℕ
-  s = c .before .before .before .before .before .before .before .before .args .s .now
+  s = c .before .before .before .before .before .before .before .args .s .now
 
   abbrev v : ℕ
-  v = c .before .before .before .r .given .0 .0
+  v = getD l (length l - 1 - getD s 0 0) 0
 
-  abbrev n : ℕ
-  n = c .before .before .before .r .given .0 .1 .0
+  small : length (reverse l) ≤ 127
+  small = rw length-reverse (c .before .before .before .before .before .before .before .pre)
 
-  says : c .has-head .result ≡ begins (coded v (reverse l)) s
-  says =
-      let k = c .before .before .before .before .before .before .shared-slice-known2 in
-      let o = c .before .before .before .before .before .read-open in
-      let h : length (reverse l) ≤ 127 = rw length-reverse (c .before .before .before .before .before .before .before .before .pre) in
-      c .has-head .ensures ∙ ap (λ (f : Form). begins (head f) s) (c .before .choose .ensures)
-      ∙ sym (head-decides v n (reverse l) h s (below-of 256 s (λ i. k .given i .fits)) (sym (o .ensures) ∙ c .before .before .before .r .given .1))
+  named : Named (reverse l) v s
+  named =
+      let h = c .before .before .if2 .taken in
+      (omega arith, rw length-reverse h, back l (getD s 0 0) h)
+
+  found : find v (reverse l) ≡ c .pass-equal .result
+  found = omega (arith, c .pass-equal .ensures)
 
 returns-2 : tie.Need-returns-2
 returns-2 c =
     let d = c .before in
-    let o = d .before .before .before .before .before .read-open in
-    strict-good (reverse (l d)) (s d) (o .result) (o .ensures) (v d) (n d) (d .has-head .result) (d .before .before .before .r .given .1) (says d) (c .if1 .taken)
+    named-good (reverse (l d)) (v d) (s d) (named d) (small d) (found d ∙ c .if3 .taken)
 
 returns-3 : tie.Need-returns-3
 returns-3 c =
     let d = c .before in
-    let o = d .before .before .before .before .before .read-open in
-    strict-other (reverse (l d)) (s d) (o .result) (o .ensures) (v d) (n d) (d .has-head .result) (d .before .before .before .r .given .1) (says d) (c .if1 .left)
+    named-other (reverse (l d)) (v d) (s d) (named d) (small d) (λ e. c .if3 .left (sym (found d) ∙ e))
+
+read-by-head-requires : tie.Need-read-by-head-requires
+read-by-head-requires c κs = search needs
+
+returns-4 : tie.Need-returns-4
+returns-4 c = search needs
 
 pub read-strict-spec : {M : Type 1} → statement M
 read-strict-spec =
     tie.close
     (tie.spec
-    read-open-requires
-    enum-known-r
-    enum-told
     returns
-    choose-requires
-    has-head-requires
+    shared-slice-read-b
+    cast-b
+    sub-v
+    sub-v-2
+    mul-v
+    shared-slice-read-v
+    pass-equal-requires
     returns-2
-    returns-3)
+    returns-3
+    read-by-head-requires
+    returns-4)

@@ -1,13 +1,13 @@
 -- `search` meets its contract. The invariant: the place and the sum are the best of the i newest ratios, and none of them is equal.
 use mathlib.Core.Path.{sym, ap}
 use mathlib.Core.Logic.{⊎-elim}
-use Prim.Native.Nat.{_-_, _<_}
+use Prim.Native.Nat.{_+_, _-_, _<_}
 use native.Mathlib.Omega.{arith}
 use borrow.Author.Needs.{needs}
 use lib.ListN.{length, getD}
 use Rattle.ratio_format.specs.Choice.{Best}
 use Rattle.ratio_format.proofs.Score.{score-other}
-use Rattle.ratio_codec.proofs.Scan.{Scanned, scan-none, scan-wins, scan-loses, scan-equal, scan-all}
+use Rattle.ratio_codec.proofs.Scan.{Scanned, scan-none, scan-wins, scan-loses, scan-pass, scan-equal, scan-all}
 use Rattle.ratio_codec.proofs.search.search.Statement.{statement}
 use Rattle.ratio_codec.proofs.search.search.Tie as tie
 
@@ -42,14 +42,11 @@ returns c =
 score-of-requires : tie.Need-score-of-requires Inv-loop μ-loop
 score-of-requires c κs = search needs
 
-add-i : tie.Need-add-i Inv-loop μ-loop
-add-i c = omega arith
-
-loop-less : tie.Need-loop-less Inv-loop μ-loop
-loop-less c = omega arith
-
-loop-again : tie.Need-loop-again Inv-loop μ-loop
-loop-again c =
+-- the ratio at place i is counted
+counted : (c : tie.Joined2 Inv-loop μ-loop)
+    → let d = c .before .before .before .before .before .before .before in
+    Scanned (d .args .v) (d .args .window .now) (c .before .before .before .before .before .loop .i + 1) (c .if2 .place) (c .if2 .sum)
+counted c =
     let d = c .before .before .before .before .before .before .before in
     let a = d .args in
     let l = c .before .before .before .before .before .loop in
@@ -61,6 +58,23 @@ loop-again c =
     (λ t. let n = scan-wins (a .v) w (l .i) (l .place) (l .sum) (l .inv) h (omega arith) (omega arith) in let e = n .2 in (n .0, omega arith, cc))
     (λ t. let n = scan-loses (a .v) w (l .i) (l .place) (l .sum) (l .inv) h (omega arith) in let e = n .2 in (n .0, omega arith, cc))
     (c .if2 .came)
+
+add-pass : tie.Need-add-pass Inv-loop μ-loop
+add-pass c = omega arith
+
+pass-requires : tie.Need-pass-requires Inv-loop μ-loop
+pass-requires c κs = let s = counted c in (s .0, s .1)
+
+loop-less : tie.Need-loop-less Inv-loop μ-loop
+loop-less c = omega arith
+
+loop-again : tie.Need-loop-again Inv-loop μ-loop
+loop-again c =
+    let b = c .before in
+    let a = b .before .before .before .before .before .before .before .args in
+    let l = b .before .before .before .before .before .loop in
+    let p = c .pass in
+    scan-pass (a .v) (a .window .now) (l .i + 1) (b .if2 .place) (b .if2 .sum) (counted b) (p .result) (p .ensures .0) (p .ensures .2) (p .ensures .1)
 
 returns-2 : tie.Need-returns-2 Inv-loop μ-loop
 returns-2 c =
@@ -82,7 +96,8 @@ search-spec =
     shared-slice-read-u
     returns
     score-of-requires
-    add-i
+    add-pass
+    pass-requires
     loop-less
     loop-again
     returns-2)

@@ -1,6 +1,6 @@
 -- `pass` meets its contract: blocks are passed over first, and then ratios of a block that has a suspect.
 use native.Mathlib.Omega.{arith}
-use Rattle.ratio_search.proofs.Passed.{passed-join}
+use Rattle.ratio_codec.proofs.Passed.{passed-join}
 use Rattle.ratio_search.proofs.search.pass.Statement.{statement}
 use Rattle.ratio_search.proofs.search.pass.Tie as tie
 

@@ -3,8 +3,8 @@ use Prim.Native.Nat.{_≤_}
 use native.Mathlib.Omega.{arith}
 use borrow.Author.Needs.{needs}
 use Rattle.ratio_format.specs.Zeros.{score}
-use Rattle.ratio_search.specs.Passed.{Passed}
-use Rattle.ratio_search.proofs.Passed.{passed-none, passed-more}
+use Rattle.ratio_codec.specs.Passed.{Passed}
+use Rattle.ratio_codec.proofs.Passed.{passed-none, passed-more}
 use Rattle.ratio_search.proofs.search.pass_ratios.Statement.{statement}
 use Rattle.ratio_search.proofs.search.pass_ratios.Tie as tie
 

@@ -1,4 +1,4 @@
--- Ratios that are passed over: none, one older ratio more, one part after the other, and under a larger sum.
+-- Ratios that are passed over: none, one more at either end, one part after the other, and under a larger sum.
 use mathlib.Core.Path.{_≡_, refl, sym, subst}
 use mathlib.Core.Bool.{Bool, true, false}
 use mathlib.Core.List.{List}
@@ -8,7 +8,7 @@ use borrow.Author.Tests.{leb-true, leb-false}
 use lib.Dec.{leb}
 use lib.ListN.{getD}
 use Rattle.ratio_format.specs.Zeros.{score}
-use Rattle.ratio_search.specs.Passed.{Passed}
+use Rattle.ratio_codec.specs.Passed.{Passed}
 
 module _ (v : ℕ) (l : List ℕ) where
   pub passed-none : (s a : ℕ) → Passed v l s a a
@@ -26,6 +26,9 @@ module _ (v : ℕ) (l : List ℕ) where
   passed-one s a e k h g =
       let i : k ≡ a = omega arith in
       subst (λ (j : ℕ). score v (getD l j 0) ≤ s) (sym i) e
+
+  pub passed-next : (s a b : ℕ) → Passed v l s a b → score v (getD l b 0) ≤ s → Passed v l s a (b + 1)
+  passed-next s a b p e = passed-join s a b (b + 1) p (passed-one s b e)
 
   pub passed-more : (s q c : ℕ) → 0 < q → score v (getD l (q - 1) 0) ≤ s → Passed v l s q c → Passed v l s (q - 1) c
   passed-more s q c h e p =

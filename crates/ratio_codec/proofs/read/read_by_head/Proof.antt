@@ -1,0 +1,86 @@
+-- `read_by_head` meets its contract: an open reading, and the head of the form that is chosen for what was read.
+use mathlib.Core.List.{List, reverse}
+use mathlib.Core.Path.{_≡_, sym, ap, _∙_}
+use Prim.Native.Nat.{ℕ, _≤_}
+use lib.ListN.{length, length-reverse}
+use Rattle.bits.specs.Compare.{begins}
+use Rattle.bits.proofs.Below.{below-of}
+use Rattle.ratio_format.specs.declared.Form.{Form}
+use Rattle.ratio_format.specs.Forms.{coded}
+use Rattle.ratio_format.proofs.Reading.{strict-refused, strict-good, strict-other}
+use Rattle.ratio_codec.specs.Heads.{head}
+use Rattle.ratio_codec.proofs.Chosen.{chosen-fit}
+use Rattle.ratio_codec.proofs.Heads.{head-decides}
+use borrow.Author.Needs.{needs}
+use Rattle.ratio_codec.proofs.read.read_by_head.Statement.{statement}
+use Rattle.ratio_codec.proofs.read.read_by_head.Tie as tie
+
+read-open-requires : tie.Need-read-open-requires
+read-open-requires c κs = search needs
+
+enum-known-r : tie.Need-enum-known-r
+enum-known-r c = search needs
+
+enum-told : tie.Need-enum-told
+enum-told c = search needs
+
+returns : tie.Need-returns
+returns c =
+    let o = c .before .before .read-open in
+    let a = c .before .before .before .before .before .args in
+    strict-refused (reverse (a .window .now)) (a .s .now) (o .result) (o .ensures) (c .enum-told .given .1)
+
+choose-requires : tie.Need-choose-requires
+choose-requires c κs = search needs
+
+has-head-requires : tie.Need-has-head-requires
+has-head-requires c κs =
+    let d = c .before .before .before .before .before .before .before in
+    chosen-fit (d .args .window .now) (c .before .before .r .given .0 .0) (c .choose .result) (c .choose .ensures) (d .pre)
+
+-- what the test of the head says
+module _ (c : tie.After-has-head) where
+  abbrev l : List ℕ
+  l = c .before .before .before .before .before .before .before .before .args .window .now
+
+  abbrev s : List ℕ
+  s = c .before .before .before .before .before .before .before .before .args .s .now
+
+  abbrev v : ℕ
+  v = c .before .before .before .r .given .0 .0
+
+  abbrev n : ℕ
+  n = c .before .before .before .r .given .0 .1 .0
+
+  says : c .has-head .result ≡ begins (coded v (reverse l)) s
+  says =
+      let k = c .before .before .before .before .before .before .shared-slice-known2 in
+      let o = c .before .before .before .before .before .read-open in
+      let h : length (reverse l) ≤ 127 = rw length-reverse (c .before .before .before .before .before .before .before .before .pre) in
+      c .has-head .ensures ∙ ap (λ (f : Form). begins (head f) s) (c .before .choose .ensures)
+      ∙ sym (head-decides v n (reverse l) h s (below-of 256 s (λ i. k .given i .fits)) (sym (o .ensures) ∙ c .before .before .before .r .given .1))
+
+returns-2 : tie.Need-returns-2
+returns-2 c =
+    let d = c .before in
+    let o = d .before .before .before .before .before .read-open in
+    strict-good (reverse (l d)) (s d) (o .result) (o .ensures) (v d) (n d) (d .has-head .result) (d .before .before .before .r .given .1) (says d) (c .if1 .taken)
+
+returns-3 : tie.Need-returns-3
+returns-3 c =
+    let d = c .before in
+    let o = d .before .before .before .before .before .read-open in
+    strict-other (reverse (l d)) (s d) (o .result) (o .ensures) (v d) (n d) (d .has-head .result) (d .before .before .before .r .given .1) (says d) (c .if1 .left)
+
+pub read-by-head-spec : {M : Type 1} → statement M
+read-by-head-spec =
+    tie.close
+    (tie.spec
+    read-open-requires
+    enum-known-r
+    enum-told
+    returns
+    choose-requires
+    has-head-requires
+    returns-2
+    returns-3)

@@ -1,2 +1,3 @@
 pub mod Loan
 pub mod Machine
+pub mod Found

@@ -1,7 +1,8 @@
 // One ratio added to a live coding: its bytes go to the front of the output, and the ratio into the window.
 ghost use mathlib.Core.Path.{_≡_};
 ghost use lib.ListN.{length, replicate};
-ghost use Rattle.ratio_format.specs.Lives.{badWindow, badLive, addAnswer, addOutput, addState};
+ghost use Rattle.ratio_format.specs.Lives.{addAnswer, addOutput, addState};
+ghost use Rattle.live.specs.States.{badFill, badCounts};
 use bits::clear_bytes;
 use bounds::MAX_POINTS;
 use bounds::Wrote;
@@ -9,6 +10,7 @@ use ratio_codec::encode;
 use ratio_format::AddAnswer;
 use ratio_format::Live;
 use ratio_format::Window;
+use ratio_format::push;
 
 // The answer of an addition and the state after it.
 pub struct Addition {
@@ -16,24 +18,21 @@ pub struct Addition {
     pub state: Live,
 }
 
-// Whether the window does not hold what one that took `seen` ratios holds.
-pub(crate) fn bad_window(window: Window, seen: u64) -> bool
-    ensures { λ r. ⌜ r ≡ badWindow window seen ⌝ }
+// Whether a window with this fill does not hold what one that took `seen` ratios holds.
+pub(crate) fn bad_window(fill: u64, seen: u64) -> bool
+    ensures { λ r. ⌜ r ≡ badFill fill seen ⌝ }
 {
-    let fill = window.fill;
     if seen < Window::SIZE as u64 {
         return fill != seen;
     }
     fill != Window::SIZE as u64
 }
 
-// Whether the state of a live coding is bad.
-fn bad_live(state: Live) -> bool
-    ensures { λ r. ⌜ r ≡ badLive state ⌝ }
+// Whether the state of a live coding with these numbers is bad.
+fn bad_live(fill: u64, seen: u64) -> bool
+    ensures { λ r. ⌜ r ≡ badCounts fill seen ⌝ }
 {
-    let window = state.window;
-    let seen = state.seen;
-    if bad_window(window, seen) {
+    if bad_window(fill, seen) {
         return true;
     }
     (MAX_POINTS as u64) < seen
@@ -60,17 +59,18 @@ pub fn add(state: Live, ratio: u64, out: &mut [u8]) -> Addition
         × (r .state ≡ addState state ratio (now (out .entry)))
         × (now (out .exit) ≡ addOutput state ratio (now (out .entry))) ⌝ }
 {
-    if bad_live(state) {
+    let seen = state.seen;
+    if bad_live(state.window.fill, seen) {
         return refuse(7, state, out);
     }
-    let seen = state.seen;
     if MAX_POINTS as u64 <= seen {
         return refuse(3, state, out);
     }
     let window = state.window;
-    let ratios = window.ratios;
-    let fill = window.fill as usize;
-    let wrote = encode(&ratios[..fill], ratio, out);
+    let mut ratios = window.ratios;
+    let fill = window.fill;
+    let filled = fill as usize;
+    let wrote = encode(&ratios[..filled], ratio, out);
     let Wrote::Done(n) = wrote else {
         return refuse(6, state, out);
     };
@@ -79,7 +79,8 @@ pub fn add(state: Live, ratio: u64, out: &mut [u8]) -> Addition
         place: 0,
         length: n as u64,
     };
-    let next = window.push(ratio);
+    let fill = push(&mut ratios, fill, ratio);
+    let next = Window { ratios, fill };
     let state = Live {
         window: next,
         seen: seen + 1,

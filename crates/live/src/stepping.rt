@@ -1,6 +1,10 @@
 // Coded ratios read one by one, strictly: each at the reader's place, against the window of those before it.
+ghost use mathlib.Core.List.{[]};
 ghost use mathlib.Core.Path.{_≡_};
+ghost use lib.ListN.{length};
+ghost use Rattle.ratio_format.specs.Windows.{windowSize};
 ghost use Rattle.ratio_format.specs.Stepping.{made, madeBody, madeCursor, badCursor, stepAnswer, stepCursor};
+ghost use Rattle.live.specs.States.{stateOf, stepFound};
 use super::adding::bad_window;
 use bounds::MAX_POINTS;
 use bounds::Refusal;
@@ -9,6 +13,7 @@ use ratio_format::Cursor;
 use ratio_format::Read;
 use ratio_format::StepAnswer;
 use ratio_format::Window;
+use ratio_format::push;
 
 // What making a reader answers, and the state that the reader starts with.
 #[repr(C)]
@@ -66,15 +71,11 @@ pub fn kept_body<'a>(body: &'a [u8], count: u64) -> &'a [u8]
     }
 }
 
-// Whether the state of a reader of this body is bad.
-fn bad_cursor(body: &[u8], cursor: Cursor) -> bool
-    ensures { λ r. ⌜ r ≡ badCursor (now (body .entry)) cursor ⌝ }
+// Whether the state of a reader of this body with these numbers is bad. The test reads no cell of its window.
+fn bad_state(body: &[u8], place: u64, count: u64, seen: u64, fill: u64) -> bool
+    ensures { λ r. ⌜ r ≡ badCursor (now (body .entry)) (stateOf place count seen [] fill) ⌝ }
 {
-    let window = cursor.window;
-    let seen = cursor.seen;
-    let count = cursor.count;
-    let place = cursor.place;
-    if bad_window(window, seen) {
+    if bad_window(fill, seen) {
         return true;
     }
     if count < seen {
@@ -86,52 +87,76 @@ fn bad_cursor(body: &[u8], cursor: Cursor) -> bool
     (body.len() as u64) < place
 }
 
-// The refusal with this number, or the end: the state stays.
-fn stay(number: u32, cursor: Cursor) -> Step
-    ensures { λ r. ⌜ (r .answer ≡ record { number = number; place = 0; ratio = 0 }) × (r .cursor ≡ cursor) ⌝ }
-{
-    let answer = StepAnswer {
-        number,
-        place: 0,
-        ratio: 0,
-    };
-    Step { answer, cursor }
+// What a step finds: the number of the refusal, or 0 with the ratio and how many bytes it takes.
+struct Found {
+    number: u32,
+    ratio: u64,
+    used: u64,
 }
 
-// One step.
+// No ratio: the refusal with this number, or the end.
+fn nothing(number: u32) -> Found
+    ensures { λ r. ⌜ r ≡ record { number = number; ratio = 0; used = 0 } ⌝ }
+{
+    Found {
+        number,
+        ratio: 0,
+        used: 0,
+    }
+}
+
+// What stands at the place of a reader with these cells and numbers.
+fn seek(body: &[u8], ratios: &[u64], place: u64, count: u64, seen: u64, fill: u64) -> Found
+    requires { ⌜ length (now ratios) ≡ windowSize ⌝ }
+    ensures { λ r. ⌜ r ≡ stepFound (now (body .entry)) (stateOf place count seen (now (ratios .entry)) fill) ⌝ }
+{
+    if bad_state(body, place, count, seen, fill) {
+        return nothing(7);
+    }
+    if seen == count {
+        if place == body.len() as u64 {
+            return nothing(8);
+        }
+        return nothing(18);
+    }
+    let filled = fill as usize;
+    let at = place as usize;
+    let read = read_strict(&ratios[..filled], &body[at..]);
+    let Read::Ratio(ratio, used) = read else {
+        return nothing(18);
+    };
+    Found {
+        number: 0,
+        ratio,
+        used: used as u64,
+    }
+}
+
+// One step. The state is copied in and out once, and its window changed in place.
 pub fn step_at(body: &[u8], cursor: Cursor) -> Step
     ensures { λ r. ⌜ (r .answer ≡ stepAnswer (now (body .entry)) cursor) × (r .cursor ≡ stepCursor (now (body .entry)) cursor) ⌝ }
 {
-    if bad_cursor(body, cursor) {
-        return stay(7, cursor);
-    }
     let place = cursor.place;
     let count = cursor.count;
-    let seen = cursor.seen;
-    if seen == count {
-        if place == body.len() as u64 {
-            return stay(8, cursor);
-        }
-        return stay(18, cursor);
-    }
+    let mut seen = cursor.seen;
     let window = cursor.window;
-    let ratios = window.ratios;
-    let fill = window.fill as usize;
-    let at = place as usize;
-    let read = read_strict(&ratios[..fill], &body[at..]);
-    let Read::Ratio(ratio, used) = read else {
-        return stay(18, cursor);
-    };
+    let mut ratios = window.ratios;
+    let mut fill = window.fill;
+    let found = seek(body, &ratios, place, count, seen, fill);
+    if found.number == 0 {
+        fill = push(&mut ratios, fill, found.ratio);
+        seen = seen + 1;
+    }
     let answer = StepAnswer {
-        number: 0,
+        number: found.number,
         place: 0,
-        ratio,
+        ratio: found.ratio,
     };
-    let next = window.push(ratio);
+    let next = Window { ratios, fill };
     let cursor = Cursor {
-        place: place + used as u64,
+        place: place + found.used,
         count,
-        seen: seen + 1,
+        seen,
         window: next,
     };
     Step { answer, cursor }

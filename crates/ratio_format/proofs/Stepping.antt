@@ -62,8 +62,12 @@ used-of w s v k (Opened.referred p h g e q) = omega arith
 used-of w s v k (Opened.xored p t n h g f e q) = omega arith
 used-of w s v k (Opened.excepted f e q) = omega arith
 
-pub strict-used : (w s : List ℕ) (v k : ℕ) → strictRead w s ≡ Ratio v k → k ≤ length s
+strict-used : (w s : List ℕ) (v k : ℕ) → strictRead w s ≡ Ratio v k → k ≤ length s
 strict-used w s v k e = used-of w s v k (opened w v k s (strict-open v k w s e .0))
+
+-- the next ratio ends within the body
+pub read-within : (b : List ℕ) (c : Cursor) (v k : ℕ) → Good b c → nextRead b c ≡ Ratio v k → c .place + k ≤ length b
+read-within b c v k g r = omega (arith, g .place, length-drop (c .place) b, strict-used (held (c .window)) (drop (c .place) b) v k r)
 
 -- ---- the refusal of a step, and what the step leaves
 
@@ -171,7 +175,7 @@ moved-good b c v k e s r =
       window = window-stays (c .window) v (c .seen) (g .window);
       seen = omega (arith, g .seen, s);
       count = g .count;
-      place = omega (arith, g .place, length-drop (c .place) b, strict-used (held (c .window)) (drop (c .place) b) v k r);
+      place = read-within b c v k g r;
     })
 
 pub cursor-stays : (b : List ℕ) (c : Cursor) → badCursor b c ≡ false → badCursor b (stepCursor b c) ≡ false

@@ -1,8 +1,8 @@
 // The coding of ratios: the types that its calls answer, the window that is kept, definitions and laws.
 ghost use mathlib.Core.Path.{_≡_};
 ghost use mathlib.Core.List.{[], _∷_, _++_};
-ghost use lib.ListN.{drop};
-ghost use Rattle.ratio_format.specs.Windows.{freshWindow, pushed};
+ghost use lib.ListN.{length, drop};
+ghost use Rattle.ratio_format.specs.Windows.{windowSize, freshWindow, pushed};
 ghost use Rattle.ratio_format.specs.Lives.{freshLive};
 
 // How one ratio is written: a place of the window; the xor with the ratio at a place, by its trailing zero bytes, the middle's length
@@ -44,39 +44,32 @@ impl Window {
             fill: 0,
         }
     }
-
-    // The window after the ratio v.
-    pub fn push(self, v: u64) -> Self
-        ensures { λ r. ⌜ r ≡ pushed self v ⌝ }
-    {
-        let fill = self.fill;
-        let cells = self.ratios;
-        if fill < Window::SIZE as u64 {
-            let at = fill as usize;
-            let mut ratios = cells;
-            ratios[at] = v;
-            return Window {
-                ratios,
-                fill: fill + 1,
-            };
-        }
-        let ratios = shifted(cells, v);
-        Window { ratios, fill }
-    }
 }
 
-// The cells moved down by one, and v in the last.
-fn shifted(cells: [u64; Window::SIZE], v: u64) -> [u64; Window::SIZE]
-    ensures { λ r. ⌜ r ≡ drop 1 cells ++ (v ∷ []) ⌝ }
+// The cells moved down by one, and v in the last. They are lent as a slice, whose length the proof then knows.
+fn shift(cells: &mut [u64], v: u64)
+    requires { ⌜ length (now cells) ≡ windowSize ⌝ }
+    ensures { λ _. ⌜ now (cells .exit) ≡ drop 1 (now (cells .entry)) ++ (v ∷ []) ⌝ }
 {
-    let mut moved = cells;
     let mut i: usize = 0;
     while i < Window::SIZE - 1 {
-        moved[i] = moved[i + 1];
+        cells[i] = cells[i + 1];
         i += 1;
     }
-    moved[Window::SIZE - 1] = v;
-    moved
+    cells[Window::SIZE - 1] = v;
+}
+
+// One ratio more, in place: the cells of a window with this fill become those after the ratio v. The answer is the fill afterwards.
+pub fn push(cells: &mut [u64; Window::SIZE], fill: u64, v: u64) -> u64
+    ensures { λ r. ⌜ record { ratios = now (cells .exit); fill = r } ≡ pushed (record { ratios = now (cells .entry); fill = fill }) v ⌝ }
+{
+    if fill < Window::SIZE as u64 {
+        let at = fill as usize;
+        cells[at] = v;
+        return fill + 1;
+    }
+    shift(cells, v);
+    fill
 }
 
 // What a live coding keeps between additions: the window and the number of ratios seen.

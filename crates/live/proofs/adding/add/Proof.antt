@@ -126,21 +126,22 @@ returns-3 c =
 push-requires : tie.Need-push-requires
 push-requires c κs = search needs
 
-add-t16 : tie.Need-add-t16
-add-t16 c = search needs
+add-t18 : tie.Need-add-t18
+add-t18 c = search needs
 
 same-length-4 : tie.Need-same-length-4
 same-length-4 c = search needs
 
 returns-4 : tie.Need-returns-4
 returns-4 c =
-    let n = c .before .before .before .before .before .before in
+    let n = c .before .before .before .before .before .before .before in
     let d = n .before .before .before .before .before in
     let a = d .before .before .before .before .args in
-    let e = rw (c .before .before .wrote .given .1) at (n .encode .ensures) in
+    let g = c .before .before .before .wrote .given in
+    let e = rw (g .1) at (n .encode .ensures) in
     succeeded (a .state) (a .ratio) (a .out .now)
     (add-none (a .state) (a .ratio) (a .out .now) (good (d .before)) (few d) (le-ltb (length (a .out .now)) (length (addBytes (a .state) (a .ratio))) (e .1)))
-    (c .before .before .wrote .given .0 .0) (c .push .result) (n .encode .last .1 .1 .0) (e .0) (c .push .ensures) (e .2)
+    (g .0 .0) (record { ratios = c .push .last .0; fill = c .push .result }) (n .encode .last .1 .1 .0) (e .0) (c .push .ensures) (e .2)
 
 pub add-spec : {M : Type 1} → statement M
 add-spec =
@@ -162,6 +163,6 @@ add-spec =
     same-length-3
     returns-3
     push-requires
-    add-t16
+    add-t18
     same-length-4
     returns-4)

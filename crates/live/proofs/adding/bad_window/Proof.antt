@@ -11,13 +11,13 @@ returns : tie.Need-returns
 returns c =
     let a = c .before .args in
     let e : a .seen ≡ min 127 (a .seen) = omega arith in
-    ap (λ (n : ℕ). not (eqb (a .window .fill) n)) e
+    ap (λ (n : ℕ). not (eqb (a .fill) n)) e
 
 returns-2 : tie.Need-returns-2
 returns-2 c =
     let a = c .before .args in
     let e : 127 ≡ min 127 (a .seen) = omega arith in
-    ap (λ (n : ℕ). not (eqb (a .window .fill) n)) e
+    ap (λ (n : ℕ). not (eqb (a .fill) n)) e
 
 pub bad-window-spec : {M : Type 1} → statement M
 bad-window-spec = tie.close (tie.spec returns returns-2)

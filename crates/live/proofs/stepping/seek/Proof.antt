@@ -1,0 +1,143 @@
+-- `live::stepping::seek` meets its contract: the refusal 7, the end or 18 when all are given, 18 before that, and a ratio.
+use mathlib.Core.Path.{_≡_, sym, ap, _∙_}
+use mathlib.Core.Bool.{true, false}
+use mathlib.Core.List.{List}
+use Prim.Native.Nat.{ℕ, _≤_}
+use native.Mathlib.Omega.{arith}
+use borrow.Author.Needs.{needs}
+use lib.ListN.{length, take}
+use lib.Seq.{length-take-le}
+use Rattle.bits.proofs.Parts.{rest-is}
+use Rattle.ratio_format.specs.declared.Cursor.{Cursor}
+use Rattle.ratio_format.specs.Windows.{held}
+use Rattle.ratio_format.specs.Open.{strictRead}
+use Rattle.ratio_format.specs.Stepping.{badCursor, nextRead}
+use Rattle.ratio_format.proofs.Lives.{good-fill}
+use Rattle.ratio_format.proofs.Stepping.{Good, good-cursor, left-bad, left-end, left-over, left-no, left-ratio}
+use Rattle.live.specs.States.{stateOf}
+use Rattle.live.proofs.Found.{is-none, is-ratio}
+use Rattle.live.proofs.stepping.seek.Statement.{statement}
+use Rattle.live.proofs.stepping.seek.Tie as tie
+
+-- the body and the reader's state
+abbrev body : tie.Start → List ℕ
+body s = s .args .body .now
+
+abbrev state : tie.Start → Cursor
+state s = let a = s .args in stateOf (a .place) (a .count) (a .seen) (a .ratios .now) (a .fill)
+
+-- what the first test says, and what is known after it
+is-bad : (c : tie.Then1) → let s = c .before .before .before .before in badCursor (body s) (state s) ≡ true
+is-bad c = sym (c .before .bad-state .ensures) ∙ c .if1 .taken
+
+not-bad : (c : tie.Else1) → let s = c .before .before .before .before in badCursor (body s) (state s) ≡ false
+not-bad c = sym (c .before .bad-state .ensures) ∙ c .if1 .left
+
+good : (c : tie.Else1) → let s = c .before .before .before .before in Good (body s) (state s)
+good c = let s = c .before .before .before .before in good-cursor (body s) (state s) (not-bad c)
+
+fits : (c : tie.Else1) → c .before .before .before .before .args .fill ≤ 127
+fits c =
+    let s = state (c .before .before .before .before) in
+    omega (arith, good-fill (s .window) (s .seen) (good c .window))
+
+part : (c : tie.Else1) → let a = c .before .before .before .before .args in length (take (a .fill) (a .ratios .now)) ≡ a .fill
+part c =
+    let s = c .before .before .before .before in
+    length-take-le (s .args .fill) (s .args .ratios .now) (omega (arith, fits c, s .pre))
+
+bad-state-requires : tie.Need-bad-state-requires
+bad-state-requires c κs = search needs
+
+nothing-requires : tie.Need-nothing-requires
+nothing-requires c κs = search needs
+
+returns : tie.Need-returns
+returns c =
+    let s = c .before .before .before .before .before in
+    is-none (body s) (state s) (c .nothing .result) 7 (c .nothing .ensures) (left-bad (body s) (state s) (is-bad (c .before)))
+
+nothing-requires-2 : tie.Need-nothing-requires-2
+nothing-requires-2 c κs = search needs
+
+returns-2 : tie.Need-returns-2
+returns-2 c =
+    let d = c .before .before .before in
+    let s = d .before .before .before .before in
+    is-none (body s) (state s) (c .nothing2 .result) 8 (c .nothing2 .ensures) (left-end (body s) (state s) (not-bad d) (c .before .before .if2 .taken) (c .before .if3 .taken))
+
+nothing-requires-3 : tie.Need-nothing-requires-3
+nothing-requires-3 c κs = search needs
+
+returns-3 : tie.Need-returns-3
+returns-3 c =
+    let d = c .before .before .before in
+    let s = d .before .before .before .before in
+    is-none (body s) (state s) (c .nothing3 .result) 18 (c .nothing3 .ensures) (left-over (body s) (state s) (not-bad d) (c .before .before .if2 .taken) (c .before .if3 .left))
+
+slice-aggregate-read-strict : tie.Need-slice-aggregate-read-strict
+slice-aggregate-read-strict c = sym (part (c .before .before))
+
+sub-read-strict : tie.Need-sub-read-strict
+sub-read-strict c = good (c .before .before) .place
+
+part-read-strict-start : tie.Need-part-read-strict-start
+part-read-strict-start c = good (c .before .before) .place
+
+part-read-strict-end : tie.Need-part-read-strict-end
+part-read-strict-end c = search needs
+
+read-strict-requires : tie.Need-read-strict-requires
+read-strict-requires c κs = let d = c .before .before .before in omega (arith, fits d, part d)
+
+-- what was read
+reads : (c : tie.After-read-strict) → let s = c .before .before .before .before .before .before .before .before in nextRead (body s) (state s) ≡ c .read-strict .result
+reads c =
+    let s = c .before .before .before .before .before .before .before .before in
+    sym (c .read-strict .ensures ∙ ap (strictRead (held (state s .window))) (rest-is (s .args .place) (body s)))
+
+enum-known-read : tie.Need-enum-known-read
+enum-known-read c = search needs
+
+enum-told : tie.Need-enum-told
+enum-told c = search needs
+
+nothing-requires-4 : tie.Need-nothing-requires-4
+nothing-requires-4 c κs = search needs
+
+returns-4 : tie.Need-returns-4
+returns-4 c =
+    let r = c .before .before .before in
+    let e = r .before .before .before in
+    let s = e .before .before .before .before .before in
+    is-none (body s) (state s) (c .nothing4 .result) 18 (c .nothing4 .ensures) (left-no (body s) (state s) (not-bad (e .before)) (e .if2 .left) (reads r ∙ c .before .enum-told .given .1))
+
+returns-5 : tie.Need-returns-5
+returns-5 c =
+    let r = c .before .before .before in
+    let e = r .before .before .before in
+    let s = e .before .before .before .before .before in
+    let g = c .before .read .given in
+    is-ratio (body s) (state s) (g .0 .0) (g .0 .1 .0) (left-ratio (body s) (state s) (g .0 .0) (g .0 .1 .0) (not-bad (e .before)) (e .if2 .left) (reads r ∙ g .1))
+
+pub seek-spec : {M : Type 1} → statement M
+seek-spec =
+    tie.close
+    (tie.spec
+    bad-state-requires
+    nothing-requires
+    returns
+    nothing-requires-2
+    returns-2
+    nothing-requires-3
+    returns-3
+    slice-aggregate-read-strict
+    sub-read-strict
+    part-read-strict-start
+    part-read-strict-end
+    read-strict-requires
+    enum-known-read
+    enum-told
+    nothing-requires-4
+    returns-4
+    returns-5)

@@ -1,0 +1,30 @@
+-- Kept states by their numbers, and what a step finds, in terms of the definitions over whole states.
+--   badFill fill seen                     no window that took `seen` ratios has this fill
+--   badCounts fill seen                   a live state with these numbers is bad
+--   stateOf place count seen ratios fill  the reader's state with these cells and numbers
+--   stepFound b c                         the number and the ratio of a step's answer, and how many bytes the step takes
+use mathlib.Core.Bool.{Bool}
+use mathlib.Core.List.{List, []}
+use Prim.Native.Nat.{ℕ, _-_}
+use Rattle.ratio_format.specs.declared.Cursor.{Cursor}
+use Rattle.ratio_format.specs.Lives.{badWindow, badLive}
+use Rattle.ratio_format.specs.Stepping.{stepAnswer, stepCursor}
+use Rattle.live.specs.declared.stepping.Found.{Found}
+
+-- the test reads no cell
+abbrev pub badFill : ℕ → ℕ → Bool
+badFill fill seen = badWindow (record { ratios = []; fill = fill }) seen
+
+-- nor does this one
+abbrev pub badCounts : ℕ → ℕ → Bool
+badCounts fill seen = badLive (record { window = record { ratios = []; fill = fill }; seen = seen })
+
+-- a state put together
+abbrev pub stateOf : ℕ → ℕ → ℕ → List ℕ → ℕ → Cursor
+stateOf place count seen ratios fill =
+    record { place = place; count = count; seen = seen; window = record { ratios = ratios; fill = fill } }
+
+-- a refused step takes none
+abbrev pub stepFound : List ℕ → Cursor → Found
+stepFound b c =
+    record { number = stepAnswer b c .number; ratio = stepAnswer b c .ratio; used = stepCursor b c .place - c .place }

@@ -25,6 +25,10 @@ use Rattle.ratio_format.proofs.Strict.{strict-from-is}
 use Rattle.ratio_format.proofs.Progress.{leftFrom, left-start, left-more, left-refused, left-end, left-over}
 use Rattle.bits.proofs.Parts.{rest-is}
 
+-- what is read from an offset on is read from that part
+pub rest-read : (l : List ℕ) (at : ℕ) (w : List ℕ) {r : Read} → r ≡ openRead w (drop at l) → r ≡ openRead w (take (length l - at) (drop at l))
+rest-read l at w e = e ∙ ap (openRead w) (sym (rest-is at l))
+
 -- the rule uses bytes that are there
 abbrev pub Within : Rule → Type 0
 Within rule = (w s : List ℕ) (v k : ℕ) → rule w s ≡ Ratio v k → k ≤ length s

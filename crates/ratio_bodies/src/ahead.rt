@@ -71,3 +71,19 @@ pub fn open_from(ratios: &[u64], i: usize, body: &[u8], at: usize) -> Read
     }
     open_nth(ratios, i, &body[at..])
 }
+
+// The same for strict reading, which costs more for every other form: a reference is read at once.
+pub fn open_near(ratios: &[u64], i: usize, body: &[u8], at: usize) -> Read
+    requires { ⌜ (i ≤ length (now ratios)) × (at ≤ length (now body)) ⌝ }
+    ensures { λ r. ⌜ r ≡ openRead (windowOf windowSize (take i (now (ratios .entry)))) (drop at (now (body .entry))) ⌝ }
+{
+    if at < body.len() {
+        let b = body[at] as usize;
+        if b < 127 {
+            if b < i {
+                return Read::Ratio(ratios[i - 1 - b], 1);
+            }
+        }
+    }
+    open_nth(ratios, i, &body[at..])
+}

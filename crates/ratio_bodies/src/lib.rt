@@ -16,7 +16,7 @@ pub mod index;
 pub mod strict;
 
 use ahead::open_from;
-use ahead::open_nth;
+use ahead::open_near;
 use bounds::Wrote;
 use choice::choose_nth;
 use choice::refresh;
@@ -77,7 +77,7 @@ pub fn get_strict(body: &[u8], count: usize, out: &mut [u64]) -> bool
     let mut at: usize = 0;
     let mut i: usize = 0;
     while i < count {
-        let r = open_nth(out, i, &body[at..]);
+        let r = open_near(out, i, body, at);
         let Read::Ratio(v, n) = r else {
             return false;
         };

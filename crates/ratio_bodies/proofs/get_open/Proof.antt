@@ -1,17 +1,13 @@
 -- `get_open` meets its contract. The invariant: the first i ratios stand at the front, and reading on from there gives the whole reading.
 use mathlib.Core.Bool.{false}
-use mathlib.Core.List.{List}
-use mathlib.Core.Path.{_≡_, sym, ap, _∙_}
-use Prim.Native.Nat.{ℕ, _-_}
+use Prim.Native.Nat.{_-_}
 use native.Mathlib.Omega.{arith}
 use borrow.Author.Needs.{needs}
 use lib.Dec.{eqb}
-use lib.ListN.{length, take, drop}
-use Rattle.bits.proofs.Parts.{rest-is}
-use Rattle.ratio_format.specs.declared.Read.{Read}
+use lib.ListN.{length, take}
 use Rattle.ratio_format.specs.Windows.{windowSize, windowOf}
 use Rattle.ratio_format.specs.Open.{openRead}
-use Rattle.ratio_bodies.proofs.Got.{Got, filled-open, open-within, got-none, got-refused, got-within, got-more, got-all}
+use Rattle.ratio_bodies.proofs.Got.{Got, rest-read, filled-open, open-within, got-none, got-refused, got-within, got-more, got-all}
 use Rattle.ratio_bodies.proofs.get_open.Statement.{statement}
 use Rattle.ratio_bodies.proofs.get_open.Tie as tie
 
@@ -29,10 +25,6 @@ loop-holds c =
 open-from-requires : tie.Need-open-from-requires Inv-loop μ-loop
 open-from-requires c κs = search needs
 
--- what was read is what the rest of the body gives
-rest : (l : List ℕ) (at : ℕ) (w : List ℕ) {r : Read} → r ≡ openRead w (drop at l) → r ≡ openRead w (take (length l - at) (drop at l))
-rest l at w e = e ∙ ap (openRead w) (sym (rest-is at l))
-
 enum-known-r : tie.Need-enum-known-r Inv-loop μ-loop
 enum-known-r c = search needs
 
@@ -49,7 +41,7 @@ returns c =
     let d = c .before .before .before .before .before .before .before in
     let a = d .before .args in
     filled-open (a .count) (a .body .now) (a .out .now) (l .out) false
-    (got-refused openRead (a .count) (a .body .now) (a .out .now) (l .out) (l .at) (l .i) (l .inv) (omega arith) (r .result) (rest (a .body .now) (l .at) (windowOf windowSize (take (l .i) (l .out))) (r .ensures)) (c .enum-told .given .1))
+    (got-refused openRead (a .count) (a .body .now) (a .out .now) (l .out) (l .at) (l .i) (l .inv) (omega arith) (r .result) (rest-read (a .body .now) (l .at) (windowOf windowSize (take (l .i) (l .out))) (r .ensures)) (c .enum-told .given .1))
 
 mul-out : tie.Need-mul-out Inv-loop μ-loop
 mul-out c = search needs
@@ -63,7 +55,7 @@ add-at c =
     let l = c .before .before .before .before .before .before .loop in
     let a = c .before .before .before .before .before .before .before .before .before .args in
     let g = c .before .r .given in
-    omega (arith, got-within openRead (a .count) (a .body .now) (a .out .now) (l .out) (l .at) (l .i) (l .inv) (omega arith) (r .result) (rest (a .body .now) (l .at) (windowOf windowSize (take (l .i) (l .out))) (r .ensures)) open-within (g .0 .0) (g .0 .1 .0) (g .1))
+    omega (arith, got-within openRead (a .count) (a .body .now) (a .out .now) (l .out) (l .at) (l .i) (l .inv) (omega arith) (r .result) (rest-read (a .body .now) (l .at) (windowOf windowSize (take (l .i) (l .out))) (r .ensures)) open-within (g .0 .0) (g .0 .1 .0) (g .1))
 
 add-i : tie.Need-add-i Inv-loop μ-loop
 add-i c = search needs
@@ -78,7 +70,7 @@ loop-again c =
     let d = c .before .before .before .before .before .before .before .before .before in
     let a = d .args in
     let g = c .before .r .given in
-    got-more openRead (a .count) (a .body .now) (a .out .now) (l .out) (l .at) (l .i) (l .inv) (omega arith) (r .result) (rest (a .body .now) (l .at) (windowOf windowSize (take (l .i) (l .out))) (r .ensures)) open-within (g .0 .0) (g .0 .1 .0) (g .1) (d .pre)
+    got-more openRead (a .count) (a .body .now) (a .out .now) (l .out) (l .at) (l .i) (l .inv) (omega arith) (r .result) (rest-read (a .body .now) (l .at) (windowOf windowSize (take (l .i) (l .out))) (r .ensures)) open-within (g .0 .0) (g .0 .1 .0) (g .1) (d .pre)
 
 same-length-2 : tie.Need-same-length-2 Inv-loop μ-loop
 same-length-2 c = search needs

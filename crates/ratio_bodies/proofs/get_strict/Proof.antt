@@ -21,7 +21,7 @@ use Rattle.ratio_search.proofs.Found.{window-length}
 use Rattle.ratio_bodies.specs.Marks.{Marks}
 use Rattle.ratio_bodies.proofs.Named.{one-named}
 use Rattle.ratio_bodies.proofs.Marked.{marks-none, marks-more}
-use Rattle.ratio_bodies.proofs.Got.{Got, filled-strict, strict-within, got-none, got-refused, got-within, got-more, got-all}
+use Rattle.ratio_bodies.proofs.Got.{Got, rest-read, filled-strict, strict-within, got-none, got-refused, got-within, got-more, got-all}
 use Rattle.ratio_bodies.proofs.get_strict.Statement.{statement}
 use Rattle.ratio_bodies.proofs.get_strict.Tie as tie
 
@@ -41,17 +41,8 @@ loop-holds c =
       marks-none (replicate 128 0) (a .out .now) refl,
     )
 
-sub-open-nth : tie.Need-sub-open-nth Inv-loop μ-loop
-sub-open-nth c = search needs
-
-part-open-nth-start : tie.Need-part-open-nth-start Inv-loop μ-loop
-part-open-nth-start c = search needs
-
-part-open-nth-end : tie.Need-part-open-nth-end Inv-loop μ-loop
-part-open-nth-end c = search needs
-
-open-nth-requires : tie.Need-open-nth-requires Inv-loop μ-loop
-open-nth-requires c κs = search needs
+open-near-requires : tie.Need-open-near-requires Inv-loop μ-loop
+open-near-requires c κs = search needs
 
 enum-known-r : tie.Need-enum-known-r Inv-loop μ-loop
 enum-known-r c = search needs
@@ -64,19 +55,19 @@ same-length c = search needs
 
 returns : tie.Need-returns Inv-loop μ-loop
 returns c =
-    let o = c .before .before .open-nth in
-    let l = c .before .before .before .before .before .before .loop in
-    let d = c .before .before .before .before .before .before .before .before in
+    let o = c .before .before .open-near in
+    let l = c .before .before .before .before .before .loop in
+    let d = c .before .before .before .before .before .before .before in
     let a = d .before .args in
     let w = windowOf windowSize (take (l .i) (l .out)) in
     let s = take (length (a .body .now) - l .at) (drop (l .at) (a .body .now)) in
     filled-strict (a .count) (a .body .now) (a .out .now) (l .out) false (λ i. d .shared-slice-known .given i .fits)
     (got-refused strictRead (a .count) (a .body .now) (a .out .now) (l .out) (l .at) (l .i) (l .inv .0) (omega arith) Refused
-    (strict-refused w s (o .result) (o .ensures) (c .enum-told .given .1)) refl)
+    (strict-refused w s (o .result) (rest-read (a .body .now) (l .at) w (o .ensures)) (c .enum-told .given .1)) refl)
 
 refresh-requires : tie.Need-refresh-requires Inv-loop μ-loop
 refresh-requires c κs =
-    let l = c .before .before .before .before .before .before .before .before .before .loop in
+    let l = c .before .before .before .before .before .before .before .before .loop in
     (l .inv .1, omega arith, omega arith)
 
 sub-accepts : tie.Need-sub-accepts Inv-loop μ-loop
@@ -97,26 +88,29 @@ module _ (c : tie.After-accepts-arg2 Inv-loop μ-loop) where
   n = c .before .before .before .before .before .before .before .before .r .given .0 .1 .0
 
   abbrev w : List ℕ
-  w = windowOf windowSize (take (c .before .before .before .before .before .before .before .before .before .before .before .before .before .before .loop .i) (c .before .before .before .before .before .before .before .before .before .before .before .before .before .before .loop .out))
+  w = windowOf windowSize (take (c .before .before .before .before .before .before .before .before .before .before .before .before .before .loop .i) (c .before .before .before .before .before .before .before .before .before .before .before .before .before .loop .out))
 
   abbrev s : List ℕ
   s =
-      let l = c .before .before .before .before .before .before .before .before .before .before .before .before .before .before .loop in
-      let b = c .before .before .before .before .before .before .before .before .before .before .before .before .before .before .before .before .before .args .body .now in
+      let l = c .before .before .before .before .before .before .before .before .before .before .before .before .before .loop in
+      let b = c .before .before .before .before .before .before .before .before .before .before .before .before .before .before .before .before .args .body .now in
       take (length b - l .at) (drop (l .at) b)
 
+  found : c .before .before .before .before .before .before .before .before .before .before .open-near .result ≡ openRead w s
+  found = rest-read (c .before .before .before .before .before .before .before .before .before .before .before .before .before .before .before .before .args .body .now) (c .before .before .before .before .before .before .before .before .before .before .before .before .before .loop .at) w (c .before .before .before .before .before .before .before .before .before .before .open-near .ensures)
+
   opens : openRead w s ≡ Ratio v n
-  opens = sym (c .before .before .before .before .before .before .before .before .before .before .open-nth .ensures) ∙ c .before .before .before .before .before .before .before .before .r .given .1
+  opens = sym found ∙ c .before .before .before .before .before .before .before .before .r .given .1
 
-  turn : c .before .before .before .before .before .before .before .before .before .before .before .before .before .before .loop .i < c .before .before .before .before .before .before .before .before .before .before .before .before .before .before .before .before .before .args .count
-  turn = c .before .before .before .before .before .before .before .before .before .before .before .before .before .loop-test .taken
+  turn : c .before .before .before .before .before .before .before .before .before .before .before .before .before .loop .i < c .before .before .before .before .before .before .before .before .before .before .before .before .before .before .before .before .args .count
+  turn = c .before .before .before .before .before .before .before .before .before .before .before .before .loop-test .taken
 
-  room : c .before .before .before .before .before .before .before .before .before .before .before .before .before .before .loop .i < length (c .before .before .before .before .before .before .before .before .before .before .before .before .before .before .loop .out)
-  room = omega (arith, turn, c .before .before .before .before .before .before .before .before .before .before .before .before .before .before .loop .inv .0 .2, c .before .before .before .before .before .before .before .before .before .before .before .before .before .before .before .before .before .pre)
+  room : c .before .before .before .before .before .before .before .before .before .before .before .before .before .loop .i < length (c .before .before .before .before .before .before .before .before .before .before .before .before .before .loop .out)
+  room = omega (arith, turn, c .before .before .before .before .before .before .before .before .before .before .before .before .before .loop .inv .0 .2, c .before .before .before .before .before .before .before .before .before .before .before .before .before .before .before .before .pre)
 
 accepts-requires : tie.Need-accepts-requires Inv-loop μ-loop
 accepts-requires c κs =
-    let l = c .before .before .before .before .before .before .before .before .before .before .before .before .before .before .loop in
+    let l = c .before .before .before .before .before .before .before .before .before .before .before .before .before .loop in
     let f = c .before .before .before .before .refresh in (
       omega arith,
       l .inv .3,
@@ -133,13 +127,13 @@ returns-2 : tie.Need-returns-2 Inv-loop μ-loop
 returns-2 c =
     let x = c .before in
     let r = x .before in
-    let o = r .before .before .before .before .before .before .before .before .before .before .open-nth in
-    let l = r .before .before .before .before .before .before .before .before .before .before .before .before .before .before .loop in
-    let d = r .before .before .before .before .before .before .before .before .before .before .before .before .before .before .before .before in
+    let o = r .before .before .before .before .before .before .before .before .before .before .open-near in
+    let l = r .before .before .before .before .before .before .before .before .before .before .before .before .before .loop in
+    let d = r .before .before .before .before .before .before .before .before .before .before .before .before .before .before .before in
     let a = d .before .args in
     filled-strict (a .count) (a .body .now) (a .out .now) (l .out) false (λ i. d .shared-slice-known .given i .fits)
     (got-refused strictRead (a .count) (a .body .now) (a .out .now) (l .out) (l .at) (l .i) (l .inv .0) (turn r) Refused
-    (strict-other (w r) (s r) (o .result) (o .ensures) (v r) (n r) (x .accepts .result) (r .before .before .before .before .before .before .before .before .r .given .1) (x .accepts .ensures) (not-true (x .accepts .result) (c .if1 .taken))) refl)
+    (strict-other (w r) (s r) (o .result) (found r) (v r) (n r) (x .accepts .result) (r .before .before .before .before .before .before .before .before .r .given .1) (x .accepts .ensures) (not-true (x .accepts .result) (c .if1 .taken))) refl)
 
 -- what was accepted
 module _ (c : tie.Else1 Inv-loop μ-loop) where
@@ -154,8 +148,8 @@ module _ (c : tie.Else1 Inv-loop μ-loop) where
 
   accepted : Ratio (v r) (n r) ≡ strictRead (w r) (s r)
   accepted =
-      let o = r .before .before .before .before .before .before .before .before .before .before .open-nth in
-      strict-good (w r) (s r) (o .result) (o .ensures) (v r) (n r) (c .before .accepts .result) (r .before .before .before .before .before .before .before .before .r .given .1) (c .before .accepts .ensures) good
+      let o = r .before .before .before .before .before .before .before .before .before .before .open-near in
+      strict-good (w r) (s r) (o .result) (found r) (v r) (n r) (c .before .accepts .result) (r .before .before .before .before .before .before .before .before .r .given .1) (c .before .accepts .ensures) good
 
 sub-mark : tie.Need-sub-mark Inv-loop μ-loop
 sub-mark c = search needs
@@ -169,7 +163,7 @@ part-mark-end c = search needs
 mark-requires : tie.Need-mark-requires Inv-loop μ-loop
 mark-requires c κs =
     let q = r (c .before .before) in
-    let l = q .before .before .before .before .before .before .before .before .before .before .before .before .before .before .loop in
+    let l = q .before .before .before .before .before .before .before .before .before .before .before .before .before .loop in
     λ e.
     let m = one-named (w q) (v q) (s q) (opens q ∙ ap (Ratio (v q)) e) in
     (m .0, window-length (l .out) (v q) (l .i) (omega (arith, room q)) (getD (s q) 0 0) (m .1) .1)
@@ -177,7 +171,7 @@ mark-requires c κs =
 mul-out : tie.Need-mul-out Inv-loop μ-loop
 mul-out c =
     let q = r (c .before .before .before) in
-    omega (arith, room q, q .before .before .before .before .before .before .before .before .before .before .before .before .before .before .loop .inv .0 .2, q .before .before .before .before .before .before .before .before .before .before .before .before .before .before .before .before .before .good .1 .1 .0 .1)
+    omega (arith, room q, q .before .before .before .before .before .before .before .before .before .before .before .before .before .loop .inv .0 .2, q .before .before .before .before .before .before .before .before .before .before .before .before .before .before .before .before .good .1 .1 .0 .1)
 
 slice-write-out : tie.Need-slice-write-out Inv-loop μ-loop
 slice-write-out c = search needs
@@ -186,9 +180,9 @@ add-at : tie.Need-add-at Inv-loop μ-loop
 add-at c =
     let e = c .before .before .before in
     let q = r e in
-    let l = q .before .before .before .before .before .before .before .before .before .before .before .before .before .before .loop in
-    let a = q .before .before .before .before .before .before .before .before .before .before .before .before .before .before .before .before .before .args in
-    omega (arith, q .before .before .before .before .before .before .before .before .before .before .before .before .before .before .before .before .before .good .0 .0, got-within strictRead (a .count) (a .body .now) (a .out .now) (l .out) (l .at) (l .i) (l .inv .0) (turn q) (Ratio (v q) (n q)) (accepted e) strict-within (v q) (n q) refl)
+    let l = q .before .before .before .before .before .before .before .before .before .before .before .before .before .loop in
+    let a = q .before .before .before .before .before .before .before .before .before .before .before .before .before .before .before .before .args in
+    omega (arith, q .before .before .before .before .before .before .before .before .before .before .before .before .before .before .before .before .good .0 .0, got-within strictRead (a .count) (a .body .now) (a .out .now) (l .out) (l .at) (l .i) (l .inv .0) (turn q) (Ratio (v q) (n q)) (accepted e) strict-within (v q) (n q) refl)
 
 add-i : tie.Need-add-i Inv-loop μ-loop
 add-i c = search needs
@@ -200,8 +194,8 @@ loop-again : tie.Need-loop-again Inv-loop μ-loop
 loop-again c =
     let e = c .before .before .before in
     let q = r e in
-    let l = q .before .before .before .before .before .before .before .before .before .before .before .before .before .before .loop in
-    let d = q .before .before .before .before .before .before .before .before .before .before .before .before .before .before .before .before .before in
+    let l = q .before .before .before .before .before .before .before .before .before .before .before .before .before .loop in
+    let d = q .before .before .before .before .before .before .before .before .before .before .before .before .before .before .before .before in
     let a = d .args in
     let f = q .before .before .before .before .refresh in (
       got-more strictRead (a .count) (a .body .now) (a .out .now) (l .out) (l .at) (l .i) (l .inv .0) (turn q) (Ratio (v q) (n q)) (accepted e) strict-within (v q) (n q) refl (d .pre),
@@ -228,10 +222,7 @@ get-strict-spec =
     Inv-loop
     μ-loop
     loop-holds
-    sub-open-nth
-    part-open-nth-start
-    part-open-nth-end
-    open-nth-requires
+    open-near-requires
     enum-known-r
     enum-told
     same-length

@@ -1,0 +1,26 @@
+-- Document 01, "Bytes to compare", the listing, as a statement about runs; proved in proofs/Claims.
+--   listingOf r   the listing of the run r: its rate, its count, its span, and each point
+--   PrintsRun     of input that begins with the record of an accepted run the program prints that run's listing, whatever follows
+--   PrintsOnly    of any other input it prints the line of a refusal, whose number is not 0
+use mathlib.Core.List.{List, _++_}
+use mathlib.Core.Path.{_≡_}
+use Prim.Native.Nat.{ℕ}
+use Rattle.record_format.specs.Claims.{Accepted, Beginning, Bytes}
+use Rattle.record_format.specs.Reading.{readStrict}
+use Rattle.record_format.specs.Runs.{Run, recordOf}
+use Rattle.span.specs.Spans.{spanned}
+use Rattle.text.specs.Lines.{refusedLine, listing}
+use Rattle.listing.specs.Printed.{room, printed}
+
+-- of a run
+abbrev pub listingOf : Run → List ℕ
+listingOf r = listing (r .rate) (spanned (r .rate) (r .positions) .milliseconds) (r .positions) (r .ratios)
+
+-- of its record
+abbrev pub PrintsRun : Type 0
+PrintsRun = (r : Run) → Accepted r → (rest : List ℕ) → printed (recordOf r ++ rest) ≡ listingOf r
+
+-- of all else
+abbrev pub PrintsOnly : Type 0
+PrintsOnly = (s : List ℕ) → Bytes s → ((r : Run) → Accepted r → Beginning (recordOf r) s → ⊥)
+    → let a = readStrict 0 s room room .answer in (a .number ≡ 0 → ⊥) × (printed s ≡ refusedLine (a .number) (a .place))

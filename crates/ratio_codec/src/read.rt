@@ -1,8 +1,9 @@
 // Reading one ratio: by the open rule, and strictly.
 ghost use mathlib.Core.Path.{_≡_};
 ghost use mathlib.Core.List.{[], _∷_, reverse};
-ghost use Prim.Native.Nat.{_*_, _^_, _≤_, _<_};
-ghost use lib.ListN.{length};
+ghost use Prim.Native.Nat.{_+_, _*_, _^_, _≤_, _<_};
+ghost use lib.ListN.{length, take, drop};
+ghost use Rattle.bits.specs.Digits.{numberOf};
 ghost use Rattle.bits.specs.Compare.{begins};
 ghost use Rattle.ratio_format.specs.Open.{openXor, openRead, strictRead};
 ghost use Rattle.ratio_format.specs.Forms.{Fit};
@@ -10,6 +11,7 @@ ghost use Rattle.ratio_codec.specs.Heads.{head};
 use super::search::pass_equal;
 use super::write::choose;
 use bits::get_bytes;
+use bits::get_first;
 use ratio_format::Form;
 use ratio_format::Read;
 
@@ -19,6 +21,17 @@ pub fn raised(m: u64, t: usize) -> u64
     ensures { λ r. ⌜ r ≡ m * 256 ^ t ⌝ }
 {
     if t == 8 { 0 } else { m << (8 * t) }
+}
+
+// The middle after the byte of the counts: by one load where eight bytes stand there.
+fn middle_of(s: &[u8], len: usize) -> u64
+    requires { ⌜ (len ≤ 8) × (1 + len ≤ length (now s)) ⌝ }
+    ensures { λ r. ⌜ (r ≡ numberOf 256 (take len (drop 1 (now (s .entry))))) × (r < 256 ^ len) ⌝ }
+{
+    if 9 <= s.len() {
+        return get_first(s, 1, len);
+    }
+    get_bytes(s, 1, len)
 }
 
 // What stands after the byte of a place that holds u: the two counts, and the middle.
@@ -37,7 +50,7 @@ pub fn read_xor(u: u64, s: &[u8]) -> Read
     if s.len() - 1 < len {
         return Read::Refused;
     }
-    let m = get_bytes(s, 1, len);
+    let m = middle_of(s, len);
     Read::Ratio(raised(m, trail) ^ u, len + 2)
 }
 

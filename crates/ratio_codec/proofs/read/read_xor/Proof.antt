@@ -33,13 +33,13 @@ returns-3 c =
     let a = c .before .before .before .before .before .args in
     xor-short (a .u) (a .s .now) (c .before .before .before .if1 .left) (c .before .if2 .left) (c .if3 .taken)
 
-get-bytes-requires : tie.Need-get-bytes-requires
-get-bytes-requires c κs = search needs
+middle-of-requires : tie.Need-middle-of-requires
+middle-of-requires c κs = search needs
 
 raised-requires : tie.Need-raised-requires
 raised-requires c κs =
     let b = getD (c .before .before .before .before .before .before .args .s .now) 0 0 in
-    (omega arith, raised-fits (c .get-bytes .result) (b % 16) (b / 16) (c .get-bytes .ensures .1) (c .before .before .if2 .left))
+    (omega arith, raised-fits (c .middle-of .result) (b % 16) (b / 16) (c .middle-of .ensures .1) (c .before .before .if2 .left))
 
 add-t7 : tie.Need-add-t7
 add-t7 c = search needs
@@ -47,7 +47,7 @@ add-t7 c = search needs
 returns-4 : tie.Need-returns-4
 returns-4 c =
     let a = c .before .before .before .before .before .before .before .args in
-    let g = c .before .get-bytes in
+    let g = c .before .middle-of in
     xor-good (a .u) (a .s .now) (g .result) (c .raised .result) (c .before .before .before .before .before .if1 .left) (c .before .before .before .if2 .left)
     (c .before .before .if3 .left) (g .ensures .0) (c .raised .ensures)
 
@@ -62,7 +62,7 @@ read-xor-spec =
     returns-2
     sub-if3
     returns-3
-    get-bytes-requires
+    middle-of-requires
     raised-requires
     add-t7
     returns-4)

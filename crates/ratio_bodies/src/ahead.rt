@@ -66,7 +66,7 @@ pub fn open_from(ratios: &[u64], i: usize, body: &[u8], at: usize) -> Read
     requires { ⌜ (i ≤ length (now ratios)) × (at ≤ length (now body)) ⌝ }
     ensures { λ r. ⌜ r ≡ openRead (windowOf windowSize (take i (now (ratios .entry)))) (drop at (now (body .entry))) ⌝ }
 {
-    if LONGEST <= body.len() - at {
+    if at + LONGEST <= body.len() {
         return open_ahead(ratios, i, body, at);
     }
     open_nth(ratios, i, &body[at..])

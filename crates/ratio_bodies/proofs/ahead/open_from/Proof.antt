@@ -8,8 +8,8 @@ use Rattle.ratio_format.specs.Windows.{windowSize, windowOf}
 use Rattle.ratio_bodies.proofs.ahead.open_from.Statement.{statement}
 use Rattle.ratio_bodies.proofs.ahead.open_from.Tie as tie
 
-sub-if1 : tie.Need-sub-if1
-sub-if1 c = search needs
+add-if1 : tie.Need-add-if1
+add-if1 c = search needs
 
 open-ahead-requires : tie.Need-open-ahead-requires
 open-ahead-requires c κs = search needs
@@ -38,7 +38,7 @@ pub open-from-spec : {M : Type 1} → statement M
 open-from-spec =
     tie.close
     (tie.spec
-    sub-if1
+    add-if1
     open-ahead-requires
     returns
     sub-open-nth

@@ -5,3 +5,4 @@ pub mod Sent
 pub mod Got
 pub mod Places
 pub mod Indexed
+pub mod Repeated

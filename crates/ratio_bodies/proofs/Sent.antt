@@ -39,40 +39,42 @@ sent-all rs o out at i s h =
     let t : take i rs ≡ rs = ap (λ (n : ℕ). take n rs) e ∙ take-length rs in
     subst (λ (l : List ℕ). Placed (codedRatios l) (Done at) o out) t (s .1, omega arith, s .4)
 
-module _ (rs o out : List ℕ) (at i : ℕ) (s : Sent rs o out at i) (h : i < length rs) where
-  -- the bytes of ratio i, and the part of the output that they go to
-  abbrev next : List ℕ
-  next = coded (getD rs i 0) (windowOf windowSize (take i rs))
-
-  abbrev part : List ℕ
+module _ (rs o out : List ℕ) (at i : ℕ) (s : Sent rs o out at i) where
+  -- the part of the output that is still to be written
+  abbrev pub part : List ℕ
   part = take (length out - at) (drop at out)
-
-  counted : length (codedRatios (take (i + 1) rs)) ≡ at + length next
-  counted = omega (arith, ap length (coded-more windowSize rs i h), length-append (codedRatios (take i rs)) next)
 
   part-length : length part ≡ length o - at
   part-length = rw (rest-is at out) (omega (arith, length-drop at out))
 
-  -- there is no room for them, nor for all
-  pub sent-full : (r : Wrote) (p : List ℕ) → r ≡ NoRoom → Placed next r part p → length o < length (codedRatios rs)
-  sent-full r p e d =
-      let n : length part < length next = subst (λ (x : Wrote). Placed next x part p) e d in
-      omega (arith, counted, part-length, coded-room windowSize [] rs (i + 1))
+  -- there bytes are put that are those of the ratios up to j
+  pub sent-on : (bs : List ℕ) (j : ℕ) → j ≤ length rs → codedRatios (take j rs) ≡ codedRatios (take i rs) ++ bs
+      → (n : ℕ) (p : List ℕ) → (n ≡ length bs) × (length bs ≤ length part) × (p ≡ over bs part) → length p ≡ length part
+      → Sent rs o (putMid at (length out - at) out p) (at + n) j
+  sent-on bs j h e n p q k = (
+    h,
+    omega (arith, s .1, q .0, ap length e, length-append (codedRatios (take i rs)) bs),
+    omega (arith, q .0, q .1, part-length, s .2),
+    same-len-mid at (length out - at) out p k ∙ s .3,
+    put-rest at out p ∙ ap (λ (l : List ℕ). take at out ++ l) (q .2 ∙ ap (over bs) (rest-is at out))
+        ∙ over-on (codedRatios (take i rs)) bs o out at (sym (s .1)) (s .4) ∙ ap (λ (l : List ℕ). over l o) (sym e),
+  )
 
-  -- they are written
-  module _ (r : Wrote) (n : ℕ) (p : List ℕ) (e : r ≡ Done n) (d : Placed next r part p) where
-    placed : Placed next (Done n) part p
-    placed = subst (λ (x : Wrote). Placed next x part p) e d
+  module _ (h : i < length rs) where
+    -- the bytes of ratio i
+    abbrev next : List ℕ
+    next = coded (getD rs i 0) (windowOf windowSize (take i rs))
 
-    pub sent-fits : at + n ≤ length o
-    sent-fits = omega (arith, placed, part-length)
+    counted : length (codedRatios (take (i + 1) rs)) ≡ at + length next
+    counted = omega (arith, ap length (coded-more windowSize rs i h), length-append (codedRatios (take i rs)) next)
 
-    pub sent-more : length p ≡ length part → Sent rs o (putMid at (length out - at) out p) (at + n) (i + 1)
-    sent-more k = (
-      omega arith,
-      omega (arith, counted, placed),
-      sent-fits,
-      same-len-mid at (length out - at) out p k ∙ s .3,
-      put-rest at out p ∙ ap (λ (l : List ℕ). take at out ++ l) (placed .2 ∙ ap (over next) (rest-is at out))
-          ∙ over-on (codedRatios (take i rs)) next o out at (sym (s .1)) (s .4) ∙ ap (λ (l : List ℕ). over l o) (sym (coded-more windowSize rs i h)),
-    )
+    -- there is no room for them, nor for all
+    pub sent-full : (r : Wrote) (p : List ℕ) → r ≡ NoRoom → Placed next r part p → length o < length (codedRatios rs)
+    sent-full r p e d =
+        let n : length part < length next = subst (λ (x : Wrote). Placed next x part p) e d in
+        omega (arith, counted, part-length, coded-room windowSize [] rs (i + 1))
+
+    -- they are written
+    pub sent-more : (r : Wrote) (n : ℕ) (p : List ℕ) → r ≡ Done n → Placed next r part p → length p ≡ length part
+        → Sent rs o (putMid at (length out - at) out p) (at + n) (i + 1)
+    sent-more r n p e d k = sent-on next (i + 1) (omega arith) (coded-more windowSize rs i h) n p (subst (λ (x : Wrote). Placed next x part p) e d) k

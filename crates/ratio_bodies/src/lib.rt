@@ -13,6 +13,7 @@ ghost use Rattle.ratio_search.specs.Planes.{Planes};
 pub mod ahead;
 pub mod choice;
 pub mod index;
+pub mod repeats;
 pub mod strict;
 
 use ahead::open_from;
@@ -25,6 +26,7 @@ use index::known;
 use ratio_codec::write::put_form;
 use ratio_codec::write::put_reference;
 use ratio_format::Read;
+use repeats::put_repeats;
 use strict::accepts;
 use strict::mark;
 
@@ -60,8 +62,10 @@ pub fn put_ratios(ratios: &[u64], out: &mut [u8]) -> Wrote
         let Wrote::Done(n) = r else {
             return Wrote::NoRoom;
         };
-        at += n;
-        i += 1;
+        let next = at + n;
+        let k = put_repeats(ratios, i + 1, &mut out[next..]);
+        at = next + k;
+        i = i + 1 + k;
     }
     Wrote::Done(at)
 }

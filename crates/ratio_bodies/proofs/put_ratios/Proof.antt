@@ -1,16 +1,19 @@
 -- `put_ratios` meets its contract. The invariant: the coding of the first i ratios stands at the front, and the rest stays; the planes are
 -- those of the ratios before `done`, and the index that of the ratios before i, but for the last repeats.
-use mathlib.Core.Path.{refl}
-use Prim.Native.Nat.{_-_, _≤_}
+use mathlib.Core.Path.{_≡_, refl, sym, ap, _∙_}
+use mathlib.Core.List.{List, _++_}
+use Prim.Native.Nat.{ℕ, _+_, _-_, _≤_, _<_}
 use native.Mathlib.Omega.{arith}
 use borrow.Author.Needs.{needs}
 use borrow.Author.Tests.{le-ltb}
-use lib.ListN.{length, replicate}
+use borrow.Rule.Slice.PartMut.{putMid}
+use lib.ListN.{length, drop, replicate, length-replicate}
 use Rattle.ratio_search.specs.Planes.{Kept}
 use Rattle.ratio_search.proofs.Slots.{kept-none, planes-part}
 use Rattle.ratio_bodies.specs.Indexes.{Trailing}
 use Rattle.ratio_bodies.proofs.Indexed.{trailing-none}
-use Rattle.ratio_bodies.proofs.Sent.{Sent, sent-none, sent-full, sent-fits, sent-more, sent-all}
+use Rattle.ratio_bodies.proofs.Sent.{Sent, part, sent-none, sent-full, sent-on, sent-more, sent-all}
+use Rattle.ratio_bodies.proofs.Repeated.{repeats-coded, repeats-trailing}
 use Rattle.ratio_bodies.proofs.put_ratios.Statement.{statement}
 use Rattle.ratio_bodies.proofs.put_ratios.Tie as tie
 
@@ -74,32 +77,92 @@ returns c =
     let a = c .before .before .before .before .before .before .before .before .before .before .before .before .before .before .before .args in
     sent-full (a .ratios .now) (a .out .now) (l .out) (l .at) (l .i) (l .inv .0) (omega arith) (p .result) (p .last .1 .1 .1 .1 .0) (c .enum-told .given .1) (p .ensures)
 
+-- what is written once ratio i is: the output, and how much of it
+module _ (c : tie.After-known-told Inv-loop μ-loop) where
+  abbrev ratios : List ℕ
+  ratios = c .before .before .before .before .before .before .before .before .before .before .before .before .before .before .before .before .args .ratios .now
+
+  abbrev lent : List ℕ
+  lent = c .before .before .before .before .before .before .before .before .before .before .before .before .before .before .before .before .args .out .now
+
+  abbrev first : ℕ
+  first = c .before .before .before .before .before .before .before .before .before .before .before .before .before .loop .i
+
+  abbrev wrote : ℕ
+  wrote = c .before .r .given .0 .0
+
+  abbrev before : List ℕ
+  before = c .before .before .before .before .before .before .before .before .before .before .before .before .before .loop .out
+
+  abbrev start : ℕ
+  start = c .before .before .before .before .before .before .before .before .before .before .before .before .before .loop .at
+
+  abbrev after : List ℕ
+  after = putMid start (length before - start) before (c .before .before .before .before .before .put-nth .last .1 .1 .1 .1 .0)
+
+  turn : first < length ratios
+  turn = c .before .before .before .before .before .before .before .before .before .before .before .before .loop-test .taken
+
+  one : Sent ratios lent after (start + wrote) (first + 1)
+  one =
+      let p = c .before .before .before .before .before .put-nth in
+      let l = c .before .before .before .before .before .before .before .before .before .before .before .before .before .loop in
+      sent-more ratios lent before start first (l .inv .0) turn (p .result) wrote (p .last .1 .1 .1 .1 .0) (c .before .r .given .1) (p .ensures) (p .kept .1 .1 .1 .1 .0)
+
+add-next : tie.Need-add-next Inv-loop μ-loop
+add-next c = omega (arith, one c .2, c .before .before .before .before .before .before .before .before .before .before .before .before .before .before .before .before .good)
+
+add-put-repeats : tie.Need-add-put-repeats Inv-loop μ-loop
+add-put-repeats c = omega (arith, turn c, c .before .before .before .before .before .before .before .before .before .before .before .before .before .before .before .before .pre)
+
+sub-put-repeats : tie.Need-sub-put-repeats Inv-loop μ-loop
+sub-put-repeats c = omega (arith, one c .2, one c .3)
+
+part-put-repeats-start : tie.Need-part-put-repeats-start Inv-loop μ-loop
+part-put-repeats-start c = omega (arith, one c .2, one c .3)
+
+part-put-repeats-end : tie.Need-part-put-repeats-end Inv-loop μ-loop
+part-put-repeats-end c = search needs
+
+put-repeats-requires : tie.Need-put-repeats-requires Inv-loop μ-loop
+put-repeats-requires c κs = (omega arith, omega (arith, turn (c .before)))
+
+-- and once those are that repeat it
+all : (c : tie.After-slice-known3 Inv-loop μ-loop) → let d = c .before .before .before .before in let p = c .before .before .put-repeats in
+    Sent (ratios d) (lent d) (putMid (start d + wrote d) (length (after d) - (start d + wrote d)) (after d) (p .last .1 .1 .0)) (start d + wrote d + p .result) (first d + 1 + p .result)
+all c =
+    let d = c .before .before .before .before in
+    let p = c .before .before .put-repeats in
+    let e = p .ensures in
+    let zs : List ℕ = replicate (p .result) 0 in
+    let z : p .result ≡ length zs = sym (length-replicate {A = ℕ} (p .result) 0) in
+    sent-on (ratios d) (lent d) (after d) (start d + wrote d) (first d + 1) (one d) zs (first d + 1 + p .result) (e .0)
+    (repeats-coded (ratios d) (first d + 1) (omega arith) (p .result) (e .0) (e .1)) (p .result) (p .last .1 .1 .0)
+    (z, omega (arith, z, e .2), e .3 ∙ ap (λ (n : ℕ). zs ++ drop n (part (ratios d) (lent d) (after d) (start d + wrote d) (first d + 1) (one d))) z)
+    (p .kept .1 .1 .0)
+
 add-at : tie.Need-add-at Inv-loop μ-loop
-add-at c =
-    let p = c .before .before .before .before .before .put-nth in
-    let l = c .before .before .before .before .before .before .before .before .before .before .before .before .before .loop in
-    let d = c .before .before .before .before .before .before .before .before .before .before .before .before .before .before .before .before in
-    let a = d .args in
-    let r = c .before .r .given in
-    omega (arith, sent-fits (a .ratios .now) (a .out .now) (l .out) (l .at) (l .i) (l .inv .0) (omega arith) (p .result) (r .0 .0) (p .last .1 .1 .1 .1 .0) (r .1) (p .ensures), d .good)
+add-at c = omega (arith, all c .2, c .before .before .before .before .before .before .before .before .before .before .before .before .before .before .before .before .before .before .before .before .good)
 
 add-i : tie.Need-add-i Inv-loop μ-loop
-add-i c = search needs
+add-i c = omega (arith, turn (c .before .before .before .before), c .before .before .before .before .before .before .before .before .before .before .before .before .before .before .before .before .before .before .before .before .pre)
+
+add-i-2 : tie.Need-add-i-2 Inv-loop μ-loop
+add-i-2 c = omega (arith, all c .0, c .before .before .before .before .before .before .before .before .before .before .before .before .before .before .before .before .before .before .before .before .pre)
 
 loop-less : tie.Need-loop-less Inv-loop μ-loop
-loop-less c = search needs
+loop-less c = omega (arith, turn (c .before .before .before .before), c .before .before .put-repeats .ensures .0)
 
 loop-again : tie.Need-loop-again Inv-loop μ-loop
 loop-again c =
-    let p = c .before .before .before .before .before .put-nth in
-    let f = c .before .before .before .before .before .before .before .before .refresh in
-    let l = c .before .before .before .before .before .before .before .before .before .before .before .before .before .loop in
-    let a = c .before .before .before .before .before .before .before .before .before .before .before .before .before .before .before .before .args in
-    let r = c .before .r .given in (
-      sent-more (a .ratios .now) (a .out .now) (l .out) (l .at) (l .i) (l .inv .0) (omega arith) (p .result) (r .0 .0) (p .last .1 .1 .1 .1 .0) (r .1) (p .ensures) (p .kept .1 .1 .1 .1 .0),
+    let d = c .before .before .before .before in
+    let p = c .before .before .put-repeats in
+    let k = c .before .before .before .before .before .before .before .before .before .before .before .before .before .before .known in
+    let f = c .before .before .before .before .before .before .before .before .before .before .before .before .refresh in (
+      all c,
       f .ensures .0,
-      omega arith,
-      c .before .before .before .before .before .before .before .before .before .before .known .ensures .0,
+      omega (arith, f .ensures .1),
+      repeats-trailing (ratios d) (first d + 1) (omega arith) (k .last .0) (p .result) (p .ensures .1) (k .ensures .0),
     )
 
 same-length-2 : tie.Need-same-length-2 Inv-loop μ-loop
@@ -128,8 +191,15 @@ put-ratios-spec =
     enum-told
     same-length
     returns
+    add-next
+    add-put-repeats
+    sub-put-repeats
+    part-put-repeats-start
+    part-put-repeats-end
+    put-repeats-requires
     add-at
     add-i
+    add-i-2
     loop-less
     loop-again
     same-length-2

@@ -364,7 +364,7 @@ fn measure(call: Call, runs: &[Run], samples: usize) -> Cell {
 }
 
 /// The least ratio that is wanted of a call on runs of a length: on one of the kinds, where the
-/// straightforward implementation does so many MB/s.
+/// straightforward implementation does so many MB/s. Short runs are held to a third alone.
 fn target(call: Call, length: usize, kind: usize, plain: f64) -> f64 {
     match call {
         _ if length == SHORT => 1.0 / 3.0,
@@ -380,38 +380,59 @@ fn target(call: Call, length: usize, kind: usize, plain: f64) -> f64 {
     }
 }
 
+/// The columns' head of a table, for the positions that it has.
+fn head(steps: &[&str]) {
+    print!("{:24}", "MB/s");
+    for steps in steps {
+        print!(" | {steps:9} copy   plain library   ratio");
+    }
+    println!();
+}
+
+/// Measures and prints a cell, and notes where its ratio is less than wanted.
+fn cell(
+    call: Call,
+    runs: &[Run],
+    samples: usize,
+    wanted: impl Fn(&Cell) -> f64,
+    what: &str,
+    missed: &mut Vec<String>,
+) -> f64 {
+    let cell = measure(call, runs, samples);
+    print!(" | {:14.0} {:7.0}", cell.copy, cell.plain);
+    print!(" {:7.0} {:7.2}", cell.library, cell.ratio);
+    let wanted = wanted(&cell);
+    if cell.ratio < wanted {
+        missed.push(format!("{what}: {:.2} and not {wanted:.2}", cell.ratio));
+    }
+    cell.ratio
+}
+
 /// Prints the table of a call, and answers how each target that is not met was missed.
 fn table(call: Call, length: usize, samples: usize) -> Vec<String> {
     let mut missed = Vec::new();
     println!("\n{}, {length} points", name(call));
-    print!("{:24}", "MB/s");
     // Live additions and steps take no positions.
     let steps: &[&str] = match call {
         Call::Live | Call::Step => &[""],
         _ => &["regular", "irregular"],
     };
-    for steps in steps {
-        print!(" | {steps:9} copy   plain library   ratio");
-    }
-    println!();
+    head(steps);
     let mut all_ratios = vec![Vec::new(); steps.len()];
     for (kind, name) in KINDS.iter().enumerate() {
         print!("{name:24}");
         let ratios = ratios(kind);
         for (steps, all_ratios) in steps.iter().zip(&mut all_ratios) {
             let positions = positions(*steps != "irregular");
-            let cell = measure(call, &runs(&positions, &ratios, length), samples);
-            print!(" | {:14.0} {:7.0}", cell.copy, cell.plain);
-            print!(" {:7.0} {:7.2}", cell.library, cell.ratio);
-            all_ratios.push(cell.ratio);
-            let wanted = target(call, length, kind, cell.plain);
-            if cell.ratio < wanted {
-                missed.push(format!(
-                    "{} of {length} points, {name}, {steps}: {:.2} and not {wanted:.2}",
-                    self::name(call),
-                    cell.ratio
-                ));
-            }
+            let what = format!("{} of {length} points, {name}, {steps}", self::name(call));
+            all_ratios.push(cell(
+                call,
+                &runs(&positions, &ratios, length),
+                samples,
+                |cell| target(call, length, kind, cell.plain),
+                what.trim_end_matches(", "),
+                &mut missed,
+            ));
         }
         println!();
     }
@@ -428,41 +449,38 @@ fn table(call: Call, length: usize, samples: usize) -> Vec<String> {
 fn positions_table(samples: usize) -> Vec<String> {
     let mut missed = Vec::new();
     println!("\npositions, {POINTS} points of one ratio");
-    print!("{:24}", "MB/s");
-    for steps in ["regular", "irregular"] {
-        print!(" | {steps:9} copy   plain library   ratio");
-    }
-    println!();
+    let steps = ["regular", "irregular"];
+    head(&steps);
     let ratios = ratios(SAME);
     for call in [Call::Write, Call::Strict, Call::Open] {
         print!("{:24}", name(call));
-        for steps in ["regular", "irregular"] {
+        for steps in steps {
             let positions = positions(steps == "regular");
-            let cell = measure(call, &runs(&positions, &ratios, POINTS), samples);
-            print!(" | {:14.0} {:7.0}", cell.copy, cell.plain);
-            print!(" {:7.0} {:7.2}", cell.library, cell.ratio);
-            if cell.ratio < 1.0 {
-                missed.push(format!(
-                    "positions, {} of one ratio, {steps}: {:.2} and not 1.00",
-                    name(call),
-                    cell.ratio
-                ));
-            }
+            cell(
+                call,
+                &runs(&positions, &ratios, POINTS),
+                samples,
+                |_| 1.0,
+                &format!("positions, {} of one ratio, {steps}", name(call)),
+                &mut missed,
+            );
         }
         println!();
     }
     missed
 }
 
-/// Prints what a point costs in runs of several lengths.
+/// Prints what a point costs in runs of several lengths, and in brackets what it costs the
+/// straightforward implementation.
 fn growth(samples: usize) {
-    println!("\nlibrary, two sines, irregular steps: ns a point by the number of points");
+    println!("\ntwo sines, irregular steps: ns a point by the number of points, library (plain)");
     let (positions, ratios) = (positions(false), ratios(3));
     for call in [Call::Write, Call::Strict, Call::Open] {
         print!("{:24}", name(call));
         for length in [256, 1_024, POINTS] {
             let cell = measure(call, &runs(&positions, &ratios, length), samples);
-            print!(" | {length:5}: {:7.1}", 8_000.0 / cell.library);
+            let (library, plain) = (8_000.0 / cell.library, 8_000.0 / cell.plain);
+            print!(" | {length:5}: {library:6.1} ({plain:6.1})");
         }
         println!();
     }

@@ -1,6 +1,6 @@
 -- Bytes read into a number from the first to the last: what a turn adds, and that it fits.
 use mathlib.Core.Path.{_≡_, sym, ap, ap₂, _∙_}
-use mathlib.Core.List.{List, [], _∷_, _++_}
+use mathlib.Core.List.{List}
 use Prim.Native.Nat.{ℕ, _+_, _-_, _*_, _/_, _^_, _≤_, _<_}
 use native.Mathlib.Nat.{pow-suc, pow-le-pow-right, lt-of-lt-of-le}
 use native.Mathlib.Numerals.{add-one}
@@ -30,7 +30,7 @@ pub bytes-lt : (m n : ℕ) {x : ℕ} → n ≤ m → x < 256 ^ n → x < 256 ^ m
 bytes-lt m n h l = lt-of-lt-of-le l (pow-le-pow-right (omega arith) h)
 
 -- of the number of i + j bytes, the first i
-pub first-of : (l : List ℕ) (i j : ℕ) → i + j ≤ length l → Below 256 l
+first-of : (l : List ℕ) (i j : ℕ) → i + j ≤ length l → Below 256 l
     → (numberOf 256 (take (i + j) l) / 256 ^ j ≡ numberOf 256 (take i l)) × (numberOf 256 (take i l) < 256 ^ i)
 first-of l i j h b =
     let rest = take j (drop i l) in

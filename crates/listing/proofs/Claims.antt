@@ -1,21 +1,21 @@
 -- What the program prints of a run's record, and of all other input.
 use mathlib.Core.Path.{_≡_, refl, ap, ap₂, _∙_}
-use mathlib.Core.List.{List, _++_}
+use mathlib.Core.List.{List}
 use Prim.Native.Nat.{ℕ, _≤_}
 use native.Mathlib.Omega.{arith}
 use borrow.Author.Tests.{ne-eqb}
-use lib.ListN.{length, take, drop, replicate, length-replicate}
+use lib.ListN.{length, take, drop, length-replicate}
 use lib.Seq.{take-at}
 use Rattle.bounds.specs.Points.{maxPoints}
 use Rattle.bounds.specs.Tests.{over}
-use Rattle.record_format.specs.Claims.{Accepted, Beginning, ownAnswer}
-use Rattle.record_format.specs.Reading.{Answer, readStrict}
-use Rattle.record_format.specs.Runs.{Run, recordOf}
+use Rattle.record_format.specs.Claims.{Accepted, ownAnswer}
+use Rattle.record_format.specs.Reading.{readStrict}
+use Rattle.record_format.specs.Runs.{Run}
 use Rattle.record_format.proofs.Accepted.{accepted-fits}
 use Rattle.record_format.proofs.Claims.{reads-back, reads-only, with-room}
 use Rattle.span.specs.Spans.{spanned}
 use Rattle.text.specs.Lines.{listing}
-use Rattle.listing.specs.Printed.{room, runText, textOf, printed}
+use Rattle.listing.specs.Printed.{room, runText, textOf}
 use Rattle.listing.specs.Claims.{listingOf, PrintsRun, PrintsOnly}
 
 -- the numbers at the front of an output

@@ -16,10 +16,10 @@ use Rattle.live.specs.declared.stepping.Found.{Found}
 use Rattle.live.specs.States.{stepFound}
 
 -- no ratio, and a ratio v of k bytes
-abbrev pub nothing : ℕ → Found
+abbrev nothing : ℕ → Found
 nothing n = record { number = n; ratio = 0; used = 0 }
 
-abbrev pub something : ℕ → ℕ → Found
+abbrev something : ℕ → ℕ → Found
 something v k = record { number = 0; ratio = v; used = k }
 
 -- the answer, and the state after u more bytes with n ratios seen and the window w

@@ -10,7 +10,7 @@ use ratio_codec::encode;
 use ratio_format::AddAnswer;
 use ratio_format::Live;
 use ratio_format::Window;
-use ratio_format::push;
+use ratio_format::push_cells;
 
 // The answer of an addition and the state after it.
 pub struct Addition {
@@ -79,7 +79,7 @@ pub fn add(state: Live, ratio: u64, out: &mut [u8]) -> Addition
         place: 0,
         length: n as u64,
     };
-    let fill = push(&mut ratios, fill, ratio);
+    let fill = push_cells(&mut ratios, fill, ratio);
     let next = Window { ratios, fill };
     let state = Live {
         window: next,

@@ -13,7 +13,7 @@ use ratio_format::Cursor;
 use ratio_format::Read;
 use ratio_format::StepAnswer;
 use ratio_format::Window;
-use ratio_format::push;
+use ratio_format::push_cells;
 
 // What making a reader answers, and the state that the reader starts with.
 #[repr(C)]
@@ -144,7 +144,7 @@ pub fn step_at(body: &[u8], cursor: Cursor) -> Step
     let mut fill = window.fill;
     let found = seek(body, &ratios, place, count, seen, fill);
     if found.number == 0 {
-        fill = push(&mut ratios, fill, found.ratio);
+        fill = push_cells(&mut ratios, fill, found.ratio);
         seen = seen + 1;
     }
     let answer = StepAnswer {

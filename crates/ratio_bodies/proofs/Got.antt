@@ -18,31 +18,21 @@ use Rattle.ratio_format.specs.declared.Read.the-variants.{Ratio, Refused}
 use Rattle.ratio_format.specs.Windows.{windowSize, windowOf}
 use Rattle.ratio_format.specs.Open.{openRead, strictRead}
 use Rattle.ratio_format.specs.Bodies.{openRatios, strictRatios}
-use Rattle.ratio_format.proofs.Opened.{Opened, opened}
-use Rattle.ratio_format.proofs.RoundTrip.{strict-open}
+use Rattle.ratio_format.proofs.Opened.{open-used}
+use Rattle.ratio_format.proofs.Stepping.{strict-used}
 use Rattle.ratio_format.proofs.ReadFrom.{Rule, readFrom, open-is}
 use Rattle.ratio_format.proofs.Strict.{strict-from-is}
 use Rattle.ratio_format.proofs.Progress.{leftFrom, left-start, left-more, left-refused, left-end, left-over}
-use Rattle.bits.proofs.Parts.{rest-is}
-
--- what is read from an offset on is read from that part
-pub rest-read : (l : List ℕ) (at : ℕ) (w : List ℕ) {r : Read} → r ≡ openRead w (drop at l) → r ≡ openRead w (take (length l - at) (drop at l))
-rest-read l at w e = e ∙ ap (openRead w) (sym (rest-is at l))
 
 -- the rule uses bytes that are there
 abbrev pub Within : Rule → Type 0
 Within rule = (w s : List ℕ) (v k : ℕ) → rule w s ≡ Ratio v k → k ≤ length s
 
 pub open-within : Within openRead
-open-within w s v k e = go (opened w v k s e)
-  where
-    go : Opened w s v k → k ≤ length s
-    go (Opened.referred p h g a q) = omega arith
-    go (Opened.xored p t n h g f a q) = omega arith
-    go (Opened.excepted f a q) = omega arith
+open-within = open-used
 
 pub strict-within : Within strictRead
-strict-within w s v k e = open-within w s v k (strict-open v k w s e .0)
+strict-within = strict-used
 
 -- the whole reading, by the open rule and strictly as the definitions have it
 abbrev pub whole : Rule → ℕ → List ℕ → Option (List ℕ)
@@ -89,12 +79,12 @@ module _ (rule : Rule) (count : ℕ) (body o : List ℕ) where
             (sym (left-over rule windowSize (take i out) 0 body at (omega arith)) ∙ q) refl
 
     -- one ratio more: r is what the rule finds in the rest of the body
-    module _ (h : i < count) (r : Read) (found : r ≡ rule (windowOf windowSize (take i out)) (take (length body - at) (drop at body))) where
+    module _ (h : i < count) (r : Read) (found : r ≡ rule (windowOf windowSize (take i out)) (drop at body)) where
       left : count - i ≡ suc (count - (i + 1))
       left = omega arith
 
       reads : rule (windowOf windowSize (take i out)) (drop at body) ≡ r
-      reads = sym (found ∙ ap (rule (windowOf windowSize (take i out))) (rest-is at body))
+      reads = sym found
 
       pub got-refused : r ≡ Refused → Filled (whole rule count body) false o out
       got-refused e =

@@ -4,7 +4,6 @@ use mathlib.Core.Bool.{Bool, true, false}
 use mathlib.Core.List.{List, [], _∷_}
 use mathlib.Core.Logic.{_⊎_, inl, inr}
 use Prim.Native.Nat.{ℕ, _+_, _-_, _≤_, _<_}
-use native.Mathlib.Nat.{lt-of-not-le}
 use native.Mathlib.Omega.{arith}
 use lib.Dec.{eqb}
 use lib.ListN.{length, getD, take, set, replicate, length-set, length-replicate}
@@ -12,12 +11,11 @@ use lib.Seq.{getD-set-same, getD-set-other}
 use borrow.Author.Tests.{eqb-true, eqb-false}
 use Rattle.bits.proofs.Below.{below-at, below-replicate}
 use Rattle.ratio_format.specs.Windows.{windowSize, windowOf}
-use Rattle.ratio_format.specs.Choice.{find}
 use Rattle.ratio_format.specs.Forms.{coded}
-use Rattle.ratio_format.proofs.Choice.{find-at, find-lt, find-first}
-use Rattle.ratio_search.proofs.Found.{window-has, window-at, window-length}
+use Rattle.ratio_search.proofs.Found.{window-has, window-at}
 use Rattle.ratio_bodies.specs.Indexes.{keyOf, Bounded, Indexed, Trailing}
 use Rattle.ratio_codec.proofs.Named.{coded-in}
+use Rattle.ratio_bodies.proofs.Start.{newest-place}
 
 -- of no ratio
 pub trailing-none : (l : List ℕ) → Trailing (replicate 509 0) l 0
@@ -89,14 +87,8 @@ pub coded-at : (l : List ℕ) (i v p : ℕ) → i ≤ length l → p < 127 → p
     → ((k : ℕ) → i - 1 - p < k → k < i → getD l k 0 ≡ v → ⊥) → coded v (windowOf windowSize (take i l)) ≡ p ∷ []
 coded-at l i v p h small in-list is newest =
     let w = windowOf windowSize (take i l) in
-    let here : getD w p 0 ≡ v = window-at l v i h p small in-list ∙ is in
-    let m = find-lt v w p (window-has l v i h p small in-list) here in
-    let first : find v w < p + 1 = lt-of-not-le (λ (f : p + 1 ≤ find v w). find-first v w p (omega arith) here) in
-    let q = window-length l v i h (find v w) m in
-    let last : i - 1 - find v w < i - 1 - p + 1 = lt-of-not-le (λ (f : i - 1 - p + 1 ≤ i - 1 - find v w).
-    newest (i - 1 - find v w) (omega arith) (omega arith) (sym (window-at l v i h (find v w) (q .0) (q .1)) ∙ find-at v w m)) in
-    let e : find v w ≡ p = omega arith in
-    coded-in w v p (window-has l v i h p small in-list) here ∙ ap (λ (k : ℕ). k ∷ []) e
+    coded-in w v p (window-has l v i h p small in-list) (window-at l v i h p small in-list ∙ is)
+    ∙ ap (λ (k : ℕ). k ∷ []) (newest-place l i v p h small in-list is newest)
 
 -- what the index finds
 pub found-at : (ss l : List ℕ) (i n : ℕ) → i ≤ length l → Indexed ss l i → n ≡ getD ss (keyOf (getD l i 0)) 0 → (n ≡ 0 → ⊥) → i - n < 127

@@ -1,13 +1,12 @@
 -- Marks: what the mark of a reference says, and the marks after one ratio more.
 use mathlib.Core.Path.{_≡_, refl, sym, ap, _∙_, subst}
 use mathlib.Core.Bool.{Bool, true, false}
-use mathlib.Core.List.{List, reverse}
+use mathlib.Core.List.{List}
 use mathlib.Core.Logic.{_⊎_, inl, inr}
 use Prim.Native.Nat.{ℕ, _+_, _-_, _%_, _≤_, _<_}
-use native.Mathlib.Nat.{lt-of-not-le}
 use native.Mathlib.Omega.{arith}
 use lib.Dec.{eqb, ltb}
-use lib.ListN.{length, getD, take, set, length-set, length-take}
+use lib.ListN.{length, getD, take, set, length-set}
 use lib.Seq.{getD-set-same, getD-set-other}
 use borrow.Author.Tests.{eqb-true, eqb-false, eq-eqb, ne-eqb, ltb-true, ltb-false}
 use Rattle.bits.specs.Compare.{begins}
@@ -16,10 +15,12 @@ use Rattle.ratio_format.specs.Windows.{windowSize, windowOf}
 use Rattle.ratio_format.specs.Choice.{find}
 use Rattle.ratio_format.specs.Forms.{coded}
 use Rattle.ratio_format.specs.Open.{openRead}
-use Rattle.ratio_format.proofs.Choice.{find-at, find-first, find-lt}
+use Rattle.ratio_format.proofs.Windows.{window-few}
+use Rattle.ratio_format.proofs.Choice.{find-first}
 use Rattle.ratio_codec.proofs.Named.{named-begins}
 use Rattle.ratio_search.proofs.Found.{window-length, window-has, window-at}
 use Rattle.ratio_bodies.specs.Marks.{slotOf, Last, Again, Marks}
+use Rattle.ratio_bodies.proofs.Start.{newest-place}
 use Rattle.ratio_bodies.proofs.Named.{one-named, longer-absent}
 
 -- before the first ratio
@@ -47,22 +48,8 @@ module _ (ms l : List ℕ) (i v : ℕ) (marks : Marks ms l i) (h : i ≤ length 
     says : (m ≡ 0 → Last l k i) × ((m ≡ 0 → ⊥) → Again l k i)
     says = let n = inside in marks .1 k (omega arith) (omega arith)
 
-    found : find v w < length w
-    found = find-lt v w p g e
-
     smallest : m ≡ 0 → find v w ≡ p
-    smallest z =
-        let q = find v w in
-        let n = inside in
-        let r = window-length l v i h q found in
-        let low : q ≤ p = omega (arith, lt-of-not-le (λ (f : p + 1 ≤ q). find-first v w p (omega arith) e)) in
-        let high : p ≤ q =
-        omega (
-          arith,
-          lt-of-not-le (λ (f : q + 1 ≤ p).
-              says .0 z (i - 1 - q) (omega arith) (omega arith) (sym (window-at l v i h q (r .0) (r .1)) ∙ find-at v w found ∙ sym here)),
-        ) in
-        omega arith
+    smallest z = newest-place l i v p h (inside .0) (inside .1) here (λ n f g q. says .0 z n f g (q ∙ sym here))
 
     other : (m ≡ 0 → ⊥) → find v w ≡ p → ⊥
     other z q =
@@ -185,4 +172,4 @@ module _ (ms l : List ℕ) (i v : ℕ) (marks : Marks ms l i) (h : i ≤ length 
             (marks-named (getD s 0 0) (d .1) (d .2) (eqb-true (getD ms (slotOf i (getD s 0 0)) 0) 0 z))
         go false f =
             let q = eqb-false n 1 f in
-            subst (λ (x : List ℕ). Marks x (set l i v) (i + 1)) (sym (more q)) (marks-fresh (longer-absent w v (omega (arith, length-take windowSize (reverse (take i l)))) s n e b q))
+            subst (λ (x : List ℕ). Marks x (set l i v) (i + 1)) (sym (more q)) (marks-fresh (longer-absent w v (window-few windowSize (take i l) .0) s n e b q))

@@ -2,10 +2,10 @@
 -- there stands in the list itself.
 use mathlib.Core.Path.{_≡_, refl, sym, ap, _∙_}
 use mathlib.Core.Bool.{Bool, true, false}
-use mathlib.Core.List.{List, reverse}
+use mathlib.Core.List.{List}
 use Prim.Native.Nat.{ℕ, _+_, _-_, _*_, _/_, _%_, _^_, _≤_, _<_}
 use native.Mathlib.Omega.{arith}
-use lib.ListN.{length, getD, take, drop, length-take, length-reverse, length-drop}
+use lib.ListN.{length, getD, take, drop, length-take, length-drop}
 use lib.Bits.{bitXor}
 use lib.Seq.{getD-drop, drop-drop}
 use lib.Dec.{ltb}
@@ -16,6 +16,7 @@ use Rattle.ratio_format.specs.declared.Read.the-variants.{Ratio, Refused}
 use Rattle.ratio_format.specs.Windows.{windowSize, windowOf}
 use Rattle.ratio_format.specs.Open.{openRead, openXor}
 use Rattle.ratio_format.proofs.Reading.{xor-high, xor-good, open-reference, open-far, open-xor, open-away, open-exception}
+use Rattle.ratio_format.proofs.Windows.{window-few}
 use Rattle.ratio_search.proofs.Found.{window-has, window-at}
 
 -- the first byte of a rest
@@ -57,7 +58,7 @@ module _ (rs : List ℕ) (i : ℕ) (room : i ≤ length rs) where
   w = windowOf windowSize (take i rs)
 
   most : (length w ≤ 127) × (length w ≤ i)
-  most = let m = length-take windowSize (reverse (take i rs)) in let n = length-reverse (take i rs) in let k = length-take i rs in (omega arith, omega arith)
+  most = let n = window-few windowSize (take i rs) in let k = length-take i rs in (n .0, omega arith)
 
   module _ (s : List ℕ) (b : ℕ) (is : getD s 0 0 ≡ b) (some : length s ≡ 0 → ⊥) (byte : b < 256) (plain : b ≡ 255 → ⊥) where
     -- no ratio stands at the place

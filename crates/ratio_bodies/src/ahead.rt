@@ -14,8 +14,8 @@ use ratio_search::window_start;
 // The most bytes that a form has.
 const LONGEST: usize = 10;
 
-// Ratio i is read by the open rule at the front of the bytes, against the ratios before it.
-pub fn open_nth(ratios: &[u64], i: usize, s: &[u8]) -> Read
+// Ratio i at the front of the bytes, by the open rule, against the ratios before it.
+fn open_nth(ratios: &[u64], i: usize, s: &[u8]) -> Read
     requires { ⌜ i ≤ length (now ratios) ⌝ }
     ensures { λ r. ⌜ r ≡ openRead (windowOf windowSize (take i (now (ratios .entry)))) (now (s .entry)) ⌝ }
 {
@@ -38,7 +38,7 @@ fn xor_ahead(u: u64, body: &[u8], at: usize) -> Read
     Read::Ratio(raised(m, trail) ^ u, len + 2)
 }
 
-// Ratio i, which stands at the offset `at`.
+// Ratio i at the offset `at`, where the longest form fits.
 fn open_ahead(ratios: &[u64], i: usize, body: &[u8], at: usize) -> Read
     requires { ⌜ (i ≤ length (now ratios)) × (at + 10 ≤ length (now body)) ⌝ }
     ensures { λ r. ⌜ r ≡ openRead (windowOf windowSize (take i (now (ratios .entry)))) (drop at (now (body .entry))) ⌝ }
@@ -61,7 +61,7 @@ fn open_ahead(ratios: &[u64], i: usize, body: &[u8], at: usize) -> Read
     xor_ahead(u, body, at + 1)
 }
 
-// Ratio i, which stands at the offset `at`, if any does.
+// Ratio i at the offset `at`.
 pub fn open_from(ratios: &[u64], i: usize, body: &[u8], at: usize) -> Read
     requires { ⌜ (i ≤ length (now ratios)) × (at ≤ length (now body)) ⌝ }
     ensures { λ r. ⌜ r ≡ openRead (windowOf windowSize (take i (now (ratios .entry)))) (drop at (now (body .entry))) ⌝ }
@@ -72,7 +72,7 @@ pub fn open_from(ratios: &[u64], i: usize, body: &[u8], at: usize) -> Read
     open_nth(ratios, i, &body[at..])
 }
 
-// The same for strict reading, which costs more for every other form: a reference is read at once.
+// The same with a shorter way for references, for a caller to which only they are cheap.
 pub fn open_near(ratios: &[u64], i: usize, body: &[u8], at: usize) -> Read
     requires { ⌜ (i ≤ length (now ratios)) × (at ≤ length (now body)) ⌝ }
     ensures { λ r. ⌜ r ≡ openRead (windowOf windowSize (take i (now (ratios .entry)))) (drop at (now (body .entry))) ⌝ }

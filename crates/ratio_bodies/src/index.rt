@@ -12,14 +12,14 @@ ghost use Rattle.ratio_bodies.specs.Indexes.{keyOf, Indexed, Trailing};
 pub const NONE: usize = 127;
 
 // The slot of a value. Any function would do; a prime number of slots spreads them.
-pub fn key_of(v: u64) -> usize
+fn key_of(v: u64) -> usize
     ensures { λ r. ⌜ (r ≡ keyOf v) × (r < 509) ⌝ }
 {
     (v % 509) as usize
 }
 
 // The place of the newest ratio before ratio i that is equal to it, by the index; NONE where it has none that the window holds.
-pub fn looked_up(slots: &[u16; 509], ratios: &[u64], i: usize) -> usize
+fn looked_up(slots: &[u16; 509], ratios: &[u64], i: usize) -> usize
     requires { ⌜ (i < length (now ratios)) × Indexed (now slots) (now ratios) i ⌝ }
     ensures { λ r. ⌜ (r < 127 → coded (getD (now (ratios .entry)) i 0) (windowOf windowSize (take i (now (ratios .entry)))) ≡ r ∷ []) ⌝ }
 {
@@ -39,7 +39,7 @@ pub fn looked_up(slots: &[u16; 509], ratios: &[u64], i: usize) -> usize
 }
 
 // Ratio i, of value v, is passed.
-pub fn note(slots: &mut [u16; 509], i: usize, v: u64)
+fn note(slots: &mut [u16; 509], i: usize, v: u64)
     requires { ⌜ i < 4096 ⌝ }
     ensures { λ _. ⌜ now (slots .exit) ≡ set (now (slots .entry)) (keyOf v) (i + 1) ⌝ }
 {
@@ -47,17 +47,14 @@ pub fn note(slots: &mut [u16; 509], i: usize, v: u64)
     slots[k] = (i + 1) as u16;
 }
 
-// The same before the ratio before ratio i is noted; where ratio i repeats it, nothing is. A run of repeats is noted once, at its end.
-pub fn known(slots: &mut [u16; 509], ratios: &[u64], i: usize) -> usize
+// The ratio before ratio i is noted, and then the place of ratio i is looked up. Of repeats only the last needs to be noted.
+pub fn place_of(slots: &mut [u16; 509], ratios: &[u64], i: usize) -> usize
     requires { ⌜ (i < length (now ratios)) × (length (now ratios) ≤ 4096) × Trailing (now slots) (now ratios) i ⌝ }
     ensures { λ r. ⌜ Trailing (now (slots .exit)) (now (ratios .entry)) (i + 1)
         × (r < 127 → coded (getD (now (ratios .entry)) i 0) (windowOf windowSize (take i (now (ratios .entry)))) ≡ r ∷ []) ⌝ }
 {
     if i == 0 {
         return NONE;
-    }
-    if ratios[i - 1] == ratios[i] {
-        return 0;
     }
     note(slots, i - 1, ratios[i - 1]);
     looked_up(slots, ratios, i)

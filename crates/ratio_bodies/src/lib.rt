@@ -22,7 +22,7 @@ use bounds::Wrote;
 use choice::choose_nth;
 use choice::refresh;
 use index::NONE;
-use index::known;
+use index::place_of;
 use ratio_codec::write::put_form;
 use ratio_codec::write::put_reference;
 use ratio_format::Read;
@@ -56,7 +56,7 @@ pub fn put_ratios(ratios: &[u64], out: &mut [u8]) -> Wrote
     let mut at: usize = 0;
     let mut i: usize = 0;
     while i < ratios.len() {
-        let place = known(&mut slots, ratios, i);
+        let place = place_of(&mut slots, ratios, i);
         done = refresh(&mut planes, ratios, done, i, place < NONE);
         let r = put_nth(&planes, ratios, i, place, &mut out[at..]);
         let Wrote::Done(n) = r else {

@@ -75,6 +75,15 @@ part-lt n i s hs h =
     let e : length (take n (drop i s)) ≡ n = length-take-le n (drop i s) (rw length-drop (omega arith)) in
     subst (λ (l : ℕ). numberOf 256 (take n (drop i s)) < 256 ^ l) e (number-lt 256 (take n (drop i s)) (below-take 256 n (drop i s) (below-drop 256 i s hs)))
 
+-- it takes no more bytes than there are
+used-of : (w s : List ℕ) (v k : ℕ) → Opened w s v k → k ≤ length s
+used-of w s v k (referred p h g e q) = omega arith
+used-of w s v k (xored p t n h g f e q) = omega arith
+used-of w s v k (excepted f e q) = omega arith
+
+pub open-used : (w s : List ℕ) (v k : ℕ) → openRead w s ≡ Ratio v k → k ≤ length s
+open-used w s v k e = used-of w s v k (opened w v k s e)
+
 -- the ratio has 64 bits, and the bytes are there
 module _ (w s : List ℕ) (v k : ℕ) (hs : Below 256 s) (ha : Below (2 ^ 64) w) where
   value-of : Opened w s v k → (v < 2 ^ 64) × (1 ≤ k) × (k ≤ length s)

@@ -27,7 +27,7 @@ use Rattle.ratio_format.specs.Stepping.{made, madeBody, madeCursor, badC
 use Rattle.ratio_format.specs.Claims.{stepAnswers, stepCursors, given, ended}
 use Rattle.ratio_format.proofs.Windows.{pushed-size, held-pushed, held-length, push-below}
 use Rattle.ratio_format.proofs.RoundTrip.{strict-takes, strict-open, strict-only}
-use Rattle.ratio_format.proofs.Opened.{Opened, opened, open-value}
+use Rattle.ratio_format.proofs.Opened.{open-used, open-value}
 use Rattle.ratio_format.proofs.Lives.{good-fill, window-stays, refusalBy}
 
 -- ---- a state that is not bad
@@ -57,13 +57,8 @@ cursor-good b c g =
 -- ---- what a reading takes
 
 -- no more bytes than there are
-used-of : (w s : List ℕ) (v k : ℕ) → Opened w s v k → k ≤ length s
-used-of w s v k (Opened.referred p h g e q) = omega arith
-used-of w s v k (Opened.xored p t n h g f e q) = omega arith
-used-of w s v k (Opened.excepted f e q) = omega arith
-
-strict-used : (w s : List ℕ) (v k : ℕ) → strictRead w s ≡ Ratio v k → k ≤ length s
-strict-used w s v k e = used-of w s v k (opened w v k s (strict-open v k w s e .0))
+pub strict-used : (w s : List ℕ) (v k : ℕ) → strictRead w s ≡ Ratio v k → k ≤ length s
+strict-used w s v k e = open-used w s v k (strict-open v k w s e .0)
 
 -- the next ratio ends within the body
 pub read-within : (b : List ℕ) (c : Cursor) (v k : ℕ) → Good b c → nextRead b c ≡ Ratio v k → c .place + k ≤ length b

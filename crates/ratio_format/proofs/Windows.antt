@@ -62,6 +62,10 @@ window-snoc size vs v = ap (take size) (reverse-append vs (v ∷ [])) ∙ sym (p
 pub window-more : (size : ℕ) (l : List ℕ) (i : ℕ) → i < length l → push size (getD l i 0) (windowOf size (take i l)) ≡ windowOf size (take (i + 1) l)
 window-more size l i h = push-take size (getD l i 0) (reverse (take i l)) ∙ sym (ap (take size) (reverse-more l i h))
 
+-- a window has no more ratios than its size, nor than there were
+pub window-few : (size : ℕ) (vs : List ℕ) → (length (windowOf size vs) ≤ size) × (length (windowOf size vs) ≤ length vs)
+window-few size vs = let n = length-take size (reverse vs) in let m = length-reverse vs in (omega arith, omega arith)
+
 -- no window has more ratios than its size
 pub push-length : (size v : ℕ) (w : List ℕ) → length (push size v w) ≤ size
 push-length size v w = rw length-take (omega arith)

@@ -44,9 +44,18 @@ impl Window {
             fill: 0,
         }
     }
+
+    // The window after the ratio v.
+    pub fn push(self, v: u64) -> Self
+        ensures { λ r. ⌜ r ≡ pushed self v ⌝ }
+    {
+        let mut ratios = self.ratios;
+        let fill = push_cells(&mut ratios, self.fill, v);
+        Window { ratios, fill }
+    }
 }
 
-// The cells moved down by one, and v in the last. They are lent as a slice, whose length the proof then knows.
+// The cells of a full window moved down by one, and v in the last.
 fn shift(cells: &mut [u64], v: u64)
     requires { ⌜ length (now cells) ≡ windowSize ⌝ }
     ensures { λ _. ⌜ now (cells .exit) ≡ drop 1 (now (cells .entry)) ++ (v ∷ []) ⌝ }
@@ -59,8 +68,8 @@ fn shift(cells: &mut [u64], v: u64)
     cells[Window::SIZE - 1] = v;
 }
 
-// One ratio more, in place: the cells of a window with this fill become those after the ratio v. The answer is the fill afterwards.
-pub fn push(cells: &mut [u64; Window::SIZE], fill: u64, v: u64) -> u64
+// The same in place: the cells of a window with this fill become those after the ratio v. The answer is the fill afterwards.
+pub fn push_cells(cells: &mut [u64; Window::SIZE], fill: u64, v: u64) -> u64
     ensures { λ r. ⌜ record { ratios = now (cells .exit); fill = r } ≡ pushed (record { ratios = now (cells .entry); fill = fill }) v ⌝ }
 {
     if fill < Window::SIZE as u64 {

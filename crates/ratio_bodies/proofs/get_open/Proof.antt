@@ -4,10 +4,9 @@ use Prim.Native.Nat.{_-_}
 use native.Mathlib.Omega.{arith}
 use borrow.Author.Needs.{needs}
 use lib.Dec.{eqb}
-use lib.ListN.{length, take}
-use Rattle.ratio_format.specs.Windows.{windowSize, windowOf}
+use lib.ListN.{length}
 use Rattle.ratio_format.specs.Open.{openRead}
-use Rattle.ratio_bodies.proofs.Got.{Got, rest-read, filled-open, open-within, got-none, got-refused, got-within, got-more, got-all}
+use Rattle.ratio_bodies.proofs.Got.{Got, filled-open, open-within, got-none, got-refused, got-within, got-more, got-all}
 use Rattle.ratio_bodies.proofs.get_open.Statement.{statement}
 use Rattle.ratio_bodies.proofs.get_open.Tie as tie
 
@@ -41,7 +40,7 @@ returns c =
     let d = c .before .before .before .before .before .before .before in
     let a = d .before .args in
     filled-open (a .count) (a .body .now) (a .out .now) (l .out) false
-    (got-refused openRead (a .count) (a .body .now) (a .out .now) (l .out) (l .at) (l .i) (l .inv) (omega arith) (r .result) (rest-read (a .body .now) (l .at) (windowOf windowSize (take (l .i) (l .out))) (r .ensures)) (c .enum-told .given .1))
+    (got-refused openRead (a .count) (a .body .now) (a .out .now) (l .out) (l .at) (l .i) (l .inv) (omega arith) (r .result) (r .ensures) (c .enum-told .given .1))
 
 mul-out : tie.Need-mul-out Inv-loop μ-loop
 mul-out c = search needs
@@ -55,7 +54,7 @@ add-at c =
     let l = c .before .before .before .before .before .before .loop in
     let a = c .before .before .before .before .before .before .before .before .before .args in
     let g = c .before .r .given in
-    omega (arith, got-within openRead (a .count) (a .body .now) (a .out .now) (l .out) (l .at) (l .i) (l .inv) (omega arith) (r .result) (rest-read (a .body .now) (l .at) (windowOf windowSize (take (l .i) (l .out))) (r .ensures)) open-within (g .0 .0) (g .0 .1 .0) (g .1))
+    omega (arith, got-within openRead (a .count) (a .body .now) (a .out .now) (l .out) (l .at) (l .i) (l .inv) (omega arith) (r .result) (r .ensures) open-within (g .0 .0) (g .0 .1 .0) (g .1))
 
 add-i : tie.Need-add-i Inv-loop μ-loop
 add-i c = search needs
@@ -70,7 +69,7 @@ loop-again c =
     let d = c .before .before .before .before .before .before .before .before .before in
     let a = d .args in
     let g = c .before .r .given in
-    got-more openRead (a .count) (a .body .now) (a .out .now) (l .out) (l .at) (l .i) (l .inv) (omega arith) (r .result) (rest-read (a .body .now) (l .at) (windowOf windowSize (take (l .i) (l .out))) (r .ensures)) open-within (g .0 .0) (g .0 .1 .0) (g .1) (d .pre)
+    got-more openRead (a .count) (a .body .now) (a .out .now) (l .out) (l .at) (l .i) (l .inv) (omega arith) (r .result) (r .ensures) open-within (g .0 .0) (g .0 .1 .0) (g .1) (d .pre)
 
 same-length-2 : tie.Need-same-length-2 Inv-loop μ-loop
 same-length-2 c = search needs

@@ -1,6 +1,6 @@
 -- `get_strict` meets its contract. The invariant: the first i ratios stand at the front, and reading on from there gives the whole reading;
 -- the planes are those of the ratios before `done`, and the marks those of the window of ratio i.
-use mathlib.Core.Path.{_≡_, refl, sym, ap, _∙_}
+use mathlib.Core.Path.{_≡_, refl, sym, ap, _∙_, subst}
 use mathlib.Core.Bool.{true, false}
 use mathlib.Core.List.{List}
 use Prim.Native.Nat.{ℕ, _-_, _≤_, _<_}
@@ -10,6 +10,7 @@ use borrow.Author.Tests.{ne-eqb, not-true, not-false}
 use lib.Dec.{eqb}
 use lib.ListN.{length, getD, take, drop, replicate}
 use Rattle.bits.specs.Compare.{begins}
+use Rattle.bits.proofs.Parts.{rest-is}
 use Rattle.ratio_format.specs.declared.Read.the-variants.{Ratio, Refused}
 use Rattle.ratio_format.specs.Windows.{windowSize, windowOf}
 use Rattle.ratio_format.specs.Forms.{coded}
@@ -21,7 +22,7 @@ use Rattle.ratio_search.proofs.Found.{window-length}
 use Rattle.ratio_bodies.specs.Marks.{Marks}
 use Rattle.ratio_bodies.proofs.Named.{one-named}
 use Rattle.ratio_bodies.proofs.Marked.{marks-none, marks-more}
-use Rattle.ratio_bodies.proofs.Got.{Got, rest-read, filled-strict, strict-within, got-none, got-refused, got-within, got-more, got-all}
+use Rattle.ratio_bodies.proofs.Got.{Got, filled-strict, strict-within, got-none, got-refused, got-within, got-more, got-all}
 use Rattle.ratio_bodies.proofs.get_strict.Statement.{statement}
 use Rattle.ratio_bodies.proofs.get_strict.Tie as tie
 
@@ -60,10 +61,10 @@ returns c =
     let d = c .before .before .before .before .before .before .before in
     let a = d .before .args in
     let w = windowOf windowSize (take (l .i) (l .out)) in
-    let s = take (length (a .body .now) - l .at) (drop (l .at) (a .body .now)) in
+    let s = drop (l .at) (a .body .now) in
     filled-strict (a .count) (a .body .now) (a .out .now) (l .out) false (λ i. d .shared-slice-known .given i .fits)
     (got-refused strictRead (a .count) (a .body .now) (a .out .now) (l .out) (l .at) (l .i) (l .inv .0) (omega arith) Refused
-    (strict-refused w s (o .result) (rest-read (a .body .now) (l .at) w (o .ensures)) (c .enum-told .given .1)) refl)
+    (strict-refused w s (o .result) (o .ensures) (c .enum-told .given .1)) refl)
 
 refresh-requires : tie.Need-refresh-requires Inv-loop μ-loop
 refresh-requires c κs =
@@ -96,8 +97,15 @@ module _ (c : tie.After-accepts-arg2 Inv-loop μ-loop) where
       let b = c .before .before .before .before .before .before .before .before .before .before .before .before .before .before .before .before .args .body .now in
       take (length b - l .at) (drop (l .at) b)
 
+  -- the rest of the body, which is the part that is lent
+  abbrev rest : List ℕ
+  rest = drop (c .before .before .before .before .before .before .before .before .before .before .before .before .before .loop .at) (c .before .before .before .before .before .before .before .before .before .before .before .before .before .before .before .before .args .body .now)
+
+  whole : s ≡ rest
+  whole = rest-is (c .before .before .before .before .before .before .before .before .before .before .before .before .before .loop .at) (c .before .before .before .before .before .before .before .before .before .before .before .before .before .before .before .before .args .body .now)
+
   found : c .before .before .before .before .before .before .before .before .before .before .open-near .result ≡ openRead w s
-  found = rest-read (c .before .before .before .before .before .before .before .before .before .before .before .before .before .before .before .before .args .body .now) (c .before .before .before .before .before .before .before .before .before .before .before .before .before .loop .at) w (c .before .before .before .before .before .before .before .before .before .before .open-near .ensures)
+  found = c .before .before .before .before .before .before .before .before .before .before .open-near .ensures ∙ ap (openRead w) (sym whole)
 
   opens : openRead w s ≡ Ratio v n
   opens = sym found ∙ c .before .before .before .before .before .before .before .before .r .given .1
@@ -133,7 +141,7 @@ returns-2 c =
     let a = d .before .args in
     filled-strict (a .count) (a .body .now) (a .out .now) (l .out) false (λ i. d .shared-slice-known .given i .fits)
     (got-refused strictRead (a .count) (a .body .now) (a .out .now) (l .out) (l .at) (l .i) (l .inv .0) (turn r) Refused
-    (strict-other (w r) (s r) (o .result) (found r) (v r) (n r) (x .accepts .result) (r .before .before .before .before .before .before .before .before .r .given .1) (x .accepts .ensures) (not-true (x .accepts .result) (c .if1 .taken))) refl)
+    (subst (λ (t : List ℕ). Refused ≡ strictRead (w r) t) (whole r) (strict-other (w r) (s r) (o .result) (found r) (v r) (n r) (x .accepts .result) (r .before .before .before .before .before .before .before .before .r .given .1) (x .accepts .ensures) (not-true (x .accepts .result) (c .if1 .taken)))) refl)
 
 -- what was accepted
 module _ (c : tie.Else1 Inv-loop μ-loop) where
@@ -146,10 +154,10 @@ module _ (c : tie.Else1 Inv-loop μ-loop) where
   begun : begins (coded (v r) (w r)) (s r) ≡ true
   begun = sym (c .before .accepts .ensures) ∙ good
 
-  accepted : Ratio (v r) (n r) ≡ strictRead (w r) (s r)
+  accepted : Ratio (v r) (n r) ≡ strictRead (w r) (rest r)
   accepted =
       let o = r .before .before .before .before .before .before .before .before .before .before .open-near in
-      strict-good (w r) (s r) (o .result) (found r) (v r) (n r) (c .before .accepts .result) (r .before .before .before .before .before .before .before .before .r .given .1) (c .before .accepts .ensures) good
+      subst (λ (t : List ℕ). Ratio (v r) (n r) ≡ strictRead (w r) t) (whole r) (strict-good (w r) (s r) (o .result) (found r) (v r) (n r) (c .before .accepts .result) (r .before .before .before .before .before .before .before .before .r .given .1) (c .before .accepts .ensures) good)
 
 sub-mark : tie.Need-sub-mark Inv-loop μ-loop
 sub-mark c = search needs

@@ -29,8 +29,8 @@ loop-holds c =
     let a = c .before .before .args in
     (sent-none (a .ratios .now) (a .out .now), kept-none (replicate 1024 0) (a .ratios .now) refl, omega arith, trailing-none (a .ratios .now))
 
-known-requires : tie.Need-known-requires Inv-loop μ-loop
-known-requires c κs =
+place-of-requires : tie.Need-place-of-requires Inv-loop μ-loop
+place-of-requires c κs =
     let l = c .before .before .loop in
     (omega arith, c .before .before .before .before .before .pre, l .inv .3)
 
@@ -51,7 +51,7 @@ part-put-nth-end c = search needs
 put-nth-requires : tie.Need-put-nth-requires Inv-loop μ-loop
 put-nth-requires c κs =
     let f = c .before .before .refresh in
-    let k = c .before .before .before .before .known in
+    let k = c .before .before .before .before .place-of in
     let l = c .before .before .before .before .before .before .before .loop in
     let a = c .before .before .before .before .before .before .before .before .before .before .args in (
       omega arith,
@@ -157,7 +157,7 @@ loop-again : tie.Need-loop-again Inv-loop μ-loop
 loop-again c =
     let d = c .before .before .before .before in
     let p = c .before .before .put-repeats in
-    let k = c .before .before .before .before .before .before .before .before .before .before .before .before .before .before .known in
+    let k = c .before .before .before .before .before .before .before .before .before .before .before .before .before .before .place-of in
     let f = c .before .before .before .before .before .before .before .before .before .before .before .before .refresh in (
       all c,
       f .ensures .0,
@@ -181,7 +181,7 @@ put-ratios-spec =
     Inv-loop
     μ-loop
     loop-holds
-    known-requires
+    place-of-requires
     refresh-requires
     sub-put-nth
     part-put-nth-start

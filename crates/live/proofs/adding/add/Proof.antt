@@ -123,8 +123,8 @@ returns-3 c =
     (add-short (a .state) (a .ratio) (a .out .now) (good (d .before)) (few d) (lt-ltb (length (a .out .now)) (length (addBytes (a .state) (a .ratio))) e))
     (c .before .before .refuse3 .result) (n .encode .last .1 .1 .0) (c .before .before .refuse3 .last .1 .1 .0) (n .encode .kept .1 .1 .0) (c .before .before .refuse3 .ensures)
 
-push-requires : tie.Need-push-requires
-push-requires c κs = search needs
+push-cells-requires : tie.Need-push-cells-requires
+push-cells-requires c κs = search needs
 
 add-t18 : tie.Need-add-t18
 add-t18 c = search needs
@@ -141,7 +141,7 @@ returns-4 c =
     let e = rw (g .1) at (n .encode .ensures) in
     succeeded (a .state) (a .ratio) (a .out .now)
     (add-none (a .state) (a .ratio) (a .out .now) (good (d .before)) (few d) (le-ltb (length (a .out .now)) (length (addBytes (a .state) (a .ratio))) (e .1)))
-    (g .0 .0) (record { ratios = c .push .last .0; fill = c .push .result }) (n .encode .last .1 .1 .0) (e .0) (c .push .ensures) (e .2)
+    (g .0 .0) (record { ratios = c .push-cells .last .0; fill = c .push-cells .result }) (n .encode .last .1 .1 .0) (e .0) (c .push-cells .ensures) (e .2)
 
 pub add-spec : {M : Type 1} → statement M
 add-spec =
@@ -162,7 +162,7 @@ add-spec =
     refuse-requires-3
     same-length-3
     returns-3
-    push-requires
+    push-cells-requires
     add-t18
     same-length-4
     returns-4)

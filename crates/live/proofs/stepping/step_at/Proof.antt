@@ -20,8 +20,8 @@ slice-aggregate-seek c = search needs
 seek-requires : tie.Need-seek-requires
 seek-requires c κs = search needs
 
-push-requires : tie.Need-push-requires
-push-requires c κs = search needs
+push-cells-requires : tie.Need-push-cells-requires
+push-cells-requires c κs = search needs
 
 add-seen : tie.Need-add-seen
 add-seen c =
@@ -51,4 +51,4 @@ returns c =
 
 pub step-at-spec : {M : Type 1} → statement M
 step-at-spec =
-    tie.close (tie.spec slice-aggregate-seek seek-requires push-requires add-seen add-t18 returns)
+    tie.close (tie.spec slice-aggregate-seek seek-requires push-cells-requires add-seen add-t18 returns)

@@ -1,10 +1,11 @@
 -- `accepts` meets its contract: the mark decides of a reference, the head of any other form.
 use mathlib.Core.Path.{_≡_, sym, ap, _∙_}
-use mathlib.Core.List.{List, reverse}
+use mathlib.Core.List.{List}
 use Prim.Native.Nat.{ℕ}
 use native.Mathlib.Omega.{arith}
 use lib.Dec.{eqb}
-use lib.ListN.{getD, take, length-take}
+use lib.ListN.{getD, take}
+use Rattle.ratio_format.proofs.Windows.{window-few}
 use Rattle.bits.specs.Compare.{begins}
 use Rattle.bits.proofs.Below.{below-of}
 use Rattle.ratio_format.specs.declared.Form.{Form}
@@ -66,7 +67,7 @@ returns-2 c =
     let a = d .args in
     let f = c .before .choose-nth in
     c .has-head .ensures ∙ ap (λ (x : Form). begins (head x) (a .s .now)) (f .ensures)
-    ∙ sym (head-decides (a .v) (a .n) (window d) (omega (arith, length-take windowSize (reverse (take (a .i) (a .ratios .now))))) (a .s .now) (below-of 256 (a .s .now) (λ i. k .given i .fits)) (d .pre .2))
+    ∙ sym (head-decides (a .v) (a .n) (window d) (window-few windowSize (take (a .i) (a .ratios .now)) .0) (a .s .now) (below-of 256 (a .s .now) (λ i. k .given i .fits)) (d .pre .2))
 
 pub accepts-spec : {M : Type 1} → statement M
 accepts-spec =

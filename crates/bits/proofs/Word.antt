@@ -1,10 +1,10 @@
 -- Numbers put together in a word of 64 bits by shifts, as the code computes them: nothing is shifted out.
 use mathlib.Core.Path.{_≡_, _∙_}
-use Prim.Native.Nat.{ℕ, _+_, _-_, _*_, _/_, _%_, _^_, _≤_, _<_}
-use native.Mathlib.Nat.{one-mul, mod-lt, lt-of-lt-of-le}
+use Prim.Native.Nat.{ℕ, _+_, _*_, _%_, _^_, _≤_, _<_}
+use native.Mathlib.Nat.{one-mul, lt-of-lt-of-le}
 use native.Mathlib.Omega.{arith}
 use lib.Arith.{digits-lt}
-use lib.Pow.{pow-pos, pow-add, pow-mono, shl-exact, shr-lt}
+use lib.Pow.{pow-pos, pow-add, pow-mono, shl-exact}
 
 -- a mask's modulus
 pub mask : (k : ℕ) → k < 64 → 1 * 2 ^ k % 2 ^ 64 ≡ 2 ^ k
@@ -23,26 +23,3 @@ module _ (j k : ℕ) {h l : ℕ} (h< : h < 2 ^ j) (l< : l < 2 ^ k) (fits : j + k
 
   pub join-fits : h * 2 ^ k % 2 ^ 64 + l < 2 ^ 64
   join-fits = rw shl-is (lt-of-lt-of-le join-lt (pow-mono fits))
-
--- the first r bits of the byte B, the k bits of v, and the last bits of the byte L, as many as pad
-module _ (B L r k pad v : ℕ) (B< : B < 256) (r≤ : r ≤ 8) (v< : v < 2 ^ k) (fits : r + k + pad ≤ 64) (pad< : pad < 64) where
-  head< : B / 2 ^ (8 - r) < 2 ^ r
-  head< = let i : r + (8 - r) ≡ 8 = omega arith in shr-lt r (8 - r) (rw i B<)
-
-  rk : r + k ≤ 64
-  rk = omega arith
-
-  inner< : B / 2 ^ (8 - r) * 2 ^ k + v < 2 ^ (r + k)
-  inner< = join-lt r k head< v< rk
-
-  tail< : L % 2 ^ pad < 2 ^ pad
-  tail< = mod-lt L (pow-pos pad)
-
-  pub inner-fits : B / 2 ^ (8 - r) * 2 ^ k % 2 ^ 64 + v < 2 ^ 64
-  inner-fits = join-fits r k head< v< rk
-
-  pub outer-fits : (B / 2 ^ (8 - r) * 2 ^ k % 2 ^ 64 + v) * 2 ^ pad % 2 ^ 64 + L % (1 * 2 ^ pad % 2 ^ 64) < 2 ^ 64
-  outer-fits = rw (mask pad pad<, shl-is r k head< v< rk) (join-fits (r + k) pad inner< tail< fits)
-
-  pub word-is : (B / 2 ^ (8 - r) * 2 ^ k % 2 ^ 64 + v) * 2 ^ pad % 2 ^ 64 + L % (1 * 2 ^ pad % 2 ^ 64) ≡ (B / 2 ^ (8 - r) * 2 ^ k + v) * 2 ^ pad + L % 2 ^ pad
-  word-is = rw (mask pad pad<, shl-is r k head< v< rk, shl-is (r + k) pad inner< tail< fits)

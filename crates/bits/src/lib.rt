@@ -1,15 +1,14 @@
 // Numbers as digits, bytes and bits of a slice, most significant first.
 // The definitions stand in specs/, their laws in proofs/. Internal: callers meet each `requires`.
 ghost use mathlib.Core.Path.{_≡_};
-ghost use mathlib.Core.List.{_++_};
-ghost use Prim.Native.Nat.{ℕ, _+_, _*_, _^_, _≤_, _<_};
+ghost use Prim.Native.Nat.{_+_, _*_, _^_, _≤_, _<_};
 ghost use lib.ListN.{length, take, drop, replicate};
-ghost use Rattle.bits.specs.Digits.{bitsOf, bytesOf, numberOf};
+ghost use Rattle.bits.specs.Digits.{bytesOf, numberOf};
 ghost use Rattle.bits.specs.Packing.{bits};
 ghost use Rattle.bits.specs.Splice.{splice};
 
 // A byte as a wider number.
-pub fn wide(x: u8) -> u64
+fn wide(x: u8) -> u64
     ensures { λ r. ⌜ (r ≡ x) × (r < 256) ⌝ }
 {
     x as u64
@@ -52,21 +51,6 @@ pub fn get_first(s: &[u8], at: usize, n: usize) -> u64
         return 0;
     }
     get_bytes(s, at, 8) >> (8 * (8 - n))
-}
-
-// The k bits from the bit offset `at` on become those of v; all other bits stay.
-// One word holds the first byte's bits before them, the k bits, and the last byte's bits after them.
-pub fn put_bits(out: &mut [u8], at: usize, k: usize, v: u64)
-    requires { ⌜ (0 < k) × (k ≤ 57) × (v < 2 ^ k) × (at + k ≤ 8 * length (now out)) ⌝ }
-    ensures { λ _. ⌜ bits (now (out .exit)) ≡ splice (bits (now (out .entry))) at k (bitsOf k v) ⌝ }
-{
-    let b = at / 8;
-    let r = at % 8;
-    let e = (r + k + 7) / 8;
-    let pad = 8 * e - (r + k);
-    let head = wide(out[b]) >> (8 - r);
-    let tail = wide(out[b + e - 1]) % (1 << pad);
-    put_bytes(out, b, e, (((head << k) + v) << pad) + tail);
 }
 
 // The number of the k bits from the bit offset `at` on.

@@ -5,9 +5,5 @@ mod write; // positions written
 mod read; // positions read
 
 pub use read::get_positions;
-pub use table::Code;
-pub use table::code_of;
-pub use table::in_table;
-pub use table::step;
 pub use write::first_outside;
 pub use write::put_positions;

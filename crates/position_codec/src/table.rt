@@ -33,7 +33,7 @@ pub struct Code {
 }
 
 // The step at the point t after the points a and b.
-pub fn step(a: u64, b: u64, t: u64) -> i64
+pub(crate) fn step(a: u64, b: u64, t: u64) -> i64
     requires { ⌜ (a < 2 ^ 62) × (b < 2 ^ 62) × (t < 2 ^ 62) ⌝ }
     ensures { λ r. ⌜ r ≡ stepOf a b t ⌝ }
 {
@@ -41,7 +41,7 @@ pub fn step(a: u64, b: u64, t: u64) -> i64
 }
 
 // Whether z is from low to high.
-pub fn within(z: i64, low: i64, high: i64) -> bool
+pub(crate) fn within(z: i64, low: i64, high: i64) -> bool
     ensures { λ r. ⌜ r ≡ both (leZ low z) (leZ z high) ⌝ }
 {
     low <= z && z <= high
@@ -56,7 +56,7 @@ fn in_row(row: usize, z: i64) -> bool
 }
 
 // The index of the first row that holds z; the number of rows where none does.
-pub fn row_of(z: i64) -> usize
+fn row_of(z: i64) -> usize
     ensures { λ r. ⌜ r ≡ rowOf rows z ⌝ }
 {
     if in_row(0, z) {
@@ -78,7 +78,7 @@ pub fn row_of(z: i64) -> usize
 }
 
 // Whether a row holds z.
-pub fn in_table(z: i64) -> bool
+pub(crate) fn in_table(z: i64) -> bool
     ensures { λ r. ⌜ r ≡ inTable rows z ⌝ }
 {
     row_of(z) < ROWS
@@ -108,7 +108,7 @@ fn code_in(row: usize, z: i64) -> Code
 }
 
 // The code of z, which the table holds. Each row has a call of its own, whose numbers are then known.
-pub fn code_of(z: i64) -> Code
+pub(crate) fn code_of(z: i64) -> Code
     requires { ⌜ inTable rows z ≡ true ⌝ }
     ensures { λ r. ⌜ Coded (r .len) (r .word) z ⌝ }
 {

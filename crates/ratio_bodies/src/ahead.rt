@@ -62,7 +62,7 @@ fn open_ahead(ratios: &[u64], i: usize, body: &[u8], at: usize) -> Read
 }
 
 // Ratio i at the offset `at`.
-pub fn open_from(ratios: &[u64], i: usize, body: &[u8], at: usize) -> Read
+pub(crate) fn open_from(ratios: &[u64], i: usize, body: &[u8], at: usize) -> Read
     requires { ⌜ (i ≤ length (now ratios)) × (at ≤ length (now body)) ⌝ }
     ensures { λ r. ⌜ r ≡ openRead (windowOf windowSize (take i (now (ratios .entry)))) (drop at (now (body .entry))) ⌝ }
 {
@@ -73,7 +73,7 @@ pub fn open_from(ratios: &[u64], i: usize, body: &[u8], at: usize) -> Read
 }
 
 // The same with a shorter way for references, for a caller to which only they are cheap.
-pub fn open_near(ratios: &[u64], i: usize, body: &[u8], at: usize) -> Read
+pub(crate) fn open_near(ratios: &[u64], i: usize, body: &[u8], at: usize) -> Read
     requires { ⌜ (i ≤ length (now ratios)) × (at ≤ length (now body)) ⌝ }
     ensures { λ r. ⌜ r ≡ openRead (windowOf windowSize (take i (now (ratios .entry)))) (drop at (now (body .entry))) ⌝ }
 {

@@ -17,7 +17,13 @@ use ratio_search::window_start;
 const FEW: usize = 16;
 
 // The planes are brought up to ratio i unless it needs none; the answer is the index that they go up to.
-pub fn refresh(planes: &mut [u8; 1024], ratios: &[u64], done: usize, i: usize, skip: bool) -> usize
+pub(crate) fn refresh(
+    planes: &mut [u8; 1024],
+    ratios: &[u64],
+    done: usize,
+    i: usize,
+    skip: bool,
+) -> usize
     requires { ⌜ Kept (now planes) (now ratios) done × (done ≤ i) × (i ≤ length (now ratios)) ⌝ }
     ensures { λ r. ⌜ Kept (now (planes .exit)) (now (ratios .entry)) r × (r ≤ i) × (skip ≡ false → 16 ≤ i → r ≡ i) ⌝ }
 {
@@ -32,7 +38,7 @@ pub fn refresh(planes: &mut [u8; 1024], ratios: &[u64], done: usize, i: usize, s
 }
 
 // The form of v as ratio i, against the ratios before it.
-pub fn choose_nth(planes: &[u8; 1024], ratios: &[u64], i: usize, v: u64) -> Form
+pub(crate) fn choose_nth(planes: &[u8; 1024], ratios: &[u64], i: usize, v: u64) -> Form
     requires { ⌜ (i ≤ length (now ratios)) × (16 ≤ i → Planes (now planes) (now ratios) (i - windowSize) i) ⌝ }
     ensures { λ r. ⌜ r ≡ form v (windowOf windowSize (take i (now (ratios .entry)))) ⌝ }
 {

@@ -48,7 +48,7 @@ fn note(slots: &mut [u16; 509], i: usize, v: u64)
 }
 
 // The ratio before ratio i is noted, and then the place of ratio i is looked up. Of repeats only the last needs to be noted.
-pub fn place_of(slots: &mut [u16; 509], ratios: &[u64], i: usize) -> usize
+pub(crate) fn place_of(slots: &mut [u16; 509], ratios: &[u64], i: usize) -> usize
     requires { ⌜ (i < length (now ratios)) × (length (now ratios) ≤ 4096) × Trailing (now slots) (now ratios) i ⌝ }
     ensures { λ r. ⌜ Trailing (now (slots .exit)) (now (ratios .entry)) (i + 1)
         × (r < 127 → coded (getD (now (ratios .entry)) i 0) (windowOf windowSize (take i (now (ratios .entry)))) ≡ r ∷ []) ⌝ }

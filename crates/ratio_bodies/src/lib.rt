@@ -10,11 +10,11 @@ ghost use Rattle.ratio_format.specs.Forms.{coded};
 ghost use Rattle.ratio_format.specs.Bodies.{codedRatios, openRatios, strictRatios};
 ghost use Rattle.ratio_search.specs.Planes.{Planes};
 
-pub mod ahead;
-pub mod choice;
-pub mod index;
-pub mod repeats;
-pub mod strict;
+mod ahead;
+mod choice;
+mod index;
+mod repeats;
+mod strict;
 
 use ahead::open_from;
 use ahead::open_near;
@@ -31,7 +31,7 @@ use strict::accepts;
 use strict::mark;
 
 // Ratio i is coded at the front of the output, against the ratios before it; `place` is its place in the window, if the index knows one.
-pub fn put_nth(planes: &[u8; 1024], ratios: &[u64], i: usize, place: usize, out: &mut [u8]) -> Wrote
+fn put_nth(planes: &[u8; 1024], ratios: &[u64], i: usize, place: usize, out: &mut [u8]) -> Wrote
     requires { ⌜ (i < length (now ratios))
         × (place < 127 → coded (getD (now ratios) i 0) (windowOf windowSize (take i (now ratios))) ≡ place ∷ [])
         × (127 ≤ place → 16 ≤ i → Planes (now planes) (now ratios) (i - windowSize) i) ⌝ }

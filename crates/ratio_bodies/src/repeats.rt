@@ -5,7 +5,7 @@ ghost use Prim.Native.Nat.{ℕ, _+_, _-_, _≤_, _<_};
 ghost use lib.ListN.{length, getD, drop, replicate};
 
 // As many ratios from `from` on as are equal to the one before them, and as the output has room for, are put at its front.
-pub fn put_repeats(ratios: &[u64], from: usize, out: &mut [u8]) -> usize
+pub(crate) fn put_repeats(ratios: &[u64], from: usize, out: &mut [u8]) -> usize
     requires { ⌜ (0 < from) × (from ≤ length (now ratios)) ⌝ }
     ensures { λ r. ⌜ (from + r ≤ length (now (ratios .entry)))
         × ((k : ℕ) → k < r → getD (now (ratios .entry)) (from + k) 0 ≡ getD (now (ratios .entry)) (from - 1) 0)

@@ -13,7 +13,7 @@ use super::choice::choose_nth;
 use ratio_codec::read::has_head;
 
 // The slot of the ratio that the reference at the front of the bytes names.
-pub fn slot_of(i: usize, s: &[u8]) -> usize
+fn slot_of(i: usize, s: &[u8]) -> usize
     requires { ⌜ (1 ≤ length (now s)) × (getD (now s) 0 0 < i) ⌝ }
     ensures { λ r. ⌜ (r ≡ slotOf i (getD (now (s .entry)) 0 0)) × (r < 128) ⌝ }
 {
@@ -22,7 +22,7 @@ pub fn slot_of(i: usize, s: &[u8]) -> usize
 }
 
 // Whether the bytes, which were read as v, are those that are written for v. A reference is, where its ratio does not occur again.
-pub fn accepts(
+pub(crate) fn accepts(
     planes: &[u8; 1024],
     again: &[u8; 128],
     ratios: &[u64],
@@ -45,7 +45,7 @@ pub fn accepts(
 }
 
 // The marks after ratio i was read from n bytes: the ratio that a reference names occurs again, and ratio i does not.
-pub fn mark(again: &mut [u8; 128], i: usize, n: usize, s: &[u8])
+pub(crate) fn mark(again: &mut [u8; 128], i: usize, n: usize, s: &[u8])
     requires { ⌜ (n ≡ 1 → (1 ≤ length (now s)) × (getD (now s) 0 0 < i)) ⌝ }
     ensures { λ _. ⌜ (n ≡ 1 → now (again .exit) ≡ set (set (now (again .entry)) (slotOf i (getD (now (s .entry)) 0 0)) 1) (i % 128) 0)
         × ((n ≡ 1 → ⊥) → now (again .exit) ≡ set (now (again .entry)) (i % 128) 0) ⌝ }

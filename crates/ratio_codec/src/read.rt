@@ -35,7 +35,7 @@ fn middle_of(s: &[u8], len: usize) -> u64
 }
 
 // What stands after the byte of a place that holds u: the two counts, and the middle.
-pub fn read_xor(u: u64, s: &[u8]) -> Read
+fn read_xor(u: u64, s: &[u8]) -> Read
     ensures { λ r. ⌜ r ≡ openXor u (now (s .entry)) ⌝ }
 {
     if s.len() == 0 {
@@ -82,7 +82,7 @@ pub fn read_open(window: &[u64], s: &[u8]) -> Read
 }
 
 // Whether the bytes begin with a.
-pub fn has_one(s: &[u8], a: usize) -> bool
+fn has_one(s: &[u8], a: usize) -> bool
     ensures { λ r. ⌜ r ≡ begins (a ∷ []) (now (s .entry)) ⌝ }
 {
     if s.len() < 1 {
@@ -92,7 +92,7 @@ pub fn has_one(s: &[u8], a: usize) -> bool
 }
 
 // Whether the bytes begin with a and b.
-pub fn has_two(s: &[u8], a: usize, b: usize) -> bool
+fn has_two(s: &[u8], a: usize, b: usize) -> bool
     ensures { λ r. ⌜ r ≡ begins (a ∷ b ∷ []) (now (s .entry)) ⌝ }
 {
     if s.len() < 2 {

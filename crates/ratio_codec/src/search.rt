@@ -28,7 +28,7 @@ pub fn trail_zeros(x: u64) -> usize
 }
 
 // The leading and trailing zero bytes of v xor u together.
-pub fn score_of(v: u64, u: u64) -> usize
+fn score_of(v: u64, u: u64) -> usize
     ensures { λ r. ⌜ r ≡ score v u ⌝ }
 {
     let x = v ^ u;
@@ -36,7 +36,7 @@ pub fn score_of(v: u64, u: u64) -> usize
 }
 
 // The first place from `from` on whose ratio is v, or the window's length.
-pub fn pass_equal(window: &[u64], from: usize, v: u64) -> usize
+pub(crate) fn pass_equal(window: &[u64], from: usize, v: u64) -> usize
     requires { ⌜ from ≤ length (now window) ⌝ }
     ensures { λ r. ⌜ r ≡ from + find v (drop from (reverse (now (window .entry)))) ⌝ }
 {

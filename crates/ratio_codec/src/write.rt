@@ -60,7 +60,7 @@ pub fn put_reference(out: &mut [u8], place: usize) -> Wrote
 }
 
 // The bytes of an xor form.
-pub fn put_xor(out: &mut [u8], place: usize, trail: usize, len: usize, middle: u64) -> Wrote
+fn put_xor(out: &mut [u8], place: usize, trail: usize, len: usize, middle: u64) -> Wrote
     requires { ⌜ (place < 127) × (trail ≤ 8) × (len ≤ 6) ⌝ }
     ensures { λ r. ⌜ Placed ((place + 128) ∷ (trail * 16 + len) ∷ bytesOf len middle) r (now (out .entry)) (now (out .exit)) ⌝ }
 {
@@ -74,7 +74,7 @@ pub fn put_xor(out: &mut [u8], place: usize, trail: usize, len: usize, middle: u
 }
 
 // The bytes of an exception.
-pub fn put_exception(out: &mut [u8], v: u64) -> Wrote
+fn put_exception(out: &mut [u8], v: u64) -> Wrote
     ensures { λ r. ⌜ Placed (255 ∷ bytesOf 8 v) r (now (out .entry)) (now (out .exit)) ⌝ }
 {
     if out.len() < 9 {

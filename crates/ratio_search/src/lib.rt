@@ -1,8 +1,8 @@
 // The search for the best ratio of a window over a run's own slice: most of the window is passed over by a test of single bytes.
 // Internal: callers meet each `requires`.
-pub mod pairs;
-pub mod planes;
-pub mod search;
+mod pairs;
+mod planes;
+mod search;
 
 pub use planes::fill_planes;
 pub use search::find;

@@ -19,7 +19,7 @@ pub struct Pairs {
 }
 
 // Where the second pair begins: beside the first, and not at bytes that agree because v itself ends in zero bytes.
-pub fn beside(trail: usize, sum: usize, own: usize) -> usize
+fn beside(trail: usize, sum: usize, own: usize) -> usize
     requires { ⌜ (trail ≤ sum) × (sum ≤ 7) ⌝ }
     ensures { λ r. ⌜ r ≤ sum ⌝ }
 {
@@ -33,7 +33,7 @@ pub fn beside(trail: usize, sum: usize, own: usize) -> usize
 }
 
 // The pairs for sums above `sum`: the first stands at the ends of the middle of a ratio with that sum and `trail` trailing bytes.
-pub fn pairs_of(trail: usize, sum: usize, own: usize) -> Pairs
+pub(crate) fn pairs_of(trail: usize, sum: usize, own: usize) -> Pairs
     requires { ⌜ (trail ≤ sum) × (sum ≤ 7) ⌝ }
     ensures { λ r. ⌜ Apart sum (r .a) (r .b) × Apart sum (r .c) (r .d) ⌝ }
 {
@@ -48,7 +48,7 @@ pub fn pairs_of(trail: usize, sum: usize, own: usize) -> Pairs
 }
 
 // Whether in the 16 slots from `slot` on one agrees with v in a byte of each pair. Written without branches, so that it becomes vector code.
-pub fn suspect(planes: &[u8; 1024], slot: usize, v: u64, p: Pairs) -> bool
+pub(crate) fn suspect(planes: &[u8; 1024], slot: usize, v: u64, p: Pairs) -> bool
     requires { ⌜ (slot + 16 ≤ 128) × (p .a < 8) × (p .b < 8) × (p .c < 8) × (p .d < 8) ⌝ }
     ensures { λ r. ⌜ (r ≡ false → (t : ℕ) → slot ≤ t → t < slot + 16
         → Differs (now (planes .entry)) v (p .a) (p .b) t ⊎ Differs (now (planes .entry)) v (p .c) (p .d) t) ⌝ }
@@ -73,7 +73,7 @@ pub fn suspect(planes: &[u8; 1024], slot: usize, v: u64, p: Pairs) -> bool
 }
 
 // Whether byte j of x is 0.
-pub fn zero_at(x: u64, j: usize) -> bool
+fn zero_at(x: u64, j: usize) -> bool
     requires { ⌜ j < 8 ⌝ }
     ensures { λ r. ⌜ (r ≡ false → byteAt x j ≡ 0 → ⊥) ⌝ }
 {
@@ -81,7 +81,7 @@ pub fn zero_at(x: u64, j: usize) -> bool
 }
 
 // Whether one of two bytes of x is 0.
-pub fn one_zero(x: u64, a: usize, b: usize) -> bool
+fn one_zero(x: u64, a: usize, b: usize) -> bool
     requires { ⌜ (a < 8) × (b < 8) ⌝ }
     ensures { λ r. ⌜ (r ≡ false → (byteAt x a ≡ 0 → ⊥) × (byteAt x b ≡ 0 → ⊥)) ⌝ }
 {
@@ -92,7 +92,7 @@ pub fn one_zero(x: u64, a: usize, b: usize) -> bool
 }
 
 // Whether the zero bytes of x at both ends may be more than `sum`.
-pub fn maybe(x: u64, sum: usize, p: Pairs) -> bool
+fn maybe(x: u64, sum: usize, p: Pairs) -> bool
     requires { ⌜ Apart sum (p .a) (p .b) × Apart sum (p .c) (p .d) ⌝ }
     ensures { λ r. ⌜ (r ≡ false → leadZeros x + trailZeros x ≤ sum) ⌝ }
 {
@@ -103,7 +103,7 @@ pub fn maybe(x: u64, sum: usize, p: Pairs) -> bool
 }
 
 // Whether the zero bytes of x at both ends are more than `sum`. They are counted only where they may be.
-pub fn beats(x: u64, sum: usize, p: Pairs) -> bool
+pub(crate) fn beats(x: u64, sum: usize, p: Pairs) -> bool
     requires { ⌜ Apart sum (p .a) (p .b) × Apart sum (p .c) (p .d) ⌝ }
     ensures { λ r. ⌜ (r ≡ false → leadZeros x + trailZeros x ≤ sum) ⌝ }
 {

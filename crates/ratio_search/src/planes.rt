@@ -5,7 +5,7 @@ ghost use lib.ListN.{length, getD};
 ghost use Rattle.ratio_search.specs.Planes.{byteAt, Kept};
 
 // Byte j of v, byte 0 the lowest.
-pub fn byte_of(v: u64, j: usize) -> u8
+pub(crate) fn byte_of(v: u64, j: usize) -> u8
     requires { ⌜ j < 8 ⌝ }
     ensures { λ r. ⌜ r ≡ byteAt v j ⌝ }
 {
@@ -13,7 +13,7 @@ pub fn byte_of(v: u64, j: usize) -> u8
 }
 
 // The bytes of v go into slot i % 128; all other slots stay.
-pub fn put_planes(planes: &mut [u8; 1024], i: usize, v: u64)
+fn put_planes(planes: &mut [u8; 1024], i: usize, v: u64)
     requires { ⌜ length (now planes) ≡ 1024 ⌝ }
     ensures { λ _. ⌜ (length (now (planes .exit)) ≡ 1024)
         × ((j : ℕ) → j < 8 → getD (now (planes .exit)) (j * 128 + i % 128) 0 ≡ byteAt v j)
@@ -40,7 +40,7 @@ pub fn fill_planes(planes: &mut [u8; 1024], ratios: &[u64], done: usize, to: usi
 }
 
 // The first index whose bytes are still to be put.
-pub fn first_slot(done: usize, to: usize) -> usize
+fn first_slot(done: usize, to: usize) -> usize
     requires { ⌜ done ≤ to ⌝ }
     ensures { λ r. ⌜ (done ≤ r) × (r ≤ to) × (to - 128 ≤ r) × (done < r → r ≡ to - 128) ⌝ }
 {

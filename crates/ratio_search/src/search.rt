@@ -19,7 +19,7 @@ use ratio_codec::search::trail_zeros;
 const WINDOW: usize = 127;
 
 // The end of the newest block before `high` that has a suspect, or `from`.
-pub fn pass_blocks(
+fn pass_blocks(
     planes: &[u8; 1024],
     ratios: &[u64],
     from: usize,
@@ -43,7 +43,7 @@ pub fn pass_blocks(
 }
 
 // The end of the newest ratio from `low` up to `high` that has a larger sum, or `low`.
-pub fn pass_ratios(ratios: &[u64], low: usize, high: usize, v: u64, sum: usize, p: Pairs) -> usize
+fn pass_ratios(ratios: &[u64], low: usize, high: usize, v: u64, sum: usize, p: Pairs) -> usize
     requires { ⌜ (low ≤ high) × (high ≤ length (now ratios)) × Apart sum (p .a) (p .b) × Apart sum (p .c) (p .d) ⌝ }
     ensures { λ r. ⌜ (low ≤ r) × (r ≤ high) × Passed v (now (ratios .entry)) sum r high ⌝ }
 {
@@ -58,14 +58,14 @@ pub fn pass_ratios(ratios: &[u64], low: usize, high: usize, v: u64, sum: usize, 
 }
 
 // The larger of two indices.
-pub fn later(a: usize, b: usize) -> usize
+fn later(a: usize, b: usize) -> usize
     ensures { λ r. ⌜ r ≡ max a b ⌝ }
 {
     if a < b { b } else { a }
 }
 
 // The end of the newest ratio from `from` up to `high` that is still to be counted, or `from`.
-pub fn pass(
+fn pass(
     planes: &[u8; 1024],
     ratios: &[u64],
     from: usize,

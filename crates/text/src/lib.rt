@@ -10,7 +10,7 @@ ghost use Rattle.text.specs.Numbers.{decimal, hex16, signed};
 ghost use Rattle.text.specs.Put.{Put};
 
 // A text as it stands.
-pub fn put_text(out: &mut [u8], at: usize, text: &[u8]) -> usize
+fn put_text(out: &mut [u8], at: usize, text: &[u8]) -> usize
     requires { ⌜ at + length (now text) ≤ length (now out) ⌝ }
     ensures { λ r. ⌜ Put (length (now (text .entry))) (now (text .entry)) at r (now (out .entry)) (now (out .exit)) ⌝ }
 {
@@ -23,7 +23,7 @@ pub fn put_text(out: &mut [u8], at: usize, text: &[u8]) -> usize
 }
 
 // A number in base 10.
-pub fn put_decimal(out: &mut [u8], at: usize, n: u64) -> usize
+fn put_decimal(out: &mut [u8], at: usize, n: u64) -> usize
     requires { ⌜ at + 20 ≤ length (now out) ⌝ }
     ensures { λ r. ⌜ Put 20 (decimal n) at r (now (out .entry)) (now (out .exit)) ⌝ }
 {
@@ -33,7 +33,7 @@ pub fn put_decimal(out: &mut [u8], at: usize, n: u64) -> usize
 }
 
 // 64 bits as 16 hex digits.
-pub fn put_hex(out: &mut [u8], at: usize, v: u64) -> usize
+fn put_hex(out: &mut [u8], at: usize, v: u64) -> usize
     requires { ⌜ at + 16 ≤ length (now out) ⌝ }
     ensures { λ r. ⌜ Put 16 (hex16 v) at r (now (out .entry)) (now (out .exit)) ⌝ }
 {
@@ -53,7 +53,7 @@ fn magnitude(z: i64) -> u64
 }
 
 // A signed number in base 10.
-pub fn put_signed(out: &mut [u8], at: usize, z: i64) -> usize
+fn put_signed(out: &mut [u8], at: usize, z: i64) -> usize
     requires { ⌜ at + 21 ≤ length (now out) ⌝ }
     ensures { λ r. ⌜ Put 21 (signed z) at r (now (out .entry)) (now (out .exit)) ⌝ }
 {
@@ -76,7 +76,7 @@ fn put_named(out: &mut [u8], at: usize, word: &[u8], n: u64) -> usize
 }
 
 // The line of the rate.
-pub fn put_rate(out: &mut [u8], at: usize, rate: u32) -> usize
+fn put_rate(out: &mut [u8], at: usize, rate: u32) -> usize
     requires { ⌜ at + 26 ≤ length (now out) ⌝ }
     ensures { λ r. ⌜ Put 26 (rateLine rate) at r (now (out .entry)) (now (out .exit)) ⌝ }
 {
@@ -84,7 +84,7 @@ pub fn put_rate(out: &mut [u8], at: usize, rate: u32) -> usize
 }
 
 // The line of the count.
-pub fn put_count(out: &mut [u8], at: usize, count: u64) -> usize
+fn put_count(out: &mut [u8], at: usize, count: u64) -> usize
     requires { ⌜ at + 27 ≤ length (now out) ⌝ }
     ensures { λ r. ⌜ Put 27 (countLine count) at r (now (out .entry)) (now (out .exit)) ⌝ }
 {
@@ -92,7 +92,7 @@ pub fn put_count(out: &mut [u8], at: usize, count: u64) -> usize
 }
 
 // The line of the span.
-pub fn put_span(out: &mut [u8], at: usize, span: i64) -> usize
+fn put_span(out: &mut [u8], at: usize, span: i64) -> usize
     requires { ⌜ at + 27 ≤ length (now out) ⌝ }
     ensures { λ r. ⌜ Put 27 (spanLine span) at r (now (out .entry)) (now (out .exit)) ⌝ }
 {
@@ -102,7 +102,7 @@ pub fn put_span(out: &mut [u8], at: usize, span: i64) -> usize
 }
 
 // The line of a point.
-pub fn put_point(out: &mut [u8], at: usize, position: u64, ratio: u64) -> usize
+fn put_point(out: &mut [u8], at: usize, position: u64, ratio: u64) -> usize
     requires { ⌜ at + 38 ≤ length (now out) ⌝ }
     ensures { λ r. ⌜ Put 38 (pointLine position ratio) at r (now (out .entry)) (now (out .exit)) ⌝ }
 {
@@ -123,7 +123,7 @@ pub fn put_refused(out: &mut [u8], at: usize, number: u32, place: u32) -> usize
 }
 
 // The lines of the points.
-pub fn put_points(out: &mut [u8], at: usize, positions: &[u64], ratios: &[u64]) -> usize
+fn put_points(out: &mut [u8], at: usize, positions: &[u64], ratios: &[u64]) -> usize
     requires { ⌜ (length (now positions) ≡ length (now ratios)) × (at + 38 * length (now positions) ≤ length (now out)) ⌝ }
     ensures { λ r. ⌜ Put (38 * length (now (positions .entry))) (pointLines (now (positions .entry)) (now (ratios .entry))) at r (now (out .entry)) (now (out .exit)) ⌝ }
 {

@@ -1,4 +1,4 @@
-// One ratio read by the open rule where no form can run out of bytes: one test of room, and the middle by one load.
+// One ratio of a list read by the open rule: where the longest form fits, by one test of room and one load for the middle of an xor form.
 ghost use mathlib.Core.Path.{_≡_};
 ghost use Prim.Native.Nat.{_+_, _≤_};
 ghost use lib.ListN.{length, take, drop};

@@ -65,7 +65,7 @@ extern "C" {
 #define FARIGOLENC_POINTS 4096
 #define FARIGOLENC_WINDOW 127
 #define FARIGOLENC_RECORD 55321
-#define FARIGOLENC_FORM 9
+#define FARIGOLENC_RATIO_FORM 9
 
 /* Writes the record of a run. Tests 1 to 6 in order. */
 typedef struct {

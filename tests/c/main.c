@@ -126,7 +126,7 @@ static void check_run(void)
 {
     static uint64_t positions[POINTS], ratios[POINTS];
     static uint64_t read_positions[ROOM], read_ratios[ROOM];
-    static uint8_t record[FARIGOLENC_RECORD], joined[POINTS * FARIGOLENC_FORM];
+    static uint8_t record[FARIGOLENC_RECORD], joined[POINTS * FARIGOLENC_RATIO_FORM];
     farigolenc_write_answer written;
     farigolenc_live live;
     farigolenc_cursor_answer making;

@@ -2,16 +2,15 @@
 use mathlib.Core.Path.{_≡_, refl, sym, ap, ap₂, _∙_}
 use mathlib.Core.List.{List, [], _∷_, _++_}
 use Prim.Native.Nat.{ℕ, zero, suc, _+_, _*_, _/_, _%_, _^_, _<_}
-use native.Mathlib.Nat.{zero-add, suc-add, add-zero, add-assoc, add-mul, one-mul, mul-one, mul-assoc, mul-comm, mul-suc, pow-zero, pow-suc, pow-succ', one-le-pow, mod-one, mod-eq-of-lt}
+use native.Mathlib.Nat.{zero-add, suc-add, add-zero, add-assoc, add-mul, one-mul, mul-one, mul-assoc, mul-comm, mul-suc, pow-zero, pow-suc, pow-succ', one-le-pow, mod-one, mod-lt, mod-eq-of-lt}
 use native.Mathlib.Nat.{zero-div, zero-mod, div-div-eq-div-mul, div-add-mod', mul-add-div-right, mul-add-mod-self-right}
 use native.Mathlib.Omega.{arith}
 use lib.Arith.{digits-div, mod-mul, digits-lt as join-lt}
 use lib.Pow.{pow-add}
-use lib.ListN.{length, getD, take, drop, replicate, length-append}
+use lib.ListN.{length, take, drop, replicate, length-append}
 use lib.Seq.{take-at, drop-at}
-use Rattle.bits.specs.Below.{Below}
+use Rattle.lists.specs.Below.{Below}
 use Rattle.bits.specs.Digits.{digitsOf, numberOf}
-use Rattle.bits.proofs.Below.{below-at, below-digits}
 
 -- powers of the base
 
@@ -36,8 +35,11 @@ unfolding digitsOf
 length-digits b zero n = refl
 length-digits b (suc k) n = ap suc (length-digits b k n)
 
-pub digits-lt : {b : ℕ} → zero < b → (k n i : ℕ) → getD (digitsOf b k n) i 0 < b
-digits-lt {b} b⁺ k n i = below-at b b⁺ (digitsOf b k n) (below-digits b b⁺ k n) i
+-- each is below the base
+pub below-digits : (b : ℕ) → zero < b → (k n : ℕ) → Below b (digitsOf b k n)
+unfolding Below digitsOf
+below-digits b b⁺ zero n = tt
+below-digits b b⁺ (suc k) n = (mod-lt (n / b ^ k) b⁺, below-digits b b⁺ k n)
 
 pub digits-zero : (b k : ℕ) → digitsOf b k 0 ≡ replicate k 0
 unfolding digitsOf

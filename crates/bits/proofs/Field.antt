@@ -7,10 +7,10 @@ use native.Mathlib.Omega.{arith}
 use lib.Pow.{pow-pos}
 use lib.ListN.{length, take, drop, length-drop, take-append-drop}
 use lib.Seq.{length-take-le, take-at, drop-at, drop-append-add}
-use Rattle.bits.specs.Below.{Below}
+use Rattle.lists.specs.Below.{Below}
 use Rattle.bits.specs.Digits.{bitsOf, numberOf}
 use Rattle.bits.specs.Packing.{bits}
-use Rattle.bits.proofs.Below.{below-take, below-drop}
+use Rattle.lists.proofs.Below.{below-take, below-drop}
 use Rattle.bits.proofs.Digits.{two⁺, length-digits, digits-append, number-digits, digits-number}
 use Rattle.bits.proofs.Packing.{bits-append, length-bits, bits-bytes}
 use Rattle.bits.proofs.Word.{mask}

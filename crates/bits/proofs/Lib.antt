@@ -1,11 +1,6 @@
-pub mod Below
 pub mod Digits
 pub mod Packing
-pub mod Compare
-pub mod Splice
-pub mod Clear
 pub mod Write
 pub mod Read
 pub mod Word
 pub mod Field
-pub mod Parts

@@ -6,11 +6,11 @@ use native.Mathlib.Nat.{add-comm, mul-suc, mod-eq-of-lt}
 use native.Mathlib.Omega.{arith}
 use lib.ListN.{length, take, drop, replicate, length-append, length-drop, length-replicate, take-append-drop}
 use lib.Seq.{length-take-le, take-at, drop-at}
-use Rattle.bits.specs.Below.{Below}
+use Rattle.lists.specs.Below.{Below}
 use Rattle.bits.specs.Digits.{digitsOf, bitsOf, bytesOf, numberOf}
 use Rattle.bits.specs.Packing.{bits, eights, fillOf, pack}
-use Rattle.bits.proofs.Below.{below-append, below-take, below-drop, below-replicate, below-digits}
-use Rattle.bits.proofs.Digits.{two⁺, pow-bytes, length-digits, digits-append, digits-mod, number-lt, number-digits, digits-number}
+use Rattle.lists.proofs.Below.{below-append, below-take, below-drop, below-replicate}
+use Rattle.bits.proofs.Digits.{below-digits, two⁺, pow-bytes, length-digits, digits-append, digits-mod, number-lt, number-digits, digits-number}
 
 -- the bits of bytes
 

@@ -9,8 +9,8 @@ use lib.Arith.{digits-lt as join-lt, digits-div}
 use lib.ListN.{length, take, drop, getD, length-drop}
 use lib.Seq.{take-suc, take-add, length-take-le, getD-drop}
 use Rattle.bits.specs.Digits.{numberOf}
-use Rattle.bits.specs.Below.{Below}
-use Rattle.bits.proofs.Below.{below-take, below-drop}
+use Rattle.lists.specs.Below.{Below}
+use Rattle.lists.proofs.Below.{below-take, below-drop}
 use Rattle.bits.proofs.Digits.{pow-bytes, number-append, number-snoc, number-lt}
 
 -- one byte more

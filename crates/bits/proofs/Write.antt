@@ -8,7 +8,7 @@ use native.Mathlib.Omega.{arith}
 use lib.ListN.{length, take, drop, set, length-set, take-append-drop}
 use lib.Seq.{take-suc, length-take-le, set-at}
 use Rattle.bits.specs.Digits.{digitsOf, bytesOf}
-use Rattle.bits.specs.Splice.{splice}
+use Rattle.outputs.specs.Outputs.{overAt}
 
 -- the list o after the last n - i of the n bytes of x at `at` are written
 abbrev pub written : List ℕ → ℕ → ℕ → ℕ → ℕ → List ℕ
@@ -45,5 +45,5 @@ write-again o p at n x (suc i) y i⁺ i≤ room len ey ep =
     (omega arith, simp length-set (ap length (sym ep) ∙ len), shift-step o at n x i i≤ room, write-step o at n x i i≤ room)
 
 -- after the last turn
-pub write-done : (o : List ℕ) (at n x : ℕ) → written o at n x 0 ≡ splice o at n (bytesOf n x)
+pub write-done : (o : List ℕ) (at n x : ℕ) → written o at n x 0 ≡ overAt o at n (bytesOf n x)
 write-done o at n x = rw (add-zero, sub-zero)

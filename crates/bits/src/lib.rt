@@ -5,7 +5,7 @@ ghost use Prim.Native.Nat.{_+_, _*_, _^_, _≤_, _<_};
 ghost use lib.ListN.{length, take, drop, replicate};
 ghost use Rattle.bits.specs.Digits.{bytesOf, numberOf};
 ghost use Rattle.bits.specs.Packing.{bits};
-ghost use Rattle.bits.specs.Splice.{splice};
+ghost use Rattle.outputs.specs.Outputs.{overAt};
 
 // A byte as a wider number.
 fn wide(x: u8) -> u64
@@ -17,7 +17,7 @@ fn wide(x: u8) -> u64
 // The low n bytes of x are written at `at`; all other bytes stay.
 pub fn put_bytes(out: &mut [u8], at: usize, n: usize, x: u64)
     requires { ⌜ at + n ≤ length (now out) ⌝ }
-    ensures { λ _. ⌜ now (out .exit) ≡ splice (now (out .entry)) at n (bytesOf n x) ⌝ }
+    ensures { λ _. ⌜ now (out .exit) ≡ overAt (now (out .entry)) at n (bytesOf n x) ⌝ }
 {
     let mut i = n;
     let mut y = x;
@@ -64,26 +64,4 @@ pub fn get_bits(s: &[u8], at: usize, k: usize) -> u64
     let pad = 8 * e - (r + k);
     let x = get_bytes(s, b, e);
     (x >> pad) % (1 << k)
-}
-
-// Every byte becomes 0.
-pub fn clear_bytes(out: &mut [u8])
-    ensures { λ _. ⌜ now (out .exit) ≡ replicate (length (now (out .entry))) 0 ⌝ }
-{
-    let mut i = 0;
-    while i < out.len() {
-        out[i] = 0;
-        i += 1;
-    }
-}
-
-// Every number becomes 0.
-pub fn clear_numbers(out: &mut [u64])
-    ensures { λ _. ⌜ now (out .exit) ≡ replicate (length (now (out .entry))) 0 ⌝ }
-{
-    let mut i = 0;
-    while i < out.len() {
-        out[i] = 0;
-        i += 1;
-    }
 }

@@ -7,11 +7,11 @@ use Rattle.kind.specs.declared.Kind.the-variants.{Number, Infinity, Nan}
 use Rattle.farigolenc.specs.declared.KindAnswer.{KindAnswer}
 
 -- 0 as a float
-abbrev pub zero : Float
-zero = ofBits binary64 0
+abbrev pub positiveZero : Float
+positiveZero = ofBits binary64 0
 
 -- the numbers of each case
 abbrev pub kindNumbers : Kind → KindAnswer
 kindNumbers (Number v) = record { kind = 0; negative = 0; value = v; bits = 0 }
-kindNumbers (Infinity s) = record { kind = 1; negative = cond s 1 0; value = zero; bits = 0 }
-kindNumbers (Nan n) = record { kind = 2; negative = 0; value = zero; bits = n }
+kindNumbers (Infinity s) = record { kind = 1; negative = cond s 1 0; value = positiveZero; bits = 0 }
+kindNumbers (Nan n) = record { kind = 2; negative = 0; value = positiveZero; bits = n }

@@ -6,8 +6,8 @@ use native.Mathlib.Omega.{arith}
 use borrow.Author.Tests.{ne-eqb}
 use lib.ListN.{length, take, drop, length-replicate}
 use lib.Seq.{take-at}
-use Rattle.bounds.specs.Points.{maxPoints}
-use Rattle.bounds.specs.Tests.{over}
+use Rattle.limits.specs.Points.{maxPoints}
+use Rattle.outputs.specs.Outputs.{over}
 use Rattle.record_format.specs.Claims.{Accepted, ownAnswer}
 use Rattle.record_format.specs.Reading.{readStrict}
 use Rattle.record_format.specs.Runs.{Run}

@@ -7,7 +7,7 @@ use borrow.Author.Tests.{eq-eqb, ne-eqb}
 use lib.IntN.{ℤ}
 use lib.ListN.{length, take, length-append}
 use lib.Seq.{length-take-le}
-use Rattle.bits.specs.Below.{Below}
+use Rattle.lists.specs.Below.{Below}
 use Rattle.record_format.specs.Claims.{ownAnswer}
 use Rattle.record_format.specs.Reading.{Answer, readStrict}
 use Rattle.record_format.specs.Runs.{Run}

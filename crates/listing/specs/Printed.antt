@@ -8,7 +8,7 @@ use mathlib.Core.List.{List}
 use Prim.Native.Nat.{ℕ}
 use lib.Dec.{eqb}
 use lib.ListN.{take, replicate}
-use Rattle.bounds.specs.Points.{maxPoints}
+use Rattle.limits.specs.Points.{maxPoints}
 use Rattle.record_format.specs.Reading.{Answer, readStrict}
 use Rattle.span.specs.Spans.{spanned}
 use Rattle.text.specs.Lines.{refusedLine, listing}

@@ -3,7 +3,7 @@ ghost use mathlib.Core.Path.{_≡_};
 ghost use Prim.Native.Nat.{_≤_};
 ghost use lib.ListN.{length};
 ghost use Rattle.listing.specs.Printed.{room, printed};
-ghost use Rattle.text.specs.Put.{Put};
+ghost use Rattle.text.specs.PlacedAt.{PlacedAt};
 use libc::STDIN_FILENO;
 use libc::STDOUT_FILENO;
 
@@ -31,7 +31,7 @@ fn numbers_room() -> [u64; 4096]
 // Puts the text for an input into an output, and returns its length.
 fn print(input: &[u8], out: &mut [u8]) -> usize
     requires { ⌜ 155728 ≤ length (now out) ⌝ }
-    ensures { λ r. ⌜ Put 155728 (printed (now (input .entry))) 0 r (now (out .entry)) (now (out .exit)) ⌝ }
+    ensures { λ r. ⌜ PlacedAt 155728 (printed (now (input .entry))) 0 r (now (out .entry)) (now (out .exit)) ⌝ }
 {
     let mut positions = numbers_room();
     let mut ratios = numbers_room();

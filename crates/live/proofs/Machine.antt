@@ -7,12 +7,12 @@ use denote.Laws.{Is}
 use denote.Ref.{RefT}
 use denote.Slice.{sliceVal}
 use denote.Struct.Laws as LL
-use Rattle.bounds.specs.declared.Refusal.{Refusal}
+use Rattle.refusals.specs.declared.Refusal.{Refusal}
 use Rattle.ratio_format.specs.declared.Window.{Window}
 use Rattle.ratio_format.specs.declared.Cursor.{Cursor}
 use Rattle.ratio_format.specs.declared.StepAnswer.{StepAnswer}
-use Rattle.bounds.proofs.Refusal as TF
-use Rattle.bounds.proofs.Refusal.Laws as TF′
+use Rattle.refusals.proofs.Refusal as TF
+use Rattle.refusals.proofs.Refusal.Laws as TF′
 use Rattle.ratio_format.proofs.Window as TW
 use Rattle.ratio_format.proofs.Window.Laws as TW′
 use Rattle.ratio_format.proofs.Cursor as TC

@@ -5,10 +5,10 @@ ghost use Rattle.live.specs.Readers.{cursorOf, nextAnswer, nextReader, f
 use super::stepping::begin;
 use super::stepping::kept_body;
 use super::stepping::step_at;
-use bounds::Refusal;
 use ratio_format::Cursor;
 use ratio_format::StepAnswer;
 use ratio_format::Window;
+use refusals::Refusal;
 
 // The coded ratios, the offset of the next form, the count, the number of ratios given and the window.
 pub struct Reader<'a> {

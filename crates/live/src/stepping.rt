@@ -6,14 +6,14 @@ ghost use Rattle.ratio_format.specs.Windows.{windowSize};
 ghost use Rattle.ratio_format.specs.Stepping.{made, madeBody, madeCursor, badCursor, stepAnswer, stepCursor};
 ghost use Rattle.live.specs.States.{stateOf, stepFound};
 use super::adding::bad_window;
-use bounds::MAX_POINTS;
-use bounds::Refusal;
+use limits::MAX_POINTS;
 use ratio_codec::read_strict;
 use ratio_format::Cursor;
 use ratio_format::Read;
 use ratio_format::StepAnswer;
 use ratio_format::Window;
 use ratio_format::push_cells;
+use refusals::Refusal;
 
 // What making a reader answers, and the state that the reader starts with.
 #[repr(C)]

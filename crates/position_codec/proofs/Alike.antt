@@ -7,8 +7,8 @@ use native.Mathlib.Omega.{arith}
 use lib.IntN.{ℤ}
 use lib.ListN.{length, take, length-append}
 use lib.Seq.{take-at, take-all, take-take}
-use Rattle.bits.specs.Compare.{begins}
-use Rattle.bits.proofs.Compare.{begins-rest}
+use Rattle.lists.specs.Compare.{begins}
+use Rattle.lists.proofs.Compare.{begins-rest}
 use Rattle.position_format.specs.Rows.{rows, inTable, code}
 use Rattle.position_format.proofs.Codes.{code-length}
 use Rattle.position_format.proofs.Lists.{not-so}

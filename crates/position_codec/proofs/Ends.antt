@@ -7,10 +7,10 @@ use native.Mathlib.Omega.{arith}
 use borrow.Author.Tests.{eqb-true, eqb-false}
 use lib.Dec.{eqb}
 use lib.ListN.{length, drop, replicate}
-use Rattle.bits.specs.Compare.{same}
+use Rattle.lists.specs.Compare.{same}
 use Rattle.bits.specs.Digits.{numberOf}
 use Rattle.bits.specs.Packing.{bits, fillOf}
-use Rattle.bits.proofs.Compare.{same-own, same-not}
+use Rattle.lists.proofs.Compare.{same-own, same-not}
 use Rattle.position_format.proofs.Fill.{fill-on, fill-length, fill-zero}
 
 module _ (body : List ℕ) (at : ℕ) (inside : at ≤ 8 * length body) where

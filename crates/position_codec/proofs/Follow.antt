@@ -10,12 +10,12 @@ use lib.Signed.{leZ}
 use mir.Syntax.{w64}
 use mir.Val.{toZ, ofZ, SFits}
 use mir.ValLaws.{toZ-ofZ, toZ-pos}
-use Rattle.bits.specs.Compare.{both}
-use Rattle.bits.proofs.Compare.{both-true}
-use Rattle.bounds.specs.Points.{maxPosition}
+use Rattle.lists.specs.Compare.{both}
+use Rattle.lists.proofs.Compare.{both-true}
+use Rattle.limits.specs.Points.{maxPosition}
 use Rattle.position_format.specs.Rows.{neg}
 use Rattle.position_format.specs.Steps.{stepOf}
-use Rattle.bounds.proofs.Integers.{diff-pos, diff-neg}
+use Rattle.integers.proofs.Integers.{diff-pos, diff-neg}
 use Rattle.position_format.proofs.Integers.{neg-holds, neg-le-pos, neg-le-neg, step-of, of-step}
 use Rattle.position_codec.proofs.Differences.{abs-add, abs-fits, diff-abs, diff-back}
 

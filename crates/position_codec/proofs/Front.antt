@@ -11,13 +11,12 @@ use lib.IntN.{ℤ, pos}
 use lib.ListN.{length, getD, take, drop}
 use lib.Pow.{pow-pos, shr-shr}
 use lib.Seq.{length-take-le}
-use Rattle.bits.specs.Below.{Below}
-use Rattle.bits.specs.Compare.{both, begins}
+use Rattle.lists.specs.Below.{Below}
+use Rattle.lists.specs.Compare.{both, begins}
 use Rattle.bits.specs.Digits.{bitsOf, numberOf}
-use Rattle.bits.proofs.Below.{below-digits}
-use Rattle.bits.proofs.Compare.{both-true, begins-rest}
-use Rattle.bits.proofs.Digits.{two⁺, length-digits}
-use Rattle.bounds.specs.Lists.{firstIndex}
+use Rattle.bits.proofs.Digits.{below-digits, two⁺, length-digits}
+use Rattle.lists.proofs.Compare.{both-true, begins-rest}
+use Rattle.lists.specs.Lists.{firstIndex}
 use Rattle.position_format.specs.Rows.{rows, holds, inTable, code, reading, noRow, rowOf}
 use Rattle.position_format.proofs.Lists.{not-so}
 use Rattle.position_format.proofs.Rows.{rows-good}

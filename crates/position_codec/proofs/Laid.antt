@@ -5,14 +5,14 @@ use Prim.Native.Nat.{ℕ, _+_, _*_, _≤_}
 use native.Mathlib.Omega.{arith}
 use lib.ListN.{length, take, drop, replicate, length-append, length-drop, length-replicate, take-append-drop}
 use lib.Seq.{take-at, drop-at, drop-drop, length-take-le}
-use Rattle.bits.specs.Below.{Below}
+use Rattle.lists.specs.Below.{Below}
 use Rattle.bits.specs.Digits.{bitsOf, bytesOf, numberOf}
 use Rattle.bits.specs.Packing.{bits, fillOf, pack}
-use Rattle.bits.specs.Splice.{splice}
-use Rattle.bits.proofs.Below.{below-append, below-take, below-drop}
+use Rattle.outputs.specs.Outputs.{overAt}
+use Rattle.lists.proofs.Below.{below-append, below-take, below-drop}
 use Rattle.bits.proofs.Digits.{digits-number}
 use Rattle.bits.proofs.Packing.{bits-append, length-bits, bits-bytes, length-pack, below-pack, bits-pack, pack-bits}
-use Rattle.bounds.specs.Tests.{over}
+use Rattle.outputs.specs.Outputs.{over}
 
 -- ---- the bits of a part of a list of bytes
 
@@ -39,7 +39,7 @@ eight-bits xs k x bytes room ex =
     ∙ bits-bytes 8 x
 
 -- a number's n bytes written at `at`
-pub bytes-laid : (o : List ℕ) (at n x : ℕ) → at + n ≤ length o → bits (splice o at n (bytesOf n x)) ≡ splice (bits o) (8 * at) (8 * n) (bitsOf (8 * n) x)
+pub bytes-laid : (o : List ℕ) (at n x : ℕ) → at + n ≤ length o → bits (overAt o at n (bytesOf n x)) ≡ overAt (bits o) (8 * at) (8 * n) (bitsOf (8 * n) x)
 bytes-laid o at n x room =
     let e : 8 * (at + n) ≡ 8 * at + 8 * n = omega arith in
     bits-append (take at o) (bytesOf n x ++ drop (at + n) o)
@@ -50,7 +50,7 @@ bytes-laid o at n x room =
 -- ---- bits from the front on
 
 -- ds at the front of x, and then es after them
-pub over-more : (x y z ds es : List ℕ) → y ≡ over ds x → z ≡ splice y (length ds) (length es) es → z ≡ over (ds ++ es) x
+pub over-more : (x y z ds es : List ℕ) → y ≡ over ds x → z ≡ overAt y (length ds) (length es) es → z ≡ over (ds ++ es) x
 over-more x y z ds es ey ez =
     let first : take (length ds) y ≡ ds = ap (take (length ds)) ey ∙ take-at ds (drop (length ds) x) (length ds) refl in
     let rest : drop (length ds + length es) y ≡ drop (length (ds ++ es)) x =

@@ -7,7 +7,7 @@ use native.Mathlib.Omega.{arith}
 use lib.ListN.{length, take, drop, replicate, length-drop}
 use lib.Pow.{shl-shr}
 use lib.Seq.{drop-drop, take-at, length-take-le, take-all, take-nil}
-use Rattle.bits.specs.Below.{Below}
+use Rattle.lists.specs.Below.{Below}
 use Rattle.bits.specs.Digits.{bitsOf, numberOf}
 use Rattle.bits.specs.Packing.{bits}
 use Rattle.bits.proofs.Digits.{two⁺, digits-zero, digits-append, take-digits, drop-digits, digits-low, digits-mod, number-digits}

@@ -11,7 +11,7 @@ use lib.ListN.{length, getD, take, length-append}
 use lib.Seq.{take-all, take-length}
 use Rattle.bits.specs.Digits.{digitsOf, bitsOf}
 use Rattle.bits.proofs.Digits.{length-digits}
-use Rattle.bounds.proofs.Lists.{first-le, first-next, first-found}
+use Rattle.lists.proofs.Lists.{first-le, first-next, first-found}
 use Rattle.position_format.specs.Rows.{rows, inTable, code}
 use Rattle.position_format.specs.Steps.{stepOf, stepsFrom, steps, outside, firstOutside, stepHere}
 use Rattle.position_format.specs.Positions.{stepBits, positionBits, validPositions}

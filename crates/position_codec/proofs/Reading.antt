@@ -8,15 +8,15 @@ use native.Mathlib.Numerals.{add-one}
 use native.Mathlib.Omega.{arith}
 use lib.ListN.{length, getD, take, drop, set, replicate, length-append, length-take, length-set, take-append-drop, List·getD-append}
 use lib.Seq.{drop-at, drop-drop, take-all, take-add, take-suc, length-take-le, getD-take, getD-at, take-suc-set, drop-set-lt}
-use Rattle.bits.specs.Below.{Below}
-use Rattle.bits.specs.Compare.{same}
+use Rattle.lists.specs.Below.{Below}
+use Rattle.lists.specs.Compare.{same}
 use Rattle.bits.specs.Digits.{bitsOf}
 use Rattle.bits.specs.Packing.{bits, fillOf}
-use Rattle.bits.proofs.Compare.{begins-own, same-own, same-is}
+use Rattle.lists.proofs.Compare.{begins-own, same-own, same-is}
 use Rattle.bits.proofs.Digits.{length-digits}
 use Rattle.bits.proofs.Packing.{length-bits, pack-is}
-use Rattle.bounds.specs.Outputs.{Filled}
-use Rattle.bounds.specs.Points.{maxPosition}
+use Rattle.outputs.specs.Outputs.{Filled}
+use Rattle.limits.specs.Points.{maxPosition}
 use Rattle.position_format.specs.Rows.{rows, inTable, code}
 use Rattle.position_format.specs.Steps.{stepOf, stepsFrom}
 use Rattle.position_format.specs.Positions.{stepBits, positionBits, codedPositions, validPositions, readPositions}

@@ -10,15 +10,15 @@ use lib.Dec.{leb}
 use lib.ListN.{length, getD, take, drop, replicate, length-append, take-append-drop, drop-of-length-le}
 use lib.Pow.{pow-pos, shr-lt}
 use lib.Seq.{drop-at, take-at, take-all, length-take-le, take-append-le, drop-append-le}
-use Rattle.bits.specs.Below.{Below}
+use Rattle.lists.specs.Below.{Below}
 use Rattle.bits.specs.Digits.{digitsOf, bitsOf, bytesOf}
 use Rattle.bits.specs.Packing.{bits, fillOf, pack}
-use Rattle.bits.specs.Splice.{splice}
+use Rattle.outputs.specs.Outputs.{overAt}
 use Rattle.bits.proofs.Digits.{two⁺, length-digits, digits-zero, digits-append, digits-join, digits-mod}
 use Rattle.bits.proofs.Packing.{length-pack}
-use Rattle.bits.proofs.Splice.{length-splice}
+use Rattle.outputs.proofs.Outputs.{length-overAt}
 use Rattle.bits.proofs.Word.{mask, join-lt, join-fits, shl-is}
-use Rattle.bounds.specs.Tests.{over}
+use Rattle.outputs.specs.Outputs.{over}
 use Rattle.position_format.specs.Rows.{rows}
 use Rattle.position_format.specs.Steps.{stepsFrom}
 use Rattle.position_format.specs.Positions.{stepBits, positionBits}
@@ -30,15 +30,15 @@ use Rattle.position_codec.proofs.Laid.{bytes-laid, over-more, over-pack
 put-stored : (o p ds es : List ℕ) (at x : ℕ) → 8 * at ≤ length ds → take (8 * (at + 8)) es ≡ take (8 * at) ds ++ bitsOf 64 x → Stored o p ds at → Stored o (wordPut p at x) es (at + 8)
 put-stored o p ds es at x inside e s = go (leb (at + 8) (length p)) refl
   where
-    go : (t : Bool) → leb (at + 8) (length p) ≡ t → Stored o (cond t (splice p at 8 (bytesOf 8 x)) p) es (at + 8)
+    go : (t : Bool) → leb (at + 8) (length p) ≡ t → Stored o (cond t (overAt p at 8 (bytesOf 8 x)) p) es (at + 8)
     go true l =
         let room : at + 8 ≤ length p = leb-true (at + 8) (length p) l in
         let n : 8 * at ≡ length (take (8 * at) ds) = sym (length-take-le (8 * at) ds inside) in
         record {
-          same = length-splice p at 8 (bytesOf 8 x) (length-digits 256 8 x) room ∙ s .same;
+          same = length-overAt p at 8 (bytesOf 8 x) (length-digits 256 8 x) room ∙ s .same;
           front = λ r.
-              over-more (bits o) (bits p) (bits (splice p at 8 (bytesOf 8 x))) (take (8 * at) ds) (bitsOf 64 x) (s .front (omega arith))
-              (bytes-laid p at 8 x room ∙ ap₂ (λ (a m : ℕ). splice (bits p) a m (bitsOf 64 x)) n (sym (length-digits 2 64 x)))
+              over-more (bits o) (bits p) (bits (overAt p at 8 (bytesOf 8 x))) (take (8 * at) ds) (bitsOf 64 x) (s .front (omega arith))
+              (bytes-laid p at 8 x room ∙ ap₂ (λ (a m : ℕ). overAt (bits p) a m (bitsOf 64 x)) n (sym (length-digits 2 64 x)))
               ∙ ap (λ (d : List ℕ). over d (bits o)) (sym e);
         }
     go false l = record { same = s .same; front = λ r. absurd (omega (arith, leb-false (at + 8) (length p) l, s .same)) }
@@ -217,7 +217,7 @@ module _ (o p ds : List ℕ) (at held width : ℕ) (h : Held ds at held width) (
         ∙ ap (bitsOf (width + pad)) (shl-is width pad {l = 0} (h .fits) (pow-pos pad) (omega (arith, h .small)) ∙ none)
         ∙ digits-join two⁺ width pad held (pow-pos pad) ∙ ap (λ (d : List ℕ). bitsOf width held ++ d) (digits-zero 2 pad)
 
-    pub last-put : (q : List ℕ) → Below 256 q → q ≡ splice p at bytes (bytesOf bytes (held * 2 ^ pad % 2 ^ 64))
+    pub last-put : (q : List ℕ) → Below 256 q → q ≡ overAt p at bytes (bytesOf bytes (held * 2 ^ pad % 2 ^ 64))
         → (length (pack ds) ≤ length o) × (q ≡ over (pack ds) o)
     last-put q q< eq =
         let fits : length (pack ds) ≤ length o = omega (arith, last-size, s .same) in
@@ -225,10 +225,10 @@ module _ (o p ds : List ℕ) (at held width : ℕ) (h : Held ds at held width) (
         let E : List ℕ = bitsOf width held ++ replicate pad 0 in
         let fill : pad ≡ fillOf (length ds) = omega (arith, h .size) in
         let n : 8 * bytes ≡ length E = sym (length-digits 2 (8 * bytes) (held * 2 ^ pad % 2 ^ 64)) ∙ ap length last-bits in
-        let laid : bits q ≡ splice (bits p) (length F) (length E) E =
+        let laid : bits q ≡ overAt (bits p) (length F) (length E) E =
         ap bits eq ∙ bytes-laid p at bytes (held * 2 ^ pad % 2 ^ 64) room
-        ∙ ap (λ (d : List ℕ). splice (bits p) (8 * at) (8 * bytes) d) last-bits
-        ∙ ap₂ (λ (a m : ℕ). splice (bits p) a m E) (sym (length-front ds at held width h)) n in
+        ∙ ap (λ (d : List ℕ). overAt (bits p) (8 * at) (8 * bytes) d) last-bits
+        ∙ ap₂ (λ (a m : ℕ). overAt (bits p) a m E) (sym (length-front ds at held width h)) n in
         let whole : F ++ E ≡ ds ++ replicate (fillOf (length ds)) 0 =
         sym (append-assoc F (bitsOf width held) (replicate pad 0))
         ∙ ap₂ (λ (d : List ℕ) (m : ℕ). d ++ replicate m 0) (sym (parts ds at held width h)) fill in (

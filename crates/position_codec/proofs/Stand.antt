@@ -8,13 +8,13 @@ use borrow.Author.Tests.{lt-ltb, le-ltb, ltb-true, ltb-false}
 use lib.Dec.{ltb}
 use lib.IntN.{ℤ}
 use lib.ListN.{length, take, drop}
-use Rattle.bits.specs.Below.{Below}
-use Rattle.bits.specs.Compare.{begins}
+use Rattle.lists.specs.Below.{Below}
+use Rattle.lists.specs.Compare.{begins}
 use Rattle.bits.specs.Digits.{bitsOf, numberOf}
 use Rattle.bits.specs.Packing.{bits}
-use Rattle.bits.proofs.Compare.{begins-rest}
+use Rattle.lists.proofs.Compare.{begins-rest}
 use Rattle.bits.proofs.Digits.{two⁺, length-digits, number-digits-lt}
-use Rattle.bounds.specs.Points.{maxPosition}
+use Rattle.limits.specs.Points.{maxPosition}
 use Rattle.position_format.specs.Rows.{rows, inTable, code}
 use Rattle.position_format.specs.Steps.{stepOf}
 use Rattle.position_format.specs.Positions.{Taken, stepAt, after}

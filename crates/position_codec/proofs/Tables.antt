@@ -13,15 +13,15 @@ use lib.Pow.{pow-mono}
 use lib.Signed.{leZ}
 use mir.Syntax.{w64}
 use mir.Val.{toZ, ofZ}
-use Rattle.bits.specs.Compare.{both}
+use Rattle.lists.specs.Compare.{both}
 use Rattle.bits.specs.Digits.{digitsOf, bitsOf}
-use Rattle.bits.proofs.Compare.{both-true}
+use Rattle.lists.proofs.Compare.{both-true}
 use Rattle.bits.proofs.Digits.{two⁺, digits-join}
 use Rattle.bits.proofs.Word.{join-lt, join-fits, shl-is}
-use Rattle.bounds.proofs.Lists.{first-le, first-next, first-found, first-below}
+use Rattle.lists.proofs.Lists.{first-le, first-next, first-found, first-below}
 use Rattle.position_format.specs.Rows.{Row, rows, neg, holds, inTable, residue, codeIn, reading, noRow, rowOf}
 use Rattle.position_format.proofs.Lists.{not-so}
-use Rattle.bounds.proofs.Integers.{diff-pos, diff-neg}
+use Rattle.integers.proofs.Integers.{diff-pos, diff-neg}
 use Rattle.position_format.proofs.Integers.{neg-holds, neg-le-pos, neg-le-neg}
 use Rattle.position_format.proofs.Rows.{Full, full, full-is, rows-good, good-full, residue-lt, reading-held}
 use Rattle.position_format.proofs.Codes.{in-first, first-in, row-is, row-holds, code-lead}

@@ -10,8 +10,8 @@ use mathlib.Core.Path.{_≡_}
 use Prim.Native.Nat.{ℕ, _*_, _≤_}
 use lib.IntN.{ℤ}
 use lib.ListN.{length}
-use Rattle.bits.specs.Compare.{begins}
-use Rattle.bounds.specs.Points.{maxPosition}
+use Rattle.lists.specs.Compare.{begins}
+use Rattle.limits.specs.Points.{maxPosition}
 use Rattle.position_format.specs.Rows.{rows, inTable, code}
 use Rattle.position_format.specs.Steps.{stepOf}
 use Rattle.position_codec.specs.declared.read.GotStep.{GotStep}

@@ -10,8 +10,8 @@ use lib.Dec.{leb}
 use lib.ListN.{length, take, drop}
 use Rattle.bits.specs.Digits.{bitsOf, bytesOf}
 use Rattle.bits.specs.Packing.{bits}
-use Rattle.bits.specs.Splice.{splice}
-use Rattle.bounds.specs.Tests.{over}
+use Rattle.outputs.specs.Outputs.{overAt}
+use Rattle.outputs.specs.Outputs.{over}
 
 -- fewer than 64 bits are held
 pub record Held (ds : List ℕ) (at held width : ℕ) : Type 0 where
@@ -22,7 +22,7 @@ pub record Held (ds : List ℕ) (at held width : ℕ) : Type 0 where
 
 -- eight bytes, or nothing
 abbrev pub wordPut : List ℕ → ℕ → ℕ → List ℕ
-wordPut p at x = cond (leb (at + 8) (length p)) (splice p at 8 (bytesOf 8 x)) p
+wordPut p at x = cond (leb (at + 8) (length p)) (overAt p at 8 (bytesOf 8 x)) p
 
 -- whole bytes; without room nothing is said of the output
 pub record Stored (o p ds : List ℕ) (at : ℕ) : Type 0 where

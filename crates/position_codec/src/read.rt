@@ -4,17 +4,17 @@ ghost use mathlib.Core.List.{_++_};
 ghost use Prim.Native.Nat.{ℕ, _+_, _-_, _*_, _^_, _≤_, _<_};
 ghost use lib.IntN.{natAbs};
 ghost use lib.ListN.{length, getD, drop, replicate};
-ghost use Rattle.bits.specs.Compare.{same};
+ghost use Rattle.lists.specs.Compare.{same};
 ghost use Rattle.bits.specs.Digits.{bitsOf};
 ghost use Rattle.bits.specs.Packing.{bits, fillOf};
-ghost use Rattle.bounds.specs.Outputs.{Filled};
+ghost use Rattle.outputs.specs.Outputs.{Filled};
 ghost use Rattle.position_format.specs.Rows.{rows, holds, reading};
 ghost use Rattle.position_format.specs.Positions.{readPositions};
 ghost use Rattle.position_format.specs.Rows.{noRow};
 ghost use Rattle.position_codec.specs.Found.{Within, StepFound, PositionFound, PointFound};
 use crate::table::WIDTHS;
 use crate::table::within;
-use bounds::MAX_POSITION;
+use limits::MAX_POSITION;
 
 // The most bytes that the coding of 4,096 positions has.
 const MAX_BYTES: usize = 18439;

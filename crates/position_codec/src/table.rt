@@ -5,7 +5,7 @@ ghost use Prim.Native.Nat.{_^_, _≤_, _<_};
 ghost use lib.IntN.{natAbs};
 ghost use lib.ListN.{getD};
 ghost use lib.Signed.{leZ};
-ghost use Rattle.bits.specs.Compare.{both};
+ghost use Rattle.lists.specs.Compare.{both};
 ghost use Rattle.position_format.specs.Rows.{rows, holds, inTable, residue};
 ghost use Rattle.position_format.specs.Steps.{stepOf};
 ghost use Rattle.position_format.specs.Rows.{noRow, rowOf};

@@ -4,11 +4,11 @@ ghost use mathlib.Core.List.{List, _++_};
 ghost use mathlib.Core.Path.{_≡_};
 ghost use Prim.Native.Nat.{ℕ, _+_, _^_, _≤_, _<_};
 ghost use lib.ListN.{length, take};
-ghost use Rattle.bits.specs.Below.{Below};
+ghost use Rattle.lists.specs.Below.{Below};
 ghost use Rattle.bits.specs.Digits.{bitsOf};
 ghost use Rattle.bits.specs.Packing.{pack};
-ghost use Rattle.bounds.specs.Outputs.{Placed};
-ghost use Rattle.bounds.specs.Points.{firstHigh};
+ghost use Rattle.outputs.specs.Outputs.{Placed};
+ghost use Rattle.limits.specs.Points.{firstHigh};
 ghost use Rattle.position_format.specs.Rows.{rows};
 ghost use Rattle.position_format.specs.Steps.{firstOutside};
 ghost use Rattle.position_format.specs.Positions.{positionBits, codedPositions, validPositions};
@@ -18,7 +18,7 @@ ghost use Rattle.position_codec.specs.Sinks.{Held, wordPut, Stored};
 use crate::table::code_of;
 use crate::table::in_table;
 use crate::table::step;
-use bounds::Wrote;
+use outputs::Wrote;
 
 // The step at point i, from the third on.
 fn step_at(positions: &[u64], i: usize) -> i64

@@ -8,14 +8,14 @@ use borrow.Author.Tests.{leb-true}
 use lib.Dec.{leb}
 use lib.IntN.{ℤ}
 use lib.ListN.{length, getD, length-append}
-use Rattle.bits.specs.Below.{Below}
-use Rattle.bits.specs.Compare.{both}
+use Rattle.lists.specs.Below.{Below}
+use Rattle.lists.specs.Compare.{both}
 use Rattle.bits.specs.Digits.{bitsOf}
-use Rattle.bits.proofs.Below.{below-append, below-digits}
-use Rattle.bits.proofs.Compare.{both-true}
-use Rattle.bits.proofs.Digits.{two⁺, length-digits}
-use Rattle.bounds.specs.Lists.{firstIndex}
-use Rattle.bounds.proofs.Lists.{every, first-at, first-below}
+use Rattle.lists.proofs.Below.{below-append}
+use Rattle.bits.proofs.Digits.{below-digits, two⁺, length-digits}
+use Rattle.lists.proofs.Compare.{both-true}
+use Rattle.lists.specs.Lists.{firstIndex}
+use Rattle.lists.proofs.Lists.{every, first-at, first-below}
 use Rattle.position_format.specs.Rows.{Row, rows, holds, inTable, residue, codeIn, code, rowOf, noRow}
 use Rattle.position_format.proofs.Lists.{every-at}
 use Rattle.position_format.proofs.Rows.{goodTable, good-bits}

@@ -7,7 +7,7 @@ use native.Mathlib.Omega.{arith}
 use lib.ListN.{length, drop, replicate, length-drop, length-replicate}
 use Rattle.bits.specs.Digits.{bitsOf, numberOf}
 use Rattle.bits.specs.Packing.{bits, fillOf}
-use Rattle.bits.proofs.Below.{below-drop}
+use Rattle.lists.proofs.Below.{below-drop}
 use Rattle.bits.proofs.Digits.{two⁺, digits-zero, digits-number, number-digits}
 use Rattle.bits.proofs.Packing.{length-bits, below-bits}
 

@@ -5,8 +5,8 @@ use mathlib.Core.Path.{_≡_, refl}
 use Prim.Native.Nat.{ℕ, zero, suc, _<_}
 use native.Mathlib.Omega.{arith}
 use lib.ListN.{length, getD, take}
-use Rattle.bounds.specs.Lists.{firstIndex}
-use Rattle.bounds.proofs.Lists.{every, every-cons, first-below}
+use Rattle.lists.specs.Lists.{firstIndex}
+use Rattle.lists.proofs.Lists.{every, every-cons, first-below}
 
 -- a test that is not true is false
 pub not-so : (t : Bool) → (t ≡ true → ⊥) → t ≡ false

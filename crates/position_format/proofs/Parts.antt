@@ -10,7 +10,7 @@ use lib.IntN.{ℤ}
 use lib.ListN.{length, getD, take, drop, take-append-drop}
 use lib.Seq.{take-suc, getD-take, length-take-le}
 use Rattle.bits.specs.Digits.{bitsOf}
-use Rattle.bounds.specs.Points.{maxPosition, tooHigh}
+use Rattle.limits.specs.Points.{maxPosition, tooHigh}
 use Rattle.position_format.specs.Rows.{Row, inTable, code}
 use Rattle.position_format.specs.Steps.{stepOf, stepsFrom, steps, outside, stepHere}
 use Rattle.position_format.specs.Positions.{stepBits, positionBits, validPositions}

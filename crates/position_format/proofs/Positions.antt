@@ -8,15 +8,15 @@ use native.Mathlib.Omega.{arith}
 use borrow.Author.Tests.{not-false}
 use lib.IntN.{ℤ}
 use lib.ListN.{length, replicate}
-use Rattle.bits.specs.Below.{Below}
-use Rattle.bits.specs.Compare.{both, same}
+use Rattle.lists.specs.Below.{Below}
+use Rattle.lists.specs.Compare.{both, same}
 use Rattle.bits.specs.Digits.{bitsOf}
 use Rattle.bits.specs.Packing.{bits, fillOf}
-use Rattle.bits.proofs.Below.{below-append, below-digits}
-use Rattle.bits.proofs.Compare.{both-true, same-own, same-is}
-use Rattle.bits.proofs.Digits.{two⁺}
+use Rattle.lists.proofs.Below.{below-append}
+use Rattle.bits.proofs.Digits.{below-digits, two⁺}
+use Rattle.lists.proofs.Compare.{both-true, same-own, same-is}
 use Rattle.bits.proofs.Packing.{bits-pack}
-use Rattle.bounds.specs.Lists.{firstIndex}
+use Rattle.lists.specs.Lists.{firstIndex}
 use Rattle.position_format.specs.Rows.{Row, inTable, code}
 use Rattle.position_format.specs.Steps.{stepOf, stepsFrom, steps, outside}
 use Rattle.position_format.specs.Positions.{Taken, stepAt, after, stepBits, positionBits, codedPositions, validPositions, decodedSteps, decodedBits, decoded, readPositions}

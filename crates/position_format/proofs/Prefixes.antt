@@ -8,11 +8,11 @@ use borrow.Author.Tests.{eqb-true, eq-eqb}
 use lib.Dec.{eqb}
 use lib.ListN.{length, take, drop, length-append, take-append-drop}
 use lib.Seq.{take-at, length-take-le}
-use Rattle.bits.specs.Below.{Below}
-use Rattle.bits.specs.Compare.{both, begins}
+use Rattle.lists.specs.Below.{Below}
+use Rattle.lists.specs.Compare.{both, begins}
 use Rattle.bits.specs.Digits.{bitsOf, numberOf}
-use Rattle.bits.proofs.Below.{below-take}
-use Rattle.bits.proofs.Compare.{begins-own, begins-rest}
+use Rattle.lists.proofs.Below.{below-take}
+use Rattle.lists.proofs.Compare.{begins-own, begins-rest}
 use Rattle.bits.proofs.Digits.{digits-number}
 use Rattle.position_format.proofs.Lists.{not-so}
 use Rattle.position_format.proofs.Rows.{apart}

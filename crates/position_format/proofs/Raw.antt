@@ -5,13 +5,13 @@ use Prim.Native.Nat.{ℕ, _≤_, _<_}
 use native.Mathlib.Omega.{arith}
 use lib.ListN.{length, take, drop, replicate, length-append}
 use lib.Seq.{take-at, drop-at, drop-drop}
-use Rattle.bits.specs.Below.{Below}
+use Rattle.lists.specs.Below.{Below}
 use Rattle.bits.specs.Digits.{bitsOf, bytesOf, numberOf}
 use Rattle.bits.specs.Packing.{bits, eights, fillOf, pack}
-use Rattle.bits.proofs.Below.{below-append, below-digits}
-use Rattle.bits.proofs.Digits.{two⁺, length-digits, number-digits-lt}
+use Rattle.lists.proofs.Below.{below-append}
+use Rattle.bits.proofs.Digits.{below-digits, two⁺, length-digits, number-digits-lt}
 use Rattle.bits.proofs.Packing.{bits-append, bits-bytes, length-bits, bits-pack, below-pack, pack-is, pack-bits}
-use Rattle.bounds.specs.Points.{maxPosition}
+use Rattle.limits.specs.Points.{maxPosition}
 use Rattle.position_format.specs.Rows.{Row}
 use Rattle.position_format.specs.Steps.{stepsFrom}
 use Rattle.position_format.specs.Positions.{stepBits, positionBits, codedPositions}

@@ -11,12 +11,12 @@ use lib.IntN.{ℤ, pos, negsuc, natAbs, _-ℤ_}
 use lib.ListN.{length, getD}
 use lib.Pow.{pow-pos, pow-sub-lt}
 use lib.Signed.{leZ}
-use Rattle.bits.specs.Below.{Below}
-use Rattle.bits.specs.Compare.{both, begins}
-use Rattle.bits.proofs.Compare.{both-true}
-use Rattle.bounds.proofs.Lists.{every, every-cons}
+use Rattle.lists.specs.Below.{Below}
+use Rattle.lists.specs.Compare.{both, begins}
+use Rattle.lists.proofs.Compare.{both-true}
+use Rattle.lists.proofs.Lists.{every, every-cons}
 use Rattle.position_format.specs.Rows.{Row, rows, neg, holds, residue, reading}
-use Rattle.bounds.proofs.Integers.{diff-neg}
+use Rattle.integers.proofs.Integers.{diff-neg}
 use Rattle.position_format.proofs.Integers.{at-least, at-most, neg-holds, neg-le-pos, neg-le-neg}
 
 -- ---- the test

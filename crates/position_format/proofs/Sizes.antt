@@ -11,8 +11,8 @@ use lib.ListN.{length, length-append}
 use Rattle.bits.specs.Digits.{bitsOf, bytesOf}
 use Rattle.bits.proofs.Digits.{length-digits}
 use Rattle.bits.proofs.Packing.{length-pack}
-use Rattle.bounds.specs.Lists.{firstIndex}
-use Rattle.bounds.specs.Points.{maxPoints}
+use Rattle.lists.specs.Lists.{firstIndex}
+use Rattle.limits.specs.Points.{maxPoints}
 use Rattle.position_format.specs.Rows.{Row, rows, inTable, code}
 use Rattle.position_format.specs.Steps.{stepsFrom, steps, outside}
 use Rattle.position_format.specs.Positions.{stepBits, positionBits, codedPositions, validPositions}

@@ -7,11 +7,11 @@ use native.Mathlib.Omega.{arith}
 use lib.IntN.{ℤ}
 use lib.ListN.{length, getD, take, drop, length-append, length-drop}
 use lib.Seq.{take-at, drop-at, length-take-le, take-add}
-use Rattle.bits.specs.Below.{Below}
-use Rattle.bits.specs.Compare.{begins}
+use Rattle.lists.specs.Below.{Below}
+use Rattle.lists.specs.Compare.{begins}
 use Rattle.bits.specs.Digits.{bitsOf, numberOf}
-use Rattle.bits.proofs.Below.{below-take, below-drop}
-use Rattle.bits.proofs.Compare.{begins-own, begins-rest}
+use Rattle.lists.proofs.Below.{below-take, below-drop}
+use Rattle.lists.proofs.Compare.{begins-own, begins-rest}
 use Rattle.bits.proofs.Digits.{two⁺, length-digits, number-lt, number-digits-lt, digits-number}
 use Rattle.position_format.specs.Rows.{Row, holds, inTable, residue, reading, codeIn, code, noRow, rowOf}
 use Rattle.position_format.specs.Positions.{Taken, stepAt}

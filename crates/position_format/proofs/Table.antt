@@ -6,7 +6,7 @@ use mathlib.Core.Path.{_≡_}
 use Prim.Native.Nat.{ℕ}
 use lib.IntN.{ℤ}
 use lib.ListN.{length}
-use Rattle.bits.specs.Below.{Below}
+use Rattle.lists.specs.Below.{Below}
 use Rattle.position_format.specs.Rows.{rows, inTable, code}
 use Rattle.position_format.specs.Positions.{stepAt, codedPositions, validPositions, decoded, readPositions}
 use Rattle.position_format.proofs.Rows.{rows-good}

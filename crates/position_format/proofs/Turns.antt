@@ -8,13 +8,13 @@ use native.Mathlib.Omega.{arith}
 use lib.IntN.{ℤ}
 use lib.ListN.{length, getD, take, drop, replicate, length-append, length-take, take-append-drop}
 use lib.Seq.{take-at, drop-at, drop-drop, take-all, take-add, length-take-le}
-use Rattle.bits.specs.Below.{Below}
-use Rattle.bits.specs.Compare.{begins}
+use Rattle.lists.specs.Below.{Below}
+use Rattle.lists.specs.Compare.{begins}
 use Rattle.bits.specs.Digits.{bitsOf, bytesOf, numberOf}
 use Rattle.bits.specs.Packing.{bits, fillOf, pack}
-use Rattle.bits.proofs.Below.{below-drop}
+use Rattle.lists.proofs.Below.{below-drop}
 use Rattle.bits.proofs.Packing.{length-bits, below-bits, pack-is}
-use Rattle.bounds.specs.Points.{maxPosition}
+use Rattle.limits.specs.Points.{maxPosition}
 use Rattle.position_format.specs.Rows.{Row, inTable, reading, code, rowOf}
 use Rattle.position_format.specs.Steps.{stepsFrom, steps, stepHere}
 use Rattle.position_format.specs.Positions.{after, stepBits, positionBits, codedPositions, validPositions, readPositions}

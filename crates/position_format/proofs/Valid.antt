@@ -9,9 +9,9 @@ use lib.Dec.{eqb}
 use lib.IntN.{ℤ, pos}
 use lib.ListN.{length, getD, take}
 use lib.Seq.{take-nil}
-use Rattle.bits.proofs.Compare.{both-true}
-use Rattle.bounds.specs.Lists.{firstIndex}
-use Rattle.bounds.specs.Points.{maxPosition, tooHigh}
+use Rattle.lists.proofs.Compare.{both-true}
+use Rattle.lists.specs.Lists.{firstIndex}
+use Rattle.limits.specs.Points.{maxPosition, tooHigh}
 use Rattle.position_format.specs.Rows.{Row, inTable}
 use Rattle.position_format.specs.Steps.{stepOf, stepsFrom, steps, outside}
 use Rattle.position_format.specs.Positions.{validPositions}

@@ -19,11 +19,11 @@ use Prim.Native.Nat.{ℕ, zero, suc}
 use lib.Dec.{eqb}
 use lib.IntN.{ℤ, pos, negsuc, _+ℤ_, _-ℤ_}
 use lib.ListN.{length, take, drop}
-use Rattle.bits.specs.Compare.{both, begins, same}
+use Rattle.lists.specs.Compare.{both, begins, same}
 use Rattle.bits.specs.Digits.{bitsOf, numberOf}
 use Rattle.bits.specs.Packing.{bits, pack}
-use Rattle.bounds.specs.Lists.{firstIndex}
-use Rattle.bounds.specs.Points.{firstHigh}
+use Rattle.lists.specs.Lists.{firstIndex}
+use Rattle.limits.specs.Points.{firstHigh}
 use Rattle.position_format.specs.Rows.{Row, code, reading}
 use Rattle.position_format.specs.Steps.{steps, stepsFrom, outside}
 

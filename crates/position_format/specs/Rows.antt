@@ -16,9 +16,9 @@ use mathlib.Core.List.{List, [], _∷_, _++_}
 use Prim.Native.Nat.{ℕ, suc, _-_, _%_, _^_}
 use lib.IntN.{ℤ, pos, negsuc, negℤ, _-ℤ_}
 use lib.Signed.{leZ}
-use Rattle.bits.specs.Compare.{both}
+use Rattle.lists.specs.Compare.{both}
 use Rattle.bits.specs.Digits.{bitsOf}
-use Rattle.bounds.specs.Lists.{firstIndex}
+use Rattle.lists.specs.Lists.{firstIndex}
 
 -- a row of the table
 pub record Row : Type 0 where

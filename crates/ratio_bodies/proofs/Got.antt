@@ -10,11 +10,11 @@ use borrow.Author.Tests.{eqb-true, eqb-false}
 use lib.Dec.{eqb}
 use lib.ListN.{length, getD, take, drop, set, length-set, length-drop, take-append-drop}
 use lib.Seq.{length-take-le, take-suc-set, drop-set-lt, drop-drop}
-use Rattle.bits.proofs.Below.{below-of}
-use Rattle.bounds.specs.Outputs.{Filled}
-use Rattle.bounds.specs.Tests.{over}
+use Rattle.lists.proofs.Below.{below-of}
+use Rattle.outputs.specs.Outputs.{Filled}
+use Rattle.outputs.specs.Outputs.{over}
 use Rattle.ratio_format.specs.declared.Read.{Read}
-use Rattle.ratio_format.specs.declared.Read.the-variants.{Ratio, Refused}
+use Rattle.ratio_format.specs.declared.Read.the-variants.{Ratio, Nothing}
 use Rattle.ratio_format.specs.Windows.{windowSize, windowOf}
 use Rattle.ratio_format.specs.Open.{openRead, strictRead}
 use Rattle.ratio_format.specs.Bodies.{openRatios, strictRatios}
@@ -86,7 +86,7 @@ module _ (rule : Rule) (count : ℕ) (body o : List ℕ) where
       reads : rule (windowOf windowSize (take i out)) (drop at body) ≡ r
       reads = sym found
 
-      pub got-refused : r ≡ Refused → Filled (whole rule count body) false o out
+      pub got-refused : r ≡ Nothing → Filled (whole rule count body) false o out
       got-refused e =
           subst (λ (x : Option (List ℕ)). Filled x false o out)
           (sym (left-refused rule windowSize (take i out) (count - (i + 1)) body at (reads ∙ e)) ∙ rw left at (g .4)) refl

@@ -8,9 +8,9 @@ use lib.Bits.{bitXor}
 use lib.Dec.{eqb, leb, ltb}
 use lib.ListN.{length, getD, take}
 use borrow.Author.Tests.{ltb-true, eqb-true}
-use Rattle.bits.specs.Compare.{both, begins}
+use Rattle.lists.specs.Compare.{both, begins}
 use Rattle.bits.specs.Digits.{numberOf}
-use Rattle.ratio_format.specs.declared.Read.the-variants.{Ratio, Refused}
+use Rattle.ratio_format.specs.declared.Read.the-variants.{Ratio, Nothing}
 use Rattle.ratio_format.specs.Choice.{find}
 use Rattle.ratio_format.specs.Forms.{coded}
 use Rattle.ratio_format.specs.Open.{openRead, openXor}
@@ -19,7 +19,7 @@ use Rattle.ratio_format.proofs.RoundTrip.{read-reference}
 use Rattle.ratio_codec.proofs.Named.{Named, coded-in}
 
 module _ (w : List ℕ) (v : ℕ) where
-  never : {A : Type 0} → Refused ≡ Ratio v 1 → A
+  never : {A : Type 0} → Nothing ≡ Ratio v 1 → A
   never e = let z : _≡_ {A = ℕ} 0 1 = cc in absurd (omega arith)
 
   xor-longer : (u : ℕ) (s : List ℕ) → openXor u s ≡ Ratio v 1 → ⊥
@@ -27,7 +27,7 @@ module _ (w : List ℕ) (v : ℕ) where
   xor-longer u [] e = never e
   xor-longer u (c ∷ s) e = go (leb (c / 16 + c % 16) 8) (leb (c % 16) (length s)) e
     where
-      go : (x y : Bool) → cond x (cond y (Ratio (bitXor (numberOf 256 (take (c % 16) s) * 256 ^ (c / 16)) u) (c % 16 + 2)) Refused) Refused ≡ Ratio v 1 → ⊥
+      go : (x y : Bool) → cond x (cond y (Ratio (bitXor (numberOf 256 (take (c % 16) s) * 256 ^ (c / 16)) u) (c % 16 + 2)) Nothing) Nothing ≡ Ratio v 1 → ⊥
       go true true e = let z : c % 16 + 2 ≡ 1 = cc in omega arith
       go true false e = never e
       go false y e = never e
@@ -38,8 +38,8 @@ module _ (w : List ℕ) (v : ℕ) where
   one-named (b ∷ s) e = go (ltb b 128) (ltb b (length w)) refl (ltb b 255) (ltb (b - 128) (length w)) (leb 8 (length s)) e
     where
       go : (x y : Bool) → ltb b (length w) ≡ y → (z t u : Bool)
-          → cond x (cond y (Ratio (getD w b 0) 1) Refused)
-          (cond z (cond t (openXor (getD w (b - 128) 0) s) Refused) (cond u (Ratio (numberOf 256 (take 8 s)) 9) Refused)) ≡ Ratio v 1
+          → cond x (cond y (Ratio (getD w b 0) 1) Nothing)
+          (cond z (cond t (openXor (getD w (b - 128) 0) s) Nothing) (cond u (Ratio (numberOf 256 (take 8 s)) 9) Nothing)) ≡ Ratio v 1
           → Named w v (b ∷ s)
       go true true f z t u e = (omega arith, ltb-true b (length w) f, cc)
       go true false f z t u e = never e

@@ -12,7 +12,7 @@ use lib.Dec.{ltb}
 use borrow.Author.Tests.{ltb-true, ltb-false}
 use Rattle.bits.specs.Digits.{numberOf}
 use Rattle.ratio_format.specs.declared.Read.{Read}
-use Rattle.ratio_format.specs.declared.Read.the-variants.{Ratio, Refused}
+use Rattle.ratio_format.specs.declared.Read.the-variants.{Ratio, Nothing}
 use Rattle.ratio_format.specs.Windows.{windowSize, windowOf}
 use Rattle.ratio_format.specs.Open.{openRead, openXor}
 use Rattle.ratio_format.proofs.Reading.{xor-high, xor-good, open-reference, open-far, open-xor, open-away, open-exception}
@@ -33,7 +33,7 @@ module _ (u at : ℕ) (l : List ℕ) (room : at + 9 ≤ length l) where
   some : length (drop at l) ≡ 0 → ⊥
   some e = omega (arith, many)
 
-  pub ahead-high : 8 < getD l at 0 / 16 + getD l at 0 % 16 → Refused ≡ openXor u (drop at l)
+  pub ahead-high : 8 < getD l at 0 / 16 + getD l at 0 % 16 → Nothing ≡ openXor u (drop at l)
   ahead-high h = xor-high u (drop at l) some (rw (rest-first at l) h)
 
   pub ahead-good : (m r : ℕ) → getD l at 0 / 16 + getD l at 0 % 16 ≤ 8 → m ≡ numberOf 256 (take (getD l at 0 % 16) (drop (at + 1) l))
@@ -62,17 +62,17 @@ module _ (rs : List ℕ) (i : ℕ) (room : i ≤ length rs) where
 
   module _ (s : List ℕ) (b : ℕ) (is : getD s 0 0 ≡ b) (some : length s ≡ 0 → ⊥) (byte : b < 256) (plain : b ≡ 255 → ⊥) where
     -- no ratio stands at the place
-    none : length w ≤ b % 128 → Refused ≡ openRead w s
+    none : length w ≤ b % 128 → Nothing ≡ openRead w s
     none h = go (ltb b 128) refl
       where
-        go : (t : Bool) → ltb b 128 ≡ t → Refused ≡ openRead w s
+        go : (t : Bool) → ltb b 128 ≡ t → Nothing ≡ openRead w s
         go true e = let l = ltb-true b 128 e in open-far w s some (omega arith) (omega arith)
         go false e = let l = ltb-false b 128 e in open-away w s some (omega arith) (omega arith) (omega arith)
 
-    pub far : i ≤ b % 128 → Refused ≡ openRead w s
+    pub far : i ≤ b % 128 → Nothing ≡ openRead w s
     far h = none (omega (arith, most))
 
-    pub past : b % 128 ≡ 127 → Refused ≡ openRead w s
+    pub past : b % 128 ≡ 127 → Nothing ≡ openRead w s
     past e = none (omega (arith, most))
 
     -- one does

@@ -6,15 +6,15 @@ use native.Mathlib.Omega.{arith}
 use borrow.Rule.Slice.PartMut.{putMid, same-len-mid}
 use lib.ListN.{length, take, drop, getD, length-append, length-drop}
 use lib.Seq.{take-length, take-at, drop-at, drop-drop}
-use Rattle.bounds.specs.declared.Wrote.{Wrote}
-use Rattle.bounds.specs.declared.Wrote.the-variants.{Done, NoRoom}
-use Rattle.bounds.specs.Outputs.{Placed}
-use Rattle.bounds.specs.Tests.{over}
+use Rattle.outputs.specs.declared.Wrote.{Wrote}
+use Rattle.outputs.specs.declared.Wrote.the-variants.{Done, NoRoom}
+use Rattle.outputs.specs.Outputs.{Placed}
+use Rattle.outputs.specs.Outputs.{over}
 use Rattle.ratio_format.specs.Windows.{windowSize, windowOf}
 use Rattle.ratio_format.specs.Forms.{coded}
 use Rattle.ratio_format.specs.Bodies.{codedFrom, codedRatios}
 use Rattle.ratio_format.proofs.Bodies.{coded-more, coded-room}
-use Rattle.bits.proofs.Parts.{rest-is, put-rest}
+use Rattle.outputs.proofs.Parts.{rest-is, put-rest}
 
 -- bytes after bytes
 over-on : (t bs o out : List ℕ) (at : ℕ) → length t ≡ at → out ≡ over t o → take at out ++ over bs (drop at out) ≡ over (t ++ bs) o

@@ -5,9 +5,9 @@ use Prim.Native.Nat.{ℕ, _+_, _-_, _≤_, _<_}
 use native.Mathlib.Nat.{lt-of-not-le}
 use native.Mathlib.Omega.{arith}
 use lib.ListN.{length, getD, take, drop, length-take}
-use Rattle.ratio_format.specs.declared.Form.{Form}
+use Rattle.ratio_format.specs.declared.RatioForm.{RatioForm}
 use Rattle.ratio_format.specs.Windows.{windowSize, windowOf}
-use Rattle.ratio_format.specs.Choice.{find, form}
+use Rattle.ratio_format.specs.Choice.{find, ratioForm}
 use Rattle.ratio_format.specs.Forms.{Fit}
 use Rattle.ratio_format.proofs.Windows.{window-of}
 use Rattle.ratio_format.proofs.Choice.{find-at, find-lt, find-first}
@@ -19,10 +19,10 @@ pub start-window : (l : List ℕ) (i f : ℕ) → f ≡ i - windowSize → i ≤
 start-window l i f e h = ap (λ (n : ℕ). reverse (take (i - n) (drop n l))) e ∙ window-of windowSize l i h
 
 -- the form fits its bytes
-pub window-fit : (l : List ℕ) (i v : ℕ) (f : Form) → i ≤ length l → f ≡ form v (windowOf windowSize (take i l)) → Fit 127 f
+pub window-fit : (l : List ℕ) (i v : ℕ) (f : RatioForm) → i ≤ length l → f ≡ ratioForm v (windowOf windowSize (take i l)) → Fit 127 f
 window-fit l i v f h e =
     let a = i - windowSize in
-    chosen-fit (take (i - a) (drop a l)) v f (e ∙ ap (form v) (sym (window-of windowSize l i h))) (omega (arith, length-take (i - a) (drop a l)))
+    chosen-fit (take (i - a) (drop a l)) v f (e ∙ ap (ratioForm v) (sym (window-of windowSize l i h))) (omega (arith, length-take (i - a) (drop a l)))
 
 -- the first place of a ratio in the window, where the ratio there is equal and no newer one is
 pub newest-place : (l : List ℕ) (i v p : ℕ) → i ≤ length l → p < 127 → p < i → getD l (i - 1 - p) 0 ≡ v

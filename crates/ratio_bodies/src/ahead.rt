@@ -32,7 +32,7 @@ fn xor_ahead(u: u64, body: &[u8], at: usize) -> Read
     let trail = c / 16;
     let len = c % 16;
     if 8 < trail + len {
-        return Read::Refused;
+        return Read::Nothing;
     }
     let m = get_first(body, at + 1, len);
     Read::Ratio(raised(m, trail) ^ u, len + 2)
@@ -49,10 +49,10 @@ fn open_ahead(ratios: &[u64], i: usize, body: &[u8], at: usize) -> Read
     }
     let p = b % 128;
     if i <= p {
-        return Read::Refused;
+        return Read::Nothing;
     }
     if p == 127 {
-        return Read::Refused;
+        return Read::Nothing;
     }
     let u = ratios[i - 1 - p];
     if b < 128 {

@@ -4,11 +4,11 @@ ghost use mathlib.Core.Bool.{false};
 ghost use Prim.Native.Nat.{_-_, _≤_};
 ghost use lib.ListN.{length, take};
 ghost use Rattle.ratio_format.specs.Windows.{windowSize, windowOf};
-ghost use Rattle.ratio_format.specs.Choice.{form};
+ghost use Rattle.ratio_format.specs.Choice.{ratioForm};
 ghost use Rattle.ratio_search.specs.Planes.{Planes, Kept};
 use ratio_codec::write::choose;
 use ratio_codec::write::form_of;
-use ratio_format::Form;
+use ratio_format::RatioForm;
 use ratio_search::fill_planes;
 use ratio_search::find;
 use ratio_search::window_start;
@@ -38,9 +38,9 @@ pub(crate) fn refresh(
 }
 
 // The form of v as ratio i, against the ratios before it.
-pub(crate) fn choose_nth(planes: &[u8; 1024], ratios: &[u64], i: usize, v: u64) -> Form
+pub(crate) fn choose_nth(planes: &[u8; 1024], ratios: &[u64], i: usize, v: u64) -> RatioForm
     requires { ⌜ (i ≤ length (now ratios)) × (16 ≤ i → Planes (now planes) (now ratios) (i - windowSize) i) ⌝ }
-    ensures { λ r. ⌜ r ≡ form v (windowOf windowSize (take i (now (ratios .entry)))) ⌝ }
+    ensures { λ r. ⌜ r ≡ ratioForm v (windowOf windowSize (take i (now (ratios .entry)))) ⌝ }
 {
     let from = window_start(i);
     if i < FEW {

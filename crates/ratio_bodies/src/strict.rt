@@ -2,7 +2,7 @@
 ghost use mathlib.Core.Path.{_≡_};
 ghost use Prim.Native.Nat.{_-_, _%_, _≤_, _<_};
 ghost use lib.ListN.{length, take, getD, set};
-ghost use Rattle.bits.specs.Compare.{begins};
+ghost use Rattle.lists.specs.Compare.{begins};
 ghost use Rattle.ratio_format.specs.Windows.{windowSize, windowOf};
 ghost use Rattle.ratio_format.specs.Forms.{coded};
 ghost use Rattle.ratio_format.specs.Open.{openRead};

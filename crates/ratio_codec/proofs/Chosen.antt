@@ -5,13 +5,13 @@ use Prim.Native.Nat.{ℕ, _+_, _-_, _*_, _/_, _^_, _≤_, _<_}
 use native.Mathlib.Omega.{arith}
 use lib.Bits.{bitXor}
 use lib.ListN.{length, getD, length-reverse}
-use Rattle.bits.specs.Below.{Below}
-use Rattle.bits.proofs.Below.{below-of}
+use Rattle.lists.specs.Below.{Below}
+use Rattle.lists.proofs.Below.{below-of}
 use Rattle.bits.proofs.Digits.{pow-bytes}
-use Rattle.ratio_format.specs.declared.Form.{Form}
-use Rattle.ratio_format.specs.declared.Form.the-variants.{Reference, Xor, Exception}
+use Rattle.ratio_format.specs.declared.RatioForm.{RatioForm}
+use Rattle.ratio_format.specs.declared.RatioForm.the-variants.{Reference, Xor, Exception}
 use Rattle.ratio_format.specs.Zeros.{leadZeros, trailZeros}
-use Rattle.ratio_format.specs.Choice.{best, form}
+use Rattle.ratio_format.specs.Choice.{best, ratioForm}
 use Rattle.ratio_format.specs.Forms.{Fit}
 use Rattle.ratio_format.proofs.Choice.{form-fit, form-reference, form-xor, form-exception, sum-small, best-at, best-xor}
 use Rattle.ratio_format.proofs.Windows.{back, reverse-below}
@@ -21,12 +21,12 @@ module _ (l : List ℕ) (v p s : ℕ) (known : (k : ℕ) → getD l k 0 < 2 ^ 64
   all64 : Below (2 ^ 64) (reverse l)
   all64 = reverse-below (2 ^ 64) l (below-of (2 ^ 64) l known)
 
-  pub chosen-reference : s ≡ 16 → Reference p ≡ form v (reverse l)
+  pub chosen-reference : s ≡ 16 → Reference p ≡ ratioForm v (reverse l)
   chosen-reference e =
       let b = found .0 (omega arith) in
       ap Reference (b .0) ∙ sym (form-reference v (reverse l) v64 all64 (sym (b .1) ∙ e))
 
-  pub chosen-exception : s < 2 → Exception ≡ form v (reverse l)
+  pub chosen-exception : s < 2 → Exception ≡ ratioForm v (reverse l)
   chosen-exception h = sym (form-exception v (reverse l) v64 all64 (found .1 h))
 
   -- the xor form: x is the xor with the ratio at the place, in the slice
@@ -53,18 +53,18 @@ module _ (l : List ℕ) (v p s : ℕ) (known : (k : ℕ) → getD l k 0 < 2 ^ 64
     chosen-short =
         omega (arith, sum, chosen-small, subst (λ (y : ℕ). leadZeros y + trailZeros y ≡ best v (reverse l) .sum) same-xor (best-xor v (reverse l) (omega (arith, sum))))
 
-    pub chosen-xor : (t : ℕ) → t ≡ trailZeros x → Xor p t (8 - s) (x / 2 ^ (8 * t)) ≡ form v (reverse l)
+    pub chosen-xor : (t : ℕ) → t ≡ trailZeros x → Xor p t (8 - s) (x / 2 ^ (8 * t)) ≡ ratioForm v (reverse l)
     chosen-xor t e =
         let f = form-xor v (reverse l) v64 all64 (λ e. other (sum ∙ e)) (omega (arith, sum)) in
         let q = pow-bytes t in
         cc (same-xor, place, sum)
 
 -- its numbers fit, of a window of at most 127 ratios
-fit-more : (m n : ℕ) (f : Form) → m ≤ n → Fit m f → Fit n f
+fit-more : (m n : ℕ) (f : RatioForm) → m ≤ n → Fit m f → Fit n f
 fit-more m n (Reference p) h g = omega arith
 fit-more m n (Xor p t k x) h g = (omega arith, g .1, g .2)
 fit-more m n Exception h g = tt
 
-pub chosen-fit : (l : List ℕ) (v : ℕ) (f : Form) → f ≡ form v (reverse l) → length l ≤ 127 → Fit 127 f
+pub chosen-fit : (l : List ℕ) (v : ℕ) (f : RatioForm) → f ≡ ratioForm v (reverse l) → length l ≤ 127 → Fit 127 f
 chosen-fit l v f e h =
-    subst (Fit 127) (sym e) (fit-more (length (reverse l)) 127 (form v (reverse l)) (rw length-reverse h) (form-fit v (reverse l)))
+    subst (Fit 127) (sym e) (fit-more (length (reverse l)) 127 (ratioForm v (reverse l)) (rw length-reverse h) (form-fit v (reverse l)))

@@ -8,10 +8,10 @@ use borrow.Author.Tests.{eq-eqb, ne-eqb}
 use lib.Dec.{lit<}
 use lib.ListN.{length, getD, drop, length-drop}
 use lib.Seq.{drop-cons, drop-length, getD-drop}
-use Rattle.bits.specs.Below.{Below}
-use Rattle.bits.proofs.Below.{below-at}
+use Rattle.lists.specs.Below.{Below}
+use Rattle.lists.proofs.Below.{below-at}
 use Rattle.ratio_format.specs.Choice.{find}
-use Rattle.ratio_format.proofs.Score.{score-other}
+use Rattle.ratio_format.proofs.Score.{sum-other}
 use Rattle.ratio_format.proofs.Choice.{find-first, find-le}
 use Rattle.ratio_codec.specs.Passed.{Passed}
 
@@ -42,4 +42,4 @@ module _ (v : ℕ) (w : List ℕ) where
       find-first v (drop i w) (k - i) (omega arith) (getD-drop i w (k - i) 0 ∙ ap (λ (n : ℕ). getD w n 0) q ∙ e)
 
   pub from-passed : v < 2 ^ 64 → Below (2 ^ 64) w → (i : ℕ) → Passed v w 7 i (findFrom i)
-  from-passed hv ha i k h g = omega (arith, score-other v (getD w k 0) hv (below-at (2 ^ 64) (lit< tt) w ha k) (λ e. from-first i k h g (sym e)))
+  from-passed hv ha i k h g = omega (arith, sum-other v (getD w k 0) hv (below-at (2 ^ 64) (lit< tt) w ha k) (λ e. from-first i k h g (sym e)))

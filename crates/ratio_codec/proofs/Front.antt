@@ -4,8 +4,8 @@ use mathlib.Core.List.{List, [], _∷_, _++_}
 use Prim.Native.Nat.{ℕ, suc, _+_, _≤_}
 use native.Mathlib.Omega.{arith}
 use lib.ListN.{length, set, drop}
-use Rattle.bits.specs.Splice.{splice}
-use Rattle.bounds.specs.Tests.{over}
+use Rattle.outputs.specs.Outputs.{overAt}
+use Rattle.outputs.specs.Outputs.{over}
 
 -- one byte
 pub front-none : (o : List ℕ) (b : ℕ) → 1 ≤ length o → set o 0 b ≡ over (b ∷ []) o
@@ -13,14 +13,14 @@ front-none [] b h = absurd (omega arith)
 front-none (x ∷ o) b h = refl
 
 -- one byte, and n more
-pub front-one : (o bs : List ℕ) (b n : ℕ) → length bs ≡ n → n + 1 ≤ length o → splice (set o 0 b) 1 n bs ≡ over (b ∷ bs) o
+pub front-one : (o bs : List ℕ) (b n : ℕ) → length bs ≡ n → n + 1 ≤ length o → overAt (set o 0 b) 1 n bs ≡ over (b ∷ bs) o
 front-one [] bs b n e h = absurd (omega arith)
 front-one (x ∷ o) bs b n e h =
     let q : 1 + n ≡ suc (length bs) = omega arith in
     ap (λ (k : ℕ). b ∷ (bs ++ drop k (b ∷ o))) q
 
 -- two bytes, and n more
-pub front-two : (o bs : List ℕ) (a b n : ℕ) → length bs ≡ n → n + 2 ≤ length o → splice (set (set o 0 a) 1 b) 2 n bs ≡ over (a ∷ b ∷ bs) o
+pub front-two : (o bs : List ℕ) (a b n : ℕ) → length bs ≡ n → n + 2 ≤ length o → overAt (set (set o 0 a) 1 b) 2 n bs ≡ over (a ∷ b ∷ bs) o
 front-two [] bs a b n e h = absurd (omega arith)
 front-two (x ∷ []) bs a b n e h = absurd (omega arith)
 front-two (x ∷ y ∷ o) bs a b n e h =

@@ -10,22 +10,22 @@ use lib.Bits.{bitXor}
 use lib.Dec.{eqb, leb}
 use lib.ListN.{length, getD, take, drop, take-append-drop}
 use lib.Seq.{length-take-le}
-use Rattle.bits.specs.Below.{Below}
-use Rattle.bits.specs.Compare.{both, begins}
+use Rattle.lists.specs.Below.{Below}
+use Rattle.lists.specs.Compare.{both, begins}
 use Rattle.bits.specs.Digits.{bytesOf, numberOf}
-use Rattle.bits.proofs.Below.{below-take}
-use Rattle.bits.proofs.Compare.{begins-own}
+use Rattle.lists.proofs.Below.{below-take}
+use Rattle.lists.proofs.Compare.{begins-own}
 use Rattle.bits.proofs.Digits.{digits-number}
-use Rattle.ratio_format.specs.declared.Form.{Form}
-use Rattle.ratio_format.specs.declared.Read.the-variants.{Ratio, Refused}
+use Rattle.ratio_format.specs.declared.RatioForm.{RatioForm}
+use Rattle.ratio_format.specs.declared.Read.the-variants.{Ratio, Nothing}
 use Rattle.ratio_format.specs.Zeros.{leadZeros, trailZeros}
-use Rattle.ratio_format.specs.Choice.{best, form}
+use Rattle.ratio_format.specs.Choice.{best, ratioForm}
 use Rattle.ratio_format.specs.Forms.{written, coded}
 use Rattle.ratio_format.specs.Open.{openRead, openXor}
 use Rattle.ratio_format.proofs.Zeros.{trail-le, pos-256}
 use Rattle.ratio_format.proofs.Score.{xor-back}
 use Rattle.ratio_format.proofs.Choice.{form-cases, bestXor, best-at}
-use Rattle.ratio_codec.specs.Heads.{head}
+use Rattle.ratio_codec.specs.Heads.{formHead}
 
 -- the tests of one byte and of two
 
@@ -75,7 +75,7 @@ begins-number n r hr h =
     ap₂ begins d (sym (take-append-drop n r)) ∙ begins-own (take n r) (drop n r)
 
 module _ (v k : ℕ) (w : List ℕ) (hw : length w ≤ 127) where
-  never : {A : Type 0} → Refused ≡ Ratio v k → A
+  never : {A : Type 0} → Nothing ≡ Ratio v k → A
   never e = let z : _≡_ {A = ℕ} 0 1 = cc in absurd (omega arith)
 
   -- after the head of an xor form the middle stands as it is written
@@ -89,7 +89,7 @@ module _ (v k : ℕ) (w : List ℕ) (hw : length w ≤ 127) where
       go (leb n (length r)) refl
       (rw (le-ltb (p + 128) 128 (omega arith), lt-ltb (p + 128) 255 (omega arith), a, lt-ltb p (length w) h, b, c, le-leb (t + n) 8 g) at e)
     where
-      go : (x : Bool) → leb n (length r) ≡ x → cond x (Ratio (bitXor (numberOf 256 (take n r) * 256 ^ t) (getD w p 0)) (n + 2)) Refused ≡ Ratio v k
+      go : (x : Bool) → leb n (length r) ≡ x → cond x (Ratio (bitXor (numberOf 256 (take n r) * 256 ^ t) (getD w p 0)) (n + 2)) Nothing ≡ Ratio v k
           → begins (bytesOf n (bitXor v (getD w p 0) / 256 ^ t)) r ≡ true
       go true f e =
           let u = getD w p 0 in
@@ -121,7 +121,7 @@ module _ (v k : ℕ) (w : List ℕ) (hw : length w ≤ 127) where
   exception-head [] hs e = refl
   exception-head (b ∷ r) hs e = go (eqb 255 b) refl
     where
-      at : (x : Bool) → leb 8 (length r) ≡ x → cond x (Ratio (numberOf 256 (take 8 r)) 9) Refused ≡ Ratio v k → begins (bytesOf 8 v) r ≡ true
+      at : (x : Bool) → leb 8 (length r) ≡ x → cond x (Ratio (numberOf 256 (take 8 r)) 9) Nothing ≡ Ratio v k → begins (bytesOf 8 v) r ≡ true
       at true f e =
           let q : v ≡ numberOf 256 (take 8 r) = cc in
           ap (λ (x : ℕ). begins (bytesOf 8 x) r) q ∙ begins-number 8 r (hs .1) (leb-true 8 (length r) f)
@@ -131,10 +131,10 @@ module _ (v k : ℕ) (w : List ℕ) (hw : length w ≤ 127) where
       go false f = refl
       go true f = at (leb 8 (length r)) refl (ap (λ (x : ℕ). openRead w (x ∷ r)) (eqb-true 255 b f) ∙ e)
 
-  pub head-decides : (s : List ℕ) → Below 256 s → openRead w s ≡ Ratio v k → begins (coded v w) s ≡ begins (head (form v w)) s
+  pub head-decides : (s : List ℕ) → Below 256 s → openRead w s ≡ Ratio v k → begins (coded v w) s ≡ begins (formHead (ratioForm v w)) s
   unfolding coded written
   head-decides s hs e =
-      form-cases v w (λ (f : Form). begins (written v f) s ≡ begins (head f) s)
+      form-cases v w (λ (f : RatioForm). begins (written v f) s ≡ begins (formHead f) s)
       (λ h. refl)
       (λ h g. let x = bestXor v w in xor-head (best v w .place) (trailZeros x) (8 - (leadZeros x + trailZeros x)) s hs (best-at v w (omega arith) .0) (omega (arith, trail-le x)) e)
       (λ h g. exception-head s hs e)

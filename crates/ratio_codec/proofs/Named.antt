@@ -6,9 +6,9 @@ use native.Mathlib.Omega.{arith}
 use lib.Dec.{eqb}
 use lib.ListN.{length, getD}
 use borrow.Author.Tests.{lt-ltb, eq-eqb, ne-eqb}
-use Rattle.bits.specs.Compare.{begins}
-use Rattle.ratio_format.specs.declared.Read.the-variants.{Ratio, Refused}
-use Rattle.ratio_format.specs.Choice.{find, form}
+use Rattle.lists.specs.Compare.{begins}
+use Rattle.ratio_format.specs.declared.Read.the-variants.{Ratio, Nothing}
+use Rattle.ratio_format.specs.Choice.{find, ratioForm}
 use Rattle.ratio_format.specs.Forms.{written, coded}
 use Rattle.ratio_format.specs.Open.{openRead, strictRead}
 use Rattle.ratio_format.proofs.Choice.{find-lt}
@@ -18,7 +18,7 @@ use Rattle.ratio_codec.proofs.Heads.{one-is}
 module _ (w : List ℕ) (v : ℕ) where
   -- a ratio of the window is written as its smallest place
   pub coded-in : (p : ℕ) → p < length w → getD w p 0 ≡ v → coded v w ≡ find v w ∷ []
-  unfolding coded written form
+  unfolding coded written ratioForm
   coded-in p h e = rw (lt-ltb (find v w) (length w) (find-lt v w p h e))
 
   -- the first byte is a place of the window that holds v
@@ -38,5 +38,5 @@ module _ (w : List ℕ) (v : ℕ) where
       pub named-good : find v w ≡ getD s 0 0 → Ratio v 1 ≡ strictRead w s
       named-good e = strict-good w s (Ratio v 1) named-open v 1 (eqb (find v w) (getD s 0 0)) refl (sym named-begins) (eq-eqb (find v w) (getD s 0 0) e)
 
-      pub named-other : (find v w ≡ getD s 0 0 → ⊥) → Refused ≡ strictRead w s
+      pub named-other : (find v w ≡ getD s 0 0 → ⊥) → Nothing ≡ strictRead w s
       named-other e = strict-other w s (Ratio v 1) named-open v 1 (eqb (find v w) (getD s 0 0)) refl (sym named-begins) (ne-eqb (find v w) (getD s 0 0) e)

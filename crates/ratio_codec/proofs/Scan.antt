@@ -10,50 +10,50 @@ use borrow.Author.Tests.{leb-true, leb-false}
 use lib.Dec.{leb}
 use lib.ListN.{length, take, drop, getD, length-take, length-reverse, take-append-drop}
 use lib.Seq.{take-suc, take-all, take-add, length-take-le, append-snoc, getD-take, getD-drop}
-use Rattle.ratio_format.specs.Zeros.{score}
+use Rattle.ratio_format.specs.Zeros.{sumOf}
 use Rattle.ratio_format.specs.Choice.{Best, newer, best}
-use Rattle.ratio_format.proofs.Score.{score-same}
+use Rattle.ratio_format.proofs.Score.{sum-same}
 use Rattle.ratio_format.proofs.Choice.{best-most, best-wins, best-stays}
 use Rattle.ratio_format.proofs.Windows.{back}
 use Rattle.ratio_codec.specs.Passed.{Passed}
 use Rattle.ratio_codec.proofs.Passed.{passed-one}
-use Rattle.ratio_codec.proofs.Sums.{score-le}
+use Rattle.ratio_codec.proofs.Sums.{sum-le}
 
 module _ (v : ℕ) where
   -- one ratio more makes the best sum no smaller
   best-grows : (x : ℕ) (w : List ℕ) → best v w .sum ≤ best v (x ∷ w) .sum
-  best-grows x w = go (leb (best v w .sum) (score v x)) refl
+  best-grows x w = go (leb (best v w .sum) (sumOf v x)) refl
     where
-      go : (t : Bool) → leb (best v w .sum) (score v x) ≡ t → best v w .sum ≤ best v (x ∷ w) .sum
+      go : (t : Bool) → leb (best v w .sum) (sumOf v x) ≡ t → best v w .sum ≤ best v (x ∷ w) .sum
       go true e =
-          let h = leb-true (best v w .sum) (score v x) e in
+          let h = leb-true (best v w .sum) (sumOf v x) e in
           omega (arith, ap (λ (b : Best). b .sum) (best-wins v x w refl h))
-      go false e = omega (arith, ap (λ (b : Best). b .sum) (best-stays v x w refl (leb-false (best v w .sum) (score v x) e)))
+      go false e = omega (arith, ap (λ (b : Best). b .sum) (best-stays v x w refl (leb-false (best v w .sum) (sumOf v x) e)))
 
   -- one older ratio is better by a larger sum only
   module _ (u : ℕ) where
-    older-wins : (w : List ℕ) → best v w .sum < score v u → best v (w ++ (u ∷ [])) ≡ record { place = length w; sum = score v u }
+    older-wins : (w : List ℕ) → best v w .sum < sumOf v u → best v (w ++ (u ∷ [])) ≡ record { place = length w; sum = sumOf v u }
     older-wins [] h = best-wins v u [] refl (omega arith)
     older-wins (x ∷ w) h =
         best-stays v x (w ++ (u ∷ [])) (older-wins w (omega (arith, best-grows x w))) (omega (arith, best-most v (x ∷ w) 0 (omega arith)))
-        ∙ ap (λ (p : ℕ). record { place = p; sum = score v u }) (add-one (length w))
+        ∙ ap (λ (p : ℕ). record { place = p; sum = sumOf v u }) (add-one (length w))
 
-    older-loses : (w : List ℕ) → score v u ≤ best v w .sum → best v (w ++ (u ∷ [])) ≡ best v w
+    older-loses : (w : List ℕ) → sumOf v u ≤ best v w .sum → best v (w ++ (u ∷ [])) ≡ best v w
     unfolding best
     older-loses [] h =
-        let e : score v u ≡ 0 = omega arith in
+        let e : sumOf v u ≡ 0 = omega arith in
         best-wins v u [] refl (omega arith) ∙ ap (λ (s : ℕ). record { place = 0; sum = s }) e
     older-loses (x ∷ w) h =
-        go (older-loses w) (leb (score v u) (best v w .sum)) refl (leb (best v w .sum) (score v x)) refl
+        go (older-loses w) (leb (sumOf v u) (best v w .sum)) refl (leb (best v w .sum) (sumOf v x)) refl
       where
-        go : (score v u ≤ best v w .sum → best v (w ++ (u ∷ [])) ≡ best v w) → (t : Bool) → leb (score v u) (best v w .sum) ≡ t
-            → (r : Bool) → leb (best v w .sum) (score v x) ≡ r → best v (x ∷ (w ++ (u ∷ []))) ≡ best v (x ∷ w)
-        go ih true e r f = ap (newer (score v x)) (ih (leb-true (score v u) (best v w .sum) e))
+        go : (sumOf v u ≤ best v w .sum → best v (w ++ (u ∷ [])) ≡ best v w) → (t : Bool) → leb (sumOf v u) (best v w .sum) ≡ t
+            → (r : Bool) → leb (best v w .sum) (sumOf v x) ≡ r → best v (x ∷ (w ++ (u ∷ []))) ≡ best v (x ∷ w)
+        go ih true e r f = ap (newer (sumOf v x)) (ih (leb-true (sumOf v u) (best v w .sum) e))
         go ih false e true f =
-            let g = best-wins v x w refl (leb-true (best v w .sum) (score v x) f) in
-            best-wins v x (w ++ (u ∷ [])) (older-wins w (leb-false (score v u) (best v w .sum) e)) (omega (arith, ap (λ (b : Best). b .sum) g)) ∙ sym g
+            let g = best-wins v x w refl (leb-true (best v w .sum) (sumOf v x) f) in
+            best-wins v x (w ++ (u ∷ [])) (older-wins w (leb-false (sumOf v u) (best v w .sum) e)) (omega (arith, ap (λ (b : Best). b .sum) g)) ∙ sym g
         go ih false e false f =
-            absurd (omega (arith, leb-false (score v u) (best v w .sum) e, ap (λ (b : Best). b .sum) (best-stays v x w refl (leb-false (best v w .sum) (score v x) f))))
+            absurd (omega (arith, leb-false (sumOf v u) (best v w .sum) e, ap (λ (b : Best). b .sum) (best-stays v x w refl (leb-false (best v w .sum) (sumOf v x) f))))
 
   -- older ratios with no larger sum change nothing
   best-over : (w rest : List ℕ) → Passed v rest (best v w .sum) 0 (length rest) → best v (w ++ rest) ≡ best v w
@@ -89,7 +89,7 @@ module _ (v : ℕ) where
     quiet k f x =
         let n : k < r - i = omega (arith, length-take (r - i) (drop i (reverse l))) in
         let e : getD rest k 0 ≡ getD (reverse l) (i + k) 0 = getD-take (r - i) (drop i (reverse l)) k 0 n ∙ getD-drop i (reverse l) k 0 in
-        omega (arith, ap (λ (b : Best). b .sum) (h .2), ap (score v) e, q (i + k) (omega arith) (omega arith))
+        omega (arith, ap (λ (b : Best). b .sum) (h .2), ap (sumOf v) e, q (i + k) (omega arith) (omega arith))
 
     pub scan-pass : r ≤ length l → Scanned l r p s
     scan-pass f = (f, h .1, ap (best v) split ∙ best-over (take i (reverse l)) rest quiet ∙ h .2)
@@ -111,23 +111,23 @@ module _ (v : ℕ) where
     sum-is : best v (take i (reverse l)) .sum ≡ s
     sum-is = ap (λ (b : Best). b .sum) (h .2)
 
-    wins : s < score v next → best v (take (i + 1) (reverse l)) ≡ record { place = i; sum = score v next }
+    wins : s < sumOf v next → best v (take (i + 1) (reverse l)) ≡ record { place = i; sum = sumOf v next }
     wins k =
         ap (best v) more ∙ older-wins next (take i (reverse l)) (omega (arith, sum-is))
-        ∙ ap (λ (n : ℕ). record { place = n; sum = score v next }) passed
+        ∙ ap (λ (n : ℕ). record { place = n; sum = sumOf v next }) passed
 
-    pub scan-wins : s < score v next → score v next ≤ 7 → Scanned l (i + 1) i (score v next)
+    pub scan-wins : s < sumOf v next → sumOf v next ≤ 7 → Scanned l (i + 1) i (sumOf v next)
     scan-wins k m = (omega arith, m, wins k)
 
-    pub scan-loses : score v next ≤ s → Scanned l (i + 1) p s
+    pub scan-loses : sumOf v next ≤ s → Scanned l (i + 1) p s
     scan-loses k = scan-pass l i p s h (i + 1) (omega arith) (passed-one v (reverse l) s i (rw (back l i g) k)) (omega arith)
 
     -- an equal one ends the scan
     pub scan-equal : next ≡ v → best v (reverse l) ≡ record { place = i; sum = 16 }
     scan-equal e =
-        let q : score v next ≡ 16 = ap (score v) e ∙ score-same v in
+        let q : sumOf v next ≡ 16 = ap (sumOf v) e ∙ sum-same v in
         let b = wins (omega arith) in
         ap (best v) (sym (take-append-drop (i + 1) (reverse l)))
         ∙ best-over (take (i + 1) (reverse l)) (drop (i + 1) (reverse l))
-        (λ k f n. omega (arith, ap (λ (b : Best). b .sum) b, score-le v (getD (drop (i + 1) (reverse l)) k 0)))
+        (λ k f n. omega (arith, ap (λ (b : Best). b .sum) b, sum-le v (getD (drop (i + 1) (reverse l)) k 0)))
         ∙ b ∙ ap (λ (n : ℕ). record { place = i; sum = n }) q

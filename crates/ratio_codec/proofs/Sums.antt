@@ -6,13 +6,13 @@ use native.Mathlib.Omega.{arith}
 use lib.Bits.{bitXor, xor-lt}
 use lib.Count.{under}
 use lib.Dec.{lit<}
-use Rattle.ratio_format.specs.Zeros.{zerosAt, leadZeros, trailZeros, score}
+use Rattle.ratio_format.specs.Zeros.{zerosAt, leadZeros, trailZeros, sumOf}
 use Rattle.ratio_format.proofs.Zeros.{lowBytes, trailBytes, trail-is, lead-le, trail-le, middle-fits}
 
 -- no sum is above 16
-pub score-le : (v u : ℕ) → score v u ≤ 16
-unfolding score
-score-le v u = omega (arith, lead-le (bitXor v u), trail-le (bitXor v u))
+pub sum-le : (v u : ℕ) → sumOf v u ≤ 16
+unfolding sumOf
+sum-le v u = omega (arith, lead-le (bitXor v u), trail-le (bitXor v u))
 
 -- a lowest byte other than 0 leaves no trailing zero byte
 trail-none : (x : ℕ) → (x % 256 ≡ 0 → ⊥) → trailZeros x ≡ 0
@@ -35,6 +35,6 @@ ends-le x s h g n =
           omega (arith, pow-le-pow-right {n = 256} (lit< tt) {i = 8 - (leadZeros x + trailZeros x)} {j = 7 - s} (omega arith))),
     )
 
-pub score-under : (v u s : ℕ) → v < 2 ^ 64 → u < 2 ^ 64 → 256 ^ (7 - s) ≤ bitXor v u → (bitXor v u % 256 ≡ 0 → ⊥) → score v u ≤ s
-unfolding score
-score-under v u s hv hu h n = ends-le (bitXor v u) s (xor-lt 64 v u hv hu) h n
+pub sum-under : (v u s : ℕ) → v < 2 ^ 64 → u < 2 ^ 64 → 256 ^ (7 - s) ≤ bitXor v u → (bitXor v u % 256 ≡ 0 → ⊥) → sumOf v u ≤ s
+unfolding sumOf
+sum-under v u s hv hu h n = ends-le (bitXor v u) s (xor-lt 64 v u hv hu) h n

@@ -2,11 +2,11 @@
 --   head f    a place; a place plus 128 and the two counts; 255
 use mathlib.Core.List.{List, [], _∷_}
 use Prim.Native.Nat.{ℕ, _+_, _*_}
-use Rattle.ratio_format.specs.declared.Form.{Form}
-use Rattle.ratio_format.specs.declared.Form.the-variants.{Reference, Xor, Exception}
+use Rattle.ratio_format.specs.declared.RatioForm.{RatioForm}
+use Rattle.ratio_format.specs.declared.RatioForm.the-variants.{Reference, Xor, Exception}
 
 -- the first byte, and of an xor form the first two
-abbrev pub head : Form → List ℕ
-head (Reference p) = p ∷ []
-head (Xor p t n m) = (p + 128) ∷ (t * 16 + n) ∷ []
-head Exception = 255 ∷ []
+abbrev pub formHead : RatioForm → List ℕ
+formHead (Reference p) = p ∷ []
+formHead (Xor p t n m) = (p + 128) ∷ (t * 16 + n) ∷ []
+formHead Exception = 255 ∷ []

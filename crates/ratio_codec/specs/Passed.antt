@@ -3,8 +3,8 @@
 use mathlib.Core.List.{List}
 use Prim.Native.Nat.{ℕ, _≤_, _<_}
 use lib.ListN.{getD}
-use Rattle.ratio_format.specs.Zeros.{score}
+use Rattle.ratio_format.specs.Zeros.{sumOf}
 
 -- the sums are at most s
 abbrev pub Passed : ℕ → List ℕ → ℕ → ℕ → ℕ → Type 0
-Passed v l s from to = (k : ℕ) → from ≤ k → k < to → score v (getD l k 0) ≤ s
+Passed v l s from to = (k : ℕ) → from ≤ k → k < to → sumOf v (getD l k 0) ≤ s

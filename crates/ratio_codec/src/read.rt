@@ -4,15 +4,15 @@ ghost use mathlib.Core.List.{[], _∷_, reverse};
 ghost use Prim.Native.Nat.{_+_, _*_, _^_, _≤_, _<_};
 ghost use lib.ListN.{length, take, drop};
 ghost use Rattle.bits.specs.Digits.{numberOf};
-ghost use Rattle.bits.specs.Compare.{begins};
+ghost use Rattle.lists.specs.Compare.{begins};
 ghost use Rattle.ratio_format.specs.Open.{openXor, openRead, strictRead};
 ghost use Rattle.ratio_format.specs.Forms.{Fit};
-ghost use Rattle.ratio_codec.specs.Heads.{head};
+ghost use Rattle.ratio_codec.specs.Heads.{formHead};
 use super::search::pass_equal;
 use super::write::choose;
 use bits::get_bytes;
 use bits::get_first;
-use ratio_format::Form;
+use ratio_format::RatioForm;
 use ratio_format::Read;
 
 // The number m raised by t bytes. By 8 bytes only 0 is raised, and a shift by 64 bits is not allowed.
@@ -39,16 +39,16 @@ fn read_xor(u: u64, s: &[u8]) -> Read
     ensures { λ r. ⌜ r ≡ openXor u (now (s .entry)) ⌝ }
 {
     if s.len() == 0 {
-        return Read::Refused;
+        return Read::Nothing;
     }
     let c = s[0] as usize;
     let trail = c / 16;
     let len = c % 16;
     if 8 < trail + len {
-        return Read::Refused;
+        return Read::Nothing;
     }
     if s.len() - 1 < len {
-        return Read::Refused;
+        return Read::Nothing;
     }
     let m = middle_of(s, len);
     Read::Ratio(raised(m, trail) ^ u, len + 2)
@@ -59,26 +59,26 @@ pub fn read_open(window: &[u64], s: &[u8]) -> Read
     ensures { λ r. ⌜ r ≡ openRead (reverse (now (window .entry))) (now (s .entry)) ⌝ }
 {
     if s.len() == 0 {
-        return Read::Refused;
+        return Read::Nothing;
     }
     let b = s[0] as usize;
     if b < 128 {
         if b < window.len() {
             return Read::Ratio(window[window.len() - 1 - b], 1);
         }
-        return Read::Refused;
+        return Read::Nothing;
     }
     if b < 255 {
         let p = b - 128;
         if p < window.len() {
             return read_xor(window[window.len() - 1 - p], &s[1..]);
         }
-        return Read::Refused;
+        return Read::Nothing;
     }
     if 9 <= s.len() {
         return Read::Ratio(get_bytes(s, 1, 8), 9);
     }
-    Read::Refused
+    Read::Nothing
 }
 
 // Whether the bytes begin with a.
@@ -105,19 +105,19 @@ fn has_two(s: &[u8], a: usize, b: usize) -> bool
 }
 
 // Whether the bytes begin as the form does.
-pub fn has_head(f: Form, s: &[u8]) -> bool
+pub fn has_head(f: RatioForm, s: &[u8]) -> bool
     requires { ⌜ Fit 127 f ⌝ }
-    ensures { λ r. ⌜ r ≡ begins (head f) (now (s .entry)) ⌝ }
+    ensures { λ r. ⌜ r ≡ begins (formHead f) (now (s .entry)) ⌝ }
 {
     match f {
-        Form::Reference(place) => has_one(s, place),
-        Form::Xor {
+        RatioForm::Reference(place) => has_one(s, place),
+        RatioForm::Xor {
             place,
             trail,
             len,
             middle: _,
         } => has_two(s, place + 128, trail * 16 + len),
-        Form::Exception => has_one(s, 255),
+        RatioForm::Exception => has_one(s, 255),
     }
 }
 
@@ -128,13 +128,13 @@ fn read_by_head(window: &[u64], s: &[u8]) -> Read
 {
     let r = read_open(window, s);
     let Read::Ratio(v, n) = r else {
-        return Read::Refused;
+        return Read::Nothing;
     };
     let f = choose(window, v);
     if has_head(f, s) {
         return Read::Ratio(v, n);
     }
-    Read::Refused
+    Read::Nothing
 }
 
 // The same. A place needs no search: it is what is written where no nearer one holds an equal ratio.
@@ -143,7 +143,7 @@ pub fn read_strict(window: &[u64], s: &[u8]) -> Read
     ensures { λ r. ⌜ r ≡ strictRead (reverse (now (window .entry))) (now (s .entry)) ⌝ }
 {
     if s.len() == 0 {
-        return Read::Refused;
+        return Read::Nothing;
     }
     let b = s[0] as usize;
     if b < window.len() {
@@ -151,7 +151,7 @@ pub fn read_strict(window: &[u64], s: &[u8]) -> Read
         if pass_equal(window, 0, v) == b {
             return Read::Ratio(v, 1);
         }
-        return Read::Refused;
+        return Read::Nothing;
     }
     read_by_head(window, s)
 }

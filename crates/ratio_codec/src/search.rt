@@ -3,7 +3,7 @@ ghost use mathlib.Core.Path.{_≡_};
 ghost use mathlib.Core.List.{reverse};
 ghost use Prim.Native.Nat.{ℕ, _+_, _-_, _^_, _≤_};
 ghost use lib.ListN.{length, drop};
-ghost use Rattle.ratio_format.specs.Zeros.{leadZeros, trailZeros, score};
+ghost use Rattle.ratio_format.specs.Zeros.{leadZeros, trailZeros, sumOf};
 ghost use Rattle.ratio_format.specs.Choice.{find, best};
 ghost use Rattle.ratio_codec.specs.Passed.{Passed};
 
@@ -28,8 +28,8 @@ pub fn trail_zeros(x: u64) -> usize
 }
 
 // The leading and trailing zero bytes of v xor u together.
-fn score_of(v: u64, u: u64) -> usize
-    ensures { λ r. ⌜ r ≡ score v u ⌝ }
+fn sum_of(v: u64, u: u64) -> usize
+    ensures { λ r. ⌜ r ≡ sumOf v u ⌝ }
 {
     let x = v ^ u;
     lead_zeros(x) + trail_zeros(x)
@@ -95,7 +95,7 @@ pub fn search(window: &[u64], v: u64) -> Best
         if u == v {
             return Best { place: i, sum: 16 };
         }
-        let s = score_of(v, u);
+        let s = sum_of(v, u);
         if sum < s {
             place = i;
             sum = s;

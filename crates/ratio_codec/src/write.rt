@@ -4,8 +4,8 @@ ghost use mathlib.Core.List.{[], _∷_, reverse};
 ghost use Prim.Native.Nat.{_+_, _*_, _≤_, _<_};
 ghost use lib.ListN.{length};
 ghost use Rattle.bits.specs.Digits.{bytesOf};
-ghost use Rattle.bounds.specs.Outputs.{Placed};
-ghost use Rattle.ratio_format.specs.Choice.{form};
+ghost use Rattle.outputs.specs.Outputs.{Placed};
+ghost use Rattle.ratio_format.specs.Choice.{ratioForm};
 ghost use Rattle.ratio_format.specs.Forms.{written, coded};
 ghost use Rattle.ratio_format.specs.Forms.{Fit};
 ghost use Rattle.ratio_codec.specs.Searched.{Searched};
@@ -13,35 +13,35 @@ use super::search::Best;
 use super::search::search;
 use super::search::trail_zeros;
 use bits::put_bytes;
-use bounds::Wrote;
-use ratio_format::Form;
+use outputs::Wrote;
+use ratio_format::RatioForm;
 
 // The form of v, by what a search of the window found.
-pub fn form_of(b: Best, window: &[u64], v: u64) -> Form
+pub fn form_of(b: Best, window: &[u64], v: u64) -> RatioForm
     requires { ⌜ Searched v (reverse (now window)) (b .place) (b .sum) ⌝ }
-    ensures { λ r. ⌜ r ≡ form v (reverse (now (window .entry))) ⌝ }
+    ensures { λ r. ⌜ r ≡ ratioForm v (reverse (now (window .entry))) ⌝ }
 {
     let place = b.place;
     let sum = b.sum;
     if sum == 16 {
-        return Form::Reference(place);
+        return RatioForm::Reference(place);
     }
     if 2 <= sum {
         let x = v ^ window[window.len() - 1 - place];
         let trail = trail_zeros(x);
-        return Form::Xor {
+        return RatioForm::Xor {
             place,
             trail,
             len: 8 - sum,
             middle: x >> (8 * trail),
         };
     }
-    Form::Exception
+    RatioForm::Exception
 }
 
 // The form of v.
-pub fn choose(window: &[u64], v: u64) -> Form
-    ensures { λ r. ⌜ r ≡ form v (reverse (now (window .entry))) ⌝ }
+pub fn choose(window: &[u64], v: u64) -> RatioForm
+    ensures { λ r. ⌜ r ≡ ratioForm v (reverse (now (window .entry))) ⌝ }
 {
     let b = search(window, v);
     form_of(b, window, v)
@@ -86,19 +86,19 @@ fn put_exception(out: &mut [u8], v: u64) -> Wrote
 }
 
 // The bytes of v in the form f, of a window of at most 127 ratios.
-pub fn put_form(f: Form, v: u64, out: &mut [u8]) -> Wrote
+pub fn put_form(f: RatioForm, v: u64, out: &mut [u8]) -> Wrote
     requires { ⌜ Fit 127 f ⌝ }
     ensures { λ r. ⌜ Placed (written v f) r (now (out .entry)) (now (out .exit)) ⌝ }
 {
     match f {
-        Form::Reference(place) => put_reference(out, place),
-        Form::Xor {
+        RatioForm::Reference(place) => put_reference(out, place),
+        RatioForm::Xor {
             place,
             trail,
             len,
             middle,
         } => put_xor(out, place, trail, len, middle),
-        Form::Exception => put_exception(out, v),
+        RatioForm::Exception => put_exception(out, v),
     }
 }
 

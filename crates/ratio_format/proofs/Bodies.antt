@@ -6,8 +6,8 @@ use native.Mathlib.Omega.{arith}
 use native.Mathlib.Numerals.{add-one}
 use lib.ListN.{length, take, drop, getD, length-append, length-take, take-append-drop}
 use lib.Seq.{take-all, take-suc, append-snoc}
-use Rattle.bits.specs.Below.{Below}
-use Rattle.bits.proofs.Below.{below-append}
+use Rattle.lists.specs.Below.{Below}
+use Rattle.lists.proofs.Below.{below-append}
 use Rattle.ratio_format.specs.Windows.{push, windowOf}
 use Rattle.ratio_format.specs.Forms.{coded}
 use Rattle.ratio_format.specs.Bodies.{codedFrom}

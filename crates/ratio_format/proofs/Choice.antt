@@ -12,66 +12,66 @@ use lib.Bits.{bitXor, xor-lt}
 use lib.Dec.{lit<, eqb, leb, ltb}
 use lib.ListN.{length, getD}
 use borrow.Author.Tests.{ltb-true, ltb-false, eqb-true, eqb-false, leb-true, leb-false, lt-leb, le-leb, lt-ltb, le-ltb}
-use Rattle.bits.specs.Below.{Below}
-use Rattle.bits.proofs.Below.{below-at}
-use Rattle.ratio_format.specs.declared.Form.{Form}
-use Rattle.ratio_format.specs.declared.Form.the-variants.{Reference, Xor, Exception}
-use Rattle.ratio_format.specs.Zeros.{leadZeros, trailZeros, score}
+use Rattle.lists.specs.Below.{Below}
+use Rattle.lists.proofs.Below.{below-at}
+use Rattle.ratio_format.specs.declared.RatioForm.{RatioForm}
+use Rattle.ratio_format.specs.declared.RatioForm.the-variants.{Reference, Xor, Exception}
+use Rattle.ratio_format.specs.Zeros.{leadZeros, trailZeros, sumOf}
 use Rattle.ratio_format.specs.Forms.{Fit}
-use Rattle.ratio_format.specs.Choice.{Best, newer, best, find, form, xorForm}
+use Rattle.ratio_format.specs.Choice.{Best, newer, best, find, ratioForm, xorForm}
 use Rattle.ratio_format.proofs.Zeros.{trail-le, middle-fits}
-use Rattle.ratio_format.proofs.Score.{score-same, score-other}
+use Rattle.ratio_format.proofs.Score.{sum-same, sum-other}
 
 -- the best of a window and one newer ratio, by the test of their sums
 abbrev byTest : Bool → ℕ → Best → Best
 byTest t s b = cond t (record { place = 0; sum = s }) (record { place = b .place + 1; sum = b .sum })
 
 -- the best place is in the window and has the best sum
-pub best-at : (v : ℕ) (w : List ℕ) → 0 < best v w .sum → (best v w .place < length w) × (score v (getD w (best v w .place) 0) ≡ best v w .sum)
+pub best-at : (v : ℕ) (w : List ℕ) → 0 < best v w .sum → (best v w .place < length w) × (sumOf v (getD w (best v w .place) 0) ≡ best v w .sum)
 unfolding best
 best-at v [] h = absurd (omega arith)
-best-at v (u ∷ w) h = go (best-at v w) (leb (best v w .sum) (score v u)) h
+best-at v (u ∷ w) h = go (best-at v w) (leb (best v w .sum) (sumOf v u)) h
   where
-    go : (0 < best v w .sum → (best v w .place < length w) × (score v (getD w (best v w .place) 0) ≡ best v w .sum))
-        → (t : Bool) → let b = byTest t (score v u) (best v w) in
-        0 < b .sum → (b .place < length (u ∷ w)) × (score v (getD (u ∷ w) (b .place) 0) ≡ b .sum)
+    go : (0 < best v w .sum → (best v w .place < length w) × (sumOf v (getD w (best v w .place) 0) ≡ best v w .sum))
+        → (t : Bool) → let b = byTest t (sumOf v u) (best v w) in
+        0 < b .sum → (b .place < length (u ∷ w)) × (sumOf v (getD (u ∷ w) (b .place) 0) ≡ b .sum)
     go ih true h = (omega arith, refl)
     go ih false h = let r = ih h in (omega (arith, r .0), rw add-one (r .1))
 
 -- no sum of the window is larger
-pub best-most : (v : ℕ) (w : List ℕ) (i : ℕ) → i < length w → score v (getD w i 0) ≤ best v w .sum
+pub best-most : (v : ℕ) (w : List ℕ) (i : ℕ) → i < length w → sumOf v (getD w i 0) ≤ best v w .sum
 unfolding best
 best-most v [] i h = absurd (omega arith)
-best-most v (u ∷ w) i h = go (best-most v w) (leb (best v w .sum) (score v u)) refl i h
+best-most v (u ∷ w) i h = go (best-most v w) (leb (best v w .sum) (sumOf v u)) refl i h
   where
-    go : ((j : ℕ) → j < length w → score v (getD w j 0) ≤ best v w .sum) → (t : Bool) → leb (best v w .sum) (score v u) ≡ t
-        → (i : ℕ) → i < suc (length w) → score v (getD (u ∷ w) i 0) ≤ byTest t (score v u) (best v w) .sum
+    go : ((j : ℕ) → j < length w → sumOf v (getD w j 0) ≤ best v w .sum) → (t : Bool) → leb (best v w .sum) (sumOf v u) ≡ t
+        → (i : ℕ) → i < suc (length w) → sumOf v (getD (u ∷ w) i 0) ≤ byTest t (sumOf v u) (best v w) .sum
     go ih true e zero h = omega arith
-    go ih true e (suc i) h = omega (arith, ih i (omega arith), leb-true (best v w .sum) (score v u) e)
-    go ih false e zero h = omega (arith, leb-false (best v w .sum) (score v u) e)
+    go ih true e (suc i) h = omega (arith, ih i (omega arith), leb-true (best v w .sum) (sumOf v u) e)
+    go ih false e zero h = omega (arith, leb-false (best v w .sum) (sumOf v u) e)
     go ih false e (suc i) h = ih i (omega arith)
 
 -- and each at a smaller place is smaller
-pub best-first : (v : ℕ) (w : List ℕ) (i : ℕ) → i < best v w .place → score v (getD w i 0) < best v w .sum
+pub best-first : (v : ℕ) (w : List ℕ) (i : ℕ) → i < best v w .place → sumOf v (getD w i 0) < best v w .sum
 unfolding best
 best-first v [] i h = absurd (omega arith)
-best-first v (u ∷ w) i h = go (best-first v w) (leb (best v w .sum) (score v u)) refl i h
+best-first v (u ∷ w) i h = go (best-first v w) (leb (best v w .sum) (sumOf v u)) refl i h
   where
-    go : ((j : ℕ) → j < best v w .place → score v (getD w j 0) < best v w .sum) → (t : Bool) → leb (best v w .sum) (score v u) ≡ t
-        → let b = byTest t (score v u) (best v w) in
-        (i : ℕ) → i < b .place → score v (getD (u ∷ w) i 0) < b .sum
+    go : ((j : ℕ) → j < best v w .place → sumOf v (getD w j 0) < best v w .sum) → (t : Bool) → leb (best v w .sum) (sumOf v u) ≡ t
+        → let b = byTest t (sumOf v u) (best v w) in
+        (i : ℕ) → i < b .place → sumOf v (getD (u ∷ w) i 0) < b .sum
     go ih true e i h = absurd (omega arith)
-    go ih false e zero h = leb-false (best v w .sum) (score v u) e
+    go ih false e zero h = leb-false (best v w .sum) (sumOf v u) e
     go ih false e (suc i) h = ih i (omega arith)
 
 -- one newer ratio, by the sums
-pub best-wins : (v u : ℕ) (w : List ℕ) {p s : ℕ} → best v w ≡ record { place = p; sum = s } → s ≤ score v u → best v (u ∷ w) ≡ record { place = 0; sum = score v u }
+pub best-wins : (v u : ℕ) (w : List ℕ) {p s : ℕ} → best v w ≡ record { place = p; sum = s } → s ≤ sumOf v u → best v (u ∷ w) ≡ record { place = 0; sum = sumOf v u }
 unfolding best
-best-wins v u w {p} {s} e h = rw (e, le-leb s (score v u) h)
+best-wins v u w {p} {s} e h = rw (e, le-leb s (sumOf v u) h)
 
-pub best-stays : (v u : ℕ) (w : List ℕ) {p s : ℕ} → best v w ≡ record { place = p; sum = s } → score v u < s → best v (u ∷ w) ≡ record { place = p + 1; sum = s }
+pub best-stays : (v u : ℕ) (w : List ℕ) {p s : ℕ} → best v w ≡ record { place = p; sum = s } → sumOf v u < s → best v (u ∷ w) ≡ record { place = p + 1; sum = s }
 unfolding best
-best-stays v u w {p} {s} e h = rw (e, lt-leb s (score v u) h)
+best-stays v u w {p} {s} e h = rw (e, lt-leb s (sumOf v u) h)
 
 -- the ratio stands at the place that is found
 pub find-at : (v : ℕ) (w : List ℕ) → find v w < length w → getD w (find v w) 0 ≡ v
@@ -115,31 +115,31 @@ unfolding best find Below
 found v [] hv ha = inr (omega arith, refl)
 found v (u ∷ w) hv ha = go (found v w hv (ha .1)) (eqb v u) refl
   where
-    other : eqb v u ≡ false → score v u < 8
-    other e = score-other v u hv (ha .0) (eqb-false v u e)
+    other : eqb v u ≡ false → sumOf v u < 8
+    other e = sum-other v u hv (ha .0) (eqb-false v u e)
 
-    late : best v w .sum < 8 → find v w ≡ length w → score v u < 8 → (t : Bool)
-        → let b = byTest t (score v u) (best v w) in
+    late : best v w .sum < 8 → find v w ≡ length w → sumOf v u < 8 → (t : Bool)
+        → let b = byTest t (sumOf v u) (best v w) in
         FoundAt (b .sum) (b .place) (find v w + 1) (suc (length w))
     late a e o true = inr (o, omega arith)
     late a e o false = inr (a, omega arith)
 
     go : FoundAt (best v w .sum) (best v w .place) (find v w) (length w) → (t : Bool) → eqb v u ≡ t
-        → FoundAt (newer (score v u) (best v w) .sum) (newer (score v u) (best v w) .place) (cond t 0 (find v w + 1)) (suc (length w))
+        → FoundAt (newer (sumOf v u) (best v w) .sum) (newer (sumOf v u) (best v w) .place) (cond t 0 (find v w + 1)) (suc (length w))
     go ih true e =
-        let q : score v u ≡ 16 = ap (score v) (sym (eqb-true v u e)) ∙ score-same v in
-        rw (le-leb (best v w .sum) (score v u) (⊎-elim (λ a. omega arith) (λ b. omega arith) ih)) (inl (q, refl, omega arith))
-    go (inl a) false e = rw (lt-leb (best v w .sum) (score v u) (omega (arith, other e))) (inl (a .0, omega arith, omega arith))
-    go (inr b) false e = late (b .0) (b .1) (other e) (leb (best v w .sum) (score v u))
+        let q : sumOf v u ≡ 16 = ap (sumOf v) (sym (eqb-true v u e)) ∙ sum-same v in
+        rw (le-leb (best v w .sum) (sumOf v u) (⊎-elim (λ a. omega arith) (λ b. omega arith) ih)) (inl (q, refl, omega arith))
+    go (inl a) false e = rw (lt-leb (best v w .sum) (sumOf v u) (omega (arith, other e))) (inl (a .0, omega arith, omega arith))
+    go (inr b) false e = late (b .0) (b .1) (other e) (leb (best v w .sum) (sumOf v u))
 
 -- the xor form by the best's place and sum, where x is the xor
-abbrev pub xorOf : Best → ℕ → Form
+abbrev pub xorOf : Best → ℕ → RatioForm
 xorOf b x = Xor (b .place) (trailZeros x) (8 - b .sum) (x / 256 ^ trailZeros x)
 
 -- the form, by the best alone
 module _ (v : ℕ) (w : List ℕ) (hv : v < 2 ^ 64) (ha : Below (2 ^ 64) w) where
-  pub form-reference : best v w .sum ≡ 16 → form v w ≡ Reference (best v w .place)
-  unfolding form
+  pub form-reference : best v w .sum ≡ 16 → ratioForm v w ≡ Reference (best v w .place)
+  unfolding ratioForm
   form-reference e =
       ⊎-elim
       (λ a. rw (lt-ltb (find v w) (length w) (a .2)) (ap Reference (a .1)))
@@ -150,14 +150,14 @@ module _ (v : ℕ) (w : List ℕ) (hv : v < 2 ^ 64) (ha : Below (2 ^ 64) w) wher
   small n = ⊎-elim (λ a. absurd (n (a .0))) (λ b. (b .0, le-ltb (find v w) (length w) (omega arith))) (found v w hv ha)
 
   pub form-xor : (best v w .sum ≡ 16 → ⊥) → 2 ≤ best v w .sum
-      → form v w ≡ xorOf (best v w) (bitXor v (getD w (best v w .place) 0))
-  unfolding form score
+      → ratioForm v w ≡ xorOf (best v w) (bitXor v (getD w (best v w .place) 0))
+  unfolding ratioForm sumOf
   form-xor n h =
       rw (small n .1, le-leb 2 (best v w .sum) h)
       (let x = bitXor v (getD w (best v w .place) 0) in ap (λ (s : ℕ). Xor (best v w .place) (trailZeros x) (8 - s) (x / 256 ^ trailZeros x)) (best-at v w (omega arith) .1))
 
-  pub form-exception : best v w .sum < 2 → form v w ≡ Exception
-  unfolding form
+  pub form-exception : best v w .sum < 2 → ratioForm v w ≡ Exception
+  unfolding ratioForm
   form-exception h = rw (small (λ e. omega arith) .1, lt-leb 2 (best v w .sum) h)
 
   -- a sum other than 16 is below 8
@@ -169,12 +169,12 @@ module _ (v : ℕ) (w : List ℕ) where
   abbrev pub bestXor : ℕ
   bestXor = bitXor v (getD w (best v w .place) 0)
 
-  pub form-cases : (P : Form → Type 0)
+  pub form-cases : (P : RatioForm → Type 0)
       → (find v w < length w → P (Reference (find v w)))
       → (length w ≤ find v w → 2 ≤ best v w .sum → P (xorForm (best v w .place) bestXor))
       → (length w ≤ find v w → best v w .sum < 2 → P Exception)
-      → P (form v w)
-  unfolding form
+      → P (ratioForm v w)
+  unfolding ratioForm
   form-cases P ref xor exc = go (ltb (find v w) (length w)) refl (leb 2 (best v w .sum)) refl
     where
       go : (t : Bool) → ltb (find v w) (length w) ≡ t → (s : Bool) → leb 2 (best v w .sum) ≡ s
@@ -185,7 +185,7 @@ module _ (v : ℕ) (w : List ℕ) where
 
   -- the xor at the best place has the best sum
   pub best-xor : 2 ≤ best v w .sum → leadZeros bestXor + trailZeros bestXor ≡ best v w .sum
-  unfolding score
+  unfolding sumOf
   best-xor h = best-at v w (omega arith) .1
 
   -- a ratio that is not in the window has a best sum below 8
@@ -196,19 +196,19 @@ module _ (v : ℕ) (w : List ℕ) where
   pub find-lt : (p : ℕ) → p < length w → getD w p 0 ≡ v → find v w < length w
   find-lt p h e = lt-of-not-le (λ (g : length w ≤ find v w). find-first v w p (omega arith) e)
 
-pub form-fit : (v : ℕ) (w : List ℕ) → Fit (length w) (form v w)
+pub form-fit : (v : ℕ) (w : List ℕ) → Fit (length w) (ratioForm v w)
 form-fit v w =
     form-cases v w (Fit (length w)) (λ h. h)
     (λ h g. (best-at v w (omega arith) .0, trail-le (bestXor v w), omega (arith, best-xor v w g)))
     (λ h g. tt)
 
 -- Of ratios of 64 bits: the middle has a byte or more, the counts leave room for it, and it fits its bytes.
-abbrev pub Tight : Form → Type 0
+abbrev pub Tight : RatioForm → Type 0
 Tight (Reference p) = Unit {0}
 Tight (Xor p t k m) = (1 ≤ k) × (t + k ≤ 8) × (m < 256 ^ k)
 Tight Exception = Unit {0}
 
-pub form-tight : (v : ℕ) (w : List ℕ) → v < 2 ^ 64 → Below (2 ^ 64) w → Tight (form v w)
+pub form-tight : (v : ℕ) (w : List ℕ) → v < 2 ^ 64 → Below (2 ^ 64) w → Tight (ratioForm v w)
 form-tight v w hv ha =
     form-cases v w Tight (λ h. tt)
     (λ h g.

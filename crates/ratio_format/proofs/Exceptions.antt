@@ -10,10 +10,10 @@ use lib.Count.{under}
 use lib.Dec.{lit<}
 use lib.ListN.{length, getD, take, length-append, length-take, length-reverse}
 use lib.Seq.{take-length, getD-take, length-take-le}
-use Rattle.bits.specs.Below.{Below}
+use Rattle.lists.specs.Below.{Below}
 use Rattle.bits.specs.Digits.{digitsOf}
-use Rattle.bits.proofs.Below.{below-at, below-take}
-use Rattle.ratio_format.specs.Zeros.{zerosAt, leadZeros, trailZeros, score}
+use Rattle.lists.proofs.Below.{below-at, below-take}
+use Rattle.ratio_format.specs.Zeros.{zerosAt, leadZeros, trailZeros, sumOf}
 use Rattle.ratio_format.specs.Windows.{windowOf}
 use Rattle.ratio_format.specs.Choice.{best}
 use Rattle.ratio_format.specs.Forms.{coded}
@@ -47,9 +47,9 @@ module _ (v u : ℕ) where
       ∙ under-none (bitXor v u % 256) _ (λ e. n (xor-zero (v % 2 ^ 8) (u % 2 ^ 8) (sym (xor-mod v u 8) ∙ e)))
 
   -- the sum of such a pair
-  pub score-apart : v < 2 ^ 64 → u < 2 ^ 64 → Apart v u → score v u ≡ 0
-  unfolding score
-  score-apart hv hu a = omega (arith, lead-none hv hu (a .0), trail-none (a .1))
+  pub sum-apart : v < 2 ^ 64 → u < 2 ^ 64 → Apart v u → sumOf v u ≡ 0
+  unfolding sumOf
+  sum-apart hv hu a = omega (arith, lead-none hv hu (a .0), trail-none (a .1))
 
 -- a ratio that is apart from every ratio of its window is an exception
 pub nine-apart : (v : ℕ) (w : List ℕ) → v < 2 ^ 64 → Below (2 ^ 64) w → ((p : ℕ) → p < length w → Apart v (getD w p 0)) → length (coded v w) ≡ 9
@@ -58,7 +58,7 @@ nine-apart v w hv ha apart =
     lt-of-not-le
     (λ (g : 2 ≤ best v w .sum).
     let b = best-at v w (omega arith) in
-    omega (arith, b .1, score-apart v (getD w (best v w .place) 0) hv (below-at (2 ^ 64) (lit< tt) w ha (best v w .place)) (apart (best v w .place) (b .0)))) in
+    omega (arith, b .1, sum-apart v (getD w (best v w .place) 0) hv (below-at (2 ^ 64) (lit< tt) w ha (best v w .place)) (apart (best v w .place) (b .0)))) in
     coded-is v w ∙ ap formLen (form-exception v w hv ha none)
 
 -- ratios of which each is apart from those before it, as many as a window holds

@@ -8,10 +8,11 @@ use lib.Dec.{leb, ltb, eqb}
 use lib.ListN.{length, drop, take, replicate}
 use lib.Seq.{take-at}
 use borrow.Author.Tests.{ltb-false, leb-false, eqb-true, eq-eqb, not-false, le-ltb, lt-leb}
-use Rattle.bounds.specs.declared.Refusal.{Refusal}
-use Rattle.bounds.specs.Points.{maxPoints}
-use Rattle.bounds.specs.Tests.{none, zeros, over}
-use Rattle.bounds.proofs.Tests.{first-here, first-skip, first-end}
+use Rattle.refusals.specs.declared.Refusal.{Refusal}
+use Rattle.limits.specs.Points.{maxPoints}
+use Rattle.refusals.specs.Tests.{noRefusal}
+use Rattle.outputs.specs.Outputs.{zeros, over}
+use Rattle.refusals.proofs.Tests.{first-here, first-skip, first-end}
 use Rattle.ratio_format.specs.declared.Window.{Window}
 use Rattle.ratio_format.specs.declared.Live.{Live}
 use Rattle.ratio_format.specs.declared.AddAnswer.{AddAnswer}
@@ -64,7 +65,7 @@ module _ (s : Live) (v : ℕ) (o : List ℕ) where
   unfolding addRefusal
   add-short b m r = first-skip _ _ b ∙ first-skip _ _ m ∙ first-here _ _ r
 
-  pub add-none : badLive s ≡ false → leb maxPoints (s .seen) ≡ false → ltb (length o) (length (addBytes s v)) ≡ false → addRefusal s v o ≡ none
+  pub add-none : badLive s ≡ false → leb maxPoints (s .seen) ≡ false → ltb (length o) (length (addBytes s v)) ≡ false → addRefusal s v o ≡ noRefusal
   unfolding addRefusal
   add-none b m r = first-skip _ _ b ∙ first-skip _ _ m ∙ first-skip _ _ r ∙ first-end
 
@@ -75,7 +76,7 @@ module _ (s : Live) (v : ℕ) (o : List ℕ) where
   add-refused n z e = (simp (e, z), simp (e, z), simp (e, z))
 
   -- a success
-  pub add-good : addRefusal s v o ≡ none
+  pub add-good : addRefusal s v o ≡ noRefusal
       → (addAnswer s v o ≡ record { number = 0; place = 0; length = length (addBytes s v) })
       × (addState s v o ≡ record { window = pushed (s .window) v; seen = s .seen + 1 })
       × (addOutput s v o ≡ over (addBytes s v) o)
@@ -85,7 +86,7 @@ module _ (s : Live) (v : ℕ) (o : List ℕ) where
   -- one or the other
   pub data Outcome : Type 0 where
     no : (n : ℕ) → eqb n 0 ≡ false → addRefusal s v o ≡ refusalBy n → Outcome
-    yes : badLive s ≡ false → s .seen < maxPoints → length (addBytes s v) ≤ length o → addRefusal s v o ≡ none → Outcome
+    yes : badLive s ≡ false → s .seen < maxPoints → length (addBytes s v) ≤ length o → addRefusal s v o ≡ noRefusal → Outcome
 
   pub outcome : Outcome
   outcome = go (badLive s) refl (leb maxPoints (s .seen)) refl (ltb (length o) (length (addBytes s v))) refl
@@ -98,7 +99,7 @@ module _ (s : Live) (v : ℕ) (o : List ℕ) where
           yes b (leb-false maxPoints (s .seen) m) (ltb-false (length o) (length (addBytes s v)) r) (add-none b m r)
 
   -- where no test applies
-  pub add-fits : badLive s ≡ false → s .seen < maxPoints → 9 ≤ length o → addRefusal s v o ≡ none
+  pub add-fits : badLive s ≡ false → s .seen < maxPoints → 9 ≤ length o → addRefusal s v o ≡ noRefusal
   add-fits b m h =
       add-none b (lt-leb maxPoints (s .seen) m) (le-ltb (length o) (length (addBytes s v)) (omega (arith, coded-length v (held (s .window)) .1)))
 
@@ -123,7 +124,7 @@ module _ (s : Live) (t : Tick) where
   bytes-no : (n : ℕ) → eqb n 0 ≡ false → addRefusal s (t .ratio) (t .output) ≡ refusalBy n → tickBytes s t ≡ []
   bytes-no n z e = rw (add-refused s (t .ratio) (t .output) n z e .0)
 
-  bytes-yes : addRefusal s (t .ratio) (t .output) ≡ none → tickBytes s t ≡ coded (t .ratio) (held (s .window))
+  bytes-yes : addRefusal s (t .ratio) (t .output) ≡ noRefusal → tickBytes s t ≡ coded (t .ratio) (held (s .window))
   bytes-yes e =
       let b = addBytes s (t .ratio) in
       let g = add-good s (t .ratio) (t .output) e in
@@ -138,7 +139,7 @@ size-stays s v o h = go (outcome s v o)
     go (yes b m r e) = rw (add-good s v o e .1) (pushed-size (s .window) v h)
 
 -- after a success the ratio is the window's newest
-pub held-added : (s : Live) (v : ℕ) (o : List ℕ) → length (s .window .ratios) ≡ windowSize → badLive s ≡ false → addRefusal s v o ≡ none
+pub held-added : (s : Live) (v : ℕ) (o : List ℕ) → length (s .window .ratios) ≡ windowSize → badLive s ≡ false → addRefusal s v o ≡ noRefusal
     → held (addState s v o .window) ≡ push windowSize v (held (s .window))
 held-added s v o h b e =
     let f = good-fill (s .window) (s .seen) (good-live s b .0) in
@@ -173,7 +174,7 @@ live-joined ts = joined-from freshLive ts refl
 
 -- and none is refused while there are at most 4,096 and each output has nine cells
 module _ (s : Live) (t : Tick) (b : badLive s ≡ false) (h : s .seen < maxPoints) (g : 9 ≤ length (t .output)) where
-  fits : addRefusal s (t .ratio) (t .output) ≡ none
+  fits : addRefusal s (t .ratio) (t .output) ≡ noRefusal
   fits = add-fits s (t .ratio) (t .output) b h g
 
   number-fits : addAnswer s (t .ratio) (t .output) .number ≡ 0

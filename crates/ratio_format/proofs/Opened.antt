@@ -10,14 +10,14 @@ use lib.Dec.{lit<, leb, ltb}
 use lib.ListN.{length, getD, take, drop, length-drop}
 use lib.Seq.{length-take-le}
 use borrow.Author.Tests.{ltb-true, leb-true}
-use Rattle.bits.specs.Below.{Below}
+use Rattle.lists.specs.Below.{Below}
 use Rattle.bits.specs.Digits.{numberOf}
-use Rattle.bits.proofs.Below.{below-at, below-take, below-drop}
+use Rattle.lists.proofs.Below.{below-at, below-take, below-drop}
 use Rattle.bits.proofs.Digits.{number-lt}
-use Rattle.ratio_format.specs.declared.Form.{Form}
+use Rattle.ratio_format.specs.declared.RatioForm.{RatioForm}
 use Rattle.ratio_format.specs.declared.Read.{Read}
-use Rattle.ratio_format.specs.declared.Read.the-variants.{Ratio, Refused}
-use Rattle.ratio_format.specs.Zeros.{score}
+use Rattle.ratio_format.specs.declared.Read.the-variants.{Ratio, Nothing}
+use Rattle.ratio_format.specs.Zeros.{sumOf}
 use Rattle.ratio_format.specs.Forms.{coded}
 use Rattle.ratio_format.specs.Open.{openRead, openXor}
 use Rattle.ratio_format.proofs.Zeros.{raised-fits, zeros-most}
@@ -36,7 +36,7 @@ module _ (w : List ℕ) (v k : ℕ) where
   abbrev When : Read → Type 0
   When r = r ≡ Ratio v k
 
-  never : {A : Type 0} → When Refused → A
+  never : {A : Type 0} → When Nothing → A
   never e = let z : _≡_ {A = ℕ} 0 1 = cc in absurd (omega arith)
 
   xor-opened : (b p : ℕ) (s : List ℕ) → p < length w → When (openXor (getD w p 0) s) → Opened w (b ∷ s) v k
@@ -45,7 +45,7 @@ module _ (w : List ℕ) (v k : ℕ) where
   xor-opened b p (c ∷ s) h e = go (leb (c / 16 + c % 16) 8) refl (leb (c % 16) (length s)) refl e
     where
       go : (x : Bool) → leb (c / 16 + c % 16) 8 ≡ x → (y : Bool) → leb (c % 16) (length s) ≡ y
-          → When (cond x (cond y (Ratio (bitXor (numberOf 256 (take (c % 16) s) * 256 ^ (c / 16)) (getD w p 0)) (c % 16 + 2)) Refused) Refused)
+          → When (cond x (cond y (Ratio (bitXor (numberOf 256 (take (c % 16) s) * 256 ^ (c / 16)) (getD w p 0)) (c % 16 + 2)) Nothing) Nothing)
           → Opened w (b ∷ c ∷ s) v k
       go true f true g e =
           xored p (c / 16) (c % 16) h (leb-true (c / 16 + c % 16) 8 f) (omega (arith, leb-true (c % 16) (length s) g)) (cc) (cc)
@@ -59,8 +59,8 @@ module _ (w : List ℕ) (v k : ℕ) where
       go (ltb b 128) (ltb b (length w)) refl (ltb b 255) (ltb (b - 128) (length w)) refl (leb 8 (length s)) refl e
     where
       go : (x y : Bool) → ltb b (length w) ≡ y → (f g : Bool) → ltb (b - 128) (length w) ≡ g → (n : Bool) → leb 8 (length s) ≡ n
-          → When (cond x (cond y (Ratio (getD w b 0) 1) Refused)
-          (cond f (cond g (openXor (getD w (b - 128) 0) s) Refused) (cond n (Ratio (numberOf 256 (take 8 s)) 9) Refused)))
+          → When (cond x (cond y (Ratio (getD w b 0) 1) Nothing)
+          (cond f (cond g (openXor (getD w (b - 128) 0) s) Nothing) (cond n (Ratio (numberOf 256 (take 8 s)) 9) Nothing)))
           → Opened w (b ∷ s) v k
       go true true y f g eg n en e = referred b (ltb-true b (length w) y) (omega arith) (cc) (cc)
       go true false y f g eg n en e = never e
@@ -100,10 +100,10 @@ module _ (w s : List ℕ) (v k : ℕ) (hs : Below 256 s) (ha : Below (2 ^ 64) w)
 
   -- the bytes that are written for the ratio are no more
   short-of : Opened w s v k → length (coded v w) ≤ k
-  unfolding score
+  unfolding sumOf
   short-of (referred p h g e q) =
       rw coded-is
-      (form-cases v w (λ (f : Form). formLen f ≤ k)
+      (form-cases v w (λ (f : RatioForm). formLen f ≤ k)
       (λ _. omega arith)
       (λ l _. absurd (omega (arith, find-lt v w p h (sym e))))
       (λ l _. absurd (omega (arith, find-lt v w p h (sym e)))))
@@ -111,10 +111,10 @@ module _ (w s : List ℕ) (v k : ℕ) (hs : Below 256 s) (ha : Below (2 ^ 64) w)
       let m = numberOf 256 (take n (drop 2 s)) in
       let u = getD w p 0 in
       let x : bitXor v u ≡ m * 256 ^ t = ap (λ (y : ℕ). bitXor y u) e ∙ xor-back (m * 256 ^ t) u in
-      let z : 8 - n ≤ score v u = rw x (zeros-most m n t (part-lt n 2 s hs f) g) in
+      let z : 8 - n ≤ sumOf v u = rw x (zeros-most m n t (part-lt n 2 s hs f) g) in
       let b = best-most v w p h in
       rw coded-is
-      (form-cases v w (λ (f : Form). formLen f ≤ k)
+      (form-cases v w (λ (f : RatioForm). formLen f ≤ k)
       (λ _. omega arith)
       (λ _ i. omega (arith, best-xor v w i))
       (λ _ i. omega arith))

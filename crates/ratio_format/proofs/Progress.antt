@@ -5,7 +5,7 @@ use mathlib.Core.Option.{Option, none, some}
 use Prim.Native.Nat.{ℕ, zero, suc, _+_, _≤_, _<_}
 use lib.ListN.{length, drop, drop-of-length-le}
 use lib.Seq.{append-snoc, take-nil, drop-cons, drop-drop}
-use Rattle.ratio_format.specs.declared.Read.the-variants.{Ratio, Refused}
+use Rattle.ratio_format.specs.declared.Read.the-variants.{Ratio, Nothing}
 use Rattle.ratio_format.specs.Windows.{push, windowOf}
 use Rattle.ratio_format.specs.Bodies.{before}
 use Rattle.ratio_format.proofs.Windows.{window-snoc}
@@ -43,7 +43,7 @@ module _ (rule : Rule) (size : ℕ) where
         ∙ ap₂ (λ (w t : List ℕ). behind (vs ++ (v ∷ [])) (readFrom rule size w n t)) (sym (window-snoc size vs v)) (drop-drop k at s)
 
     -- no ratio
-    pub left-refused : rule (windowOf size vs) (drop at s) ≡ Refused → leftFrom rule size vs (suc n) s at ≡ none
+    pub left-refused : rule (windowOf size vs) (drop at s) ≡ Nothing → leftFrom rule size vs (suc n) s at ≡ none
     unfolding readFrom
     left-refused e = rw e
 

@@ -7,10 +7,10 @@ use Prim.Native.Nat.{ℕ, zero, suc, _^_, _≤_, _<_}
 use native.Mathlib.Omega.{arith}
 use lib.ListN.{length, drop}
 use lib.Seq.{drop-at}
-use Rattle.bits.specs.Below.{Below}
-use Rattle.bits.proofs.Below.{below-drop}
+use Rattle.lists.specs.Below.{Below}
+use Rattle.lists.proofs.Below.{below-drop}
 use Rattle.ratio_format.specs.declared.Read.{Read}
-use Rattle.ratio_format.specs.declared.Read.the-variants.{Ratio, Refused}
+use Rattle.ratio_format.specs.declared.Read.the-variants.{Ratio, Nothing}
 use Rattle.ratio_format.specs.Windows.{push}
 use Rattle.ratio_format.specs.Forms.{coded}
 use Rattle.ratio_format.specs.Open.{openRead}
@@ -35,7 +35,7 @@ open-is size w (suc n) s = go (λ v k. open-is size (push size v w) n (drop k s)
   where
     go : ((v k : ℕ) → openFrom size (push size v w) n (drop k s) ≡ readFrom openRead size (push size v w) n (drop k s)) → (r : Read)
         → onRatio r (λ v k. before v (openFrom size (push size v w) n (drop k s))) ≡ onRatio r (λ v k. before v (readFrom openRead size (push size v w) n (drop k s)))
-    go ih Refused = refl
+    go ih Nothing = refl
     go ih (Ratio v k) = ap (before v) (ih v k)
 
 -- the rule reads what is written for one ratio, whatever follows
@@ -73,7 +73,7 @@ module _ (rule : Rule) (size : ℕ) where
       at v k q (some us) f e = record { ratio = v; used = k; others = us; reads = q; goes = f; is = cc }
 
       go : (r : Read) → rule w s ≡ r → onRatio r (λ v k. before v (readFrom rule size (push size v w) n (drop k s))) ≡ some vs → FirstOf rule size w n s vs
-      go Refused q e = let z : _≡_ {A = ℕ} 0 1 = cc in absurd (omega arith)
+      go Nothing q e = let z : _≡_ {A = ℕ} 0 1 = cc in absurd (omega arith)
       go (Ratio v k) q e = at v k q (readFrom rule size (push size v w) n (drop k s)) refl e
 
   -- no ratios are read from no bytes only

@@ -9,17 +9,17 @@ use lib.Dec.{lit<}
 use lib.ListN.{length, getD, length-append}
 use lib.Seq.{take-at}
 use borrow.Author.Tests.{lt-ltb, le-ltb, le-leb}
-use Rattle.bits.specs.Below.{Below}
-use Rattle.bits.specs.Compare.{begins}
+use Rattle.lists.specs.Below.{Below}
+use Rattle.lists.specs.Compare.{begins}
 use Rattle.bits.specs.Digits.{bytesOf}
-use Rattle.bits.proofs.Below.{below-at}
-use Rattle.bits.proofs.Compare.{begins-own, begins-rest}
+use Rattle.lists.proofs.Below.{below-at}
+use Rattle.lists.proofs.Compare.{begins-own, begins-rest}
 use Rattle.bits.proofs.Digits.{length-digits, number-digits-lt}
-use Rattle.ratio_format.specs.declared.Form.{Form}
+use Rattle.ratio_format.specs.declared.RatioForm.{RatioForm}
 use Rattle.ratio_format.specs.declared.Read.{Read}
-use Rattle.ratio_format.specs.declared.Read.the-variants.{Ratio, Refused}
+use Rattle.ratio_format.specs.declared.Read.the-variants.{Ratio, Nothing}
 use Rattle.ratio_format.specs.Zeros.{leadZeros, trailZeros}
-use Rattle.ratio_format.specs.Choice.{best, find, form}
+use Rattle.ratio_format.specs.Choice.{best, find, ratioForm}
 use Rattle.ratio_format.specs.Forms.{written, coded}
 use Rattle.ratio_format.specs.Open.{openRead, openXor, strictRead, strictOf}
 use Rattle.ratio_format.proofs.Zeros.{trail-factor, middle-fits}
@@ -49,10 +49,10 @@ module _ (w rest : List ℕ) (small : length w ≤ 127) where
       rw (le-leb 8 (length (bytesOf 8 v ++ rest)) (rw (length-append, length-digits) (omega arith)), take-at (bytesOf 8 v) rest 8 (length-digits 256 8 v), number-digits-lt (lit< tt) 8 h)
 
 module _ (v : ℕ) (w rest : List ℕ) (hv : v < 2 ^ 64) (ha : Below (2 ^ 64) w) (hw : length w ≤ 127) where
-  by-form : openRead w (written v (form v w) ++ rest) ≡ Ratio v (formLen (form v w))
+  by-form : openRead w (written v (ratioForm v w) ++ rest) ≡ Ratio v (formLen (ratioForm v w))
   unfolding written
   by-form =
-      form-cases v w (λ (f : Form). openRead w (written v f ++ rest) ≡ Ratio v (formLen f))
+      form-cases v w (λ (f : RatioForm). openRead w (written v f ++ rest) ≡ Ratio v (formLen f))
       (λ h. read-reference w rest hw v (find v w) h (find-at v w h))
       (λ h g.
       let b = best-at v w (omega arith) in
@@ -77,13 +77,13 @@ pub strict-open : (v n : ℕ) (w s : List ℕ) → strictRead w s ≡ Ratio v n 
 unfolding strictRead
 strict-open v n w s e = go (openRead w s) refl e
   where
-    at : (v′ n′ : ℕ) → openRead w s ≡ Ratio v′ n′ → (t : Bool) → begins (coded v′ w) s ≡ t → cond t (Ratio v′ n′) Refused ≡ Ratio v n
+    at : (v′ n′ : ℕ) → openRead w s ≡ Ratio v′ n′ → (t : Bool) → begins (coded v′ w) s ≡ t → cond t (Ratio v′ n′) Nothing ≡ Ratio v n
         → (openRead w s ≡ Ratio v n) × (begins (coded v w) s ≡ true)
     at v′ n′ q true b e = let i : v′ ≡ v = cc in (q ∙ e, rw i at b)
     at v′ n′ q false b e = let z : _≡_ {A = ℕ} 0 1 = cc in absurd (omega arith)
 
     go : (r : Read) → openRead w s ≡ r → strictOf w s r ≡ Ratio v n → (openRead w s ≡ Ratio v n) × (begins (coded v w) s ≡ true)
-    go Refused q e = let z : _≡_ {A = ℕ} 0 1 = cc in absurd (omega arith)
+    go Nothing q e = let z : _≡_ {A = ℕ} 0 1 = cc in absurd (omega arith)
     go (Ratio v′ n′) q e = at v′ n′ q (begins (coded v′ w) s) refl e
 
 -- and nothing else: a ratio that strict reading gives stands there as it is written

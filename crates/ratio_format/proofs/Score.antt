@@ -7,7 +7,7 @@ use lib.Arith.{bin-ind}
 use lib.Bits.{bitXor, differ, xor-self, xor-add-and, and-le-l, and-le-r, xor-lt, xor-step, xor-shr, xor-mod}
 use lib.Dec.{lit<}
 use Rattle.bits.specs.Digits.{digitsOf}
-use Rattle.ratio_format.specs.Zeros.{zerosAt, leadZeros, trailZeros, score}
+use Rattle.ratio_format.specs.Zeros.{zerosAt, leadZeros, trailZeros, sumOf}
 use Rattle.ratio_format.proofs.Zeros.{zeros-apart}
 
 -- only equal numbers have the xor 0
@@ -33,11 +33,11 @@ xor-back a =
     ∙ ap₂ (λ (x y : ℕ). x * 2 + y) (ih (b / 2)) (bit-back (n % 2) (b % 2) (mod-lt n (lit< tt)) (mod-lt b (lit< tt)))
     ∙ div-add-mod' n 2) a
 
-pub score-same : (v : ℕ) → score v v ≡ 16
-unfolding score zerosAt digitsOf leadZeros trailZeros
-score-same v = rw xor-self
+pub sum-same : (v : ℕ) → sumOf v v ≡ 16
+unfolding sumOf zerosAt digitsOf leadZeros trailZeros
+sum-same v = rw xor-self
 
-pub score-other : (v u : ℕ) → v < 2 ^ 64 → u < 2 ^ 64 → (v ≡ u → ⊥) → score v u < 8
-unfolding score
-score-other v u hv hu n =
+pub sum-other : (v u : ℕ) → v < 2 ^ 64 → u < 2 ^ 64 → (v ≡ u → ⊥) → sumOf v u < 8
+unfolding sumOf
+sum-other v u hv hu n =
     zeros-apart (bitXor v u) (lt-of-not-le (λ (g : bitXor v u ≤ 0). n (xor-zero v u (omega arith)))) (xor-lt 64 v u hv hu)

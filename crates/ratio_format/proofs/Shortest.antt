@@ -5,8 +5,8 @@ use mathlib.Core.Option.{some}
 use Prim.Native.Nat.{ℕ, zero, suc, _^_, _≤_}
 use native.Mathlib.Omega.{arith}
 use lib.ListN.{length, drop, length-append, length-drop}
-use Rattle.bits.specs.Below.{Below}
-use Rattle.bits.proofs.Below.{below-drop}
+use Rattle.lists.specs.Below.{Below}
+use Rattle.lists.proofs.Below.{below-drop}
 use Rattle.ratio_format.specs.Windows.{push}
 use Rattle.ratio_format.specs.Open.{openRead}
 use Rattle.ratio_format.specs.Bodies.{codedFrom, openFrom}

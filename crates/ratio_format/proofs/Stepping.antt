@@ -9,13 +9,13 @@ use lib.Dec.{ltb, eqb}
 use lib.ListN.{length, getD, drop, replicate, length-drop}
 use lib.Seq.{drop-at, drop-drop, drop-length}
 use borrow.Author.Tests.{ltb-true, ltb-false, eqb-true, eqb-false, eq-eqb, ne-eqb, lt-ltb, le-ltb}
-use Rattle.bits.specs.Below.{Below}
-use Rattle.bits.proofs.Below.{below-drop}
-use Rattle.bounds.specs.Points.{maxPoints}
-use Rattle.bounds.specs.Tests.{none}
-use Rattle.bounds.proofs.Tests.{first-here, first-skip, first-end}
+use Rattle.lists.specs.Below.{Below}
+use Rattle.lists.proofs.Below.{below-drop}
+use Rattle.limits.specs.Points.{maxPoints}
+use Rattle.refusals.specs.Tests.{noRefusal}
+use Rattle.refusals.proofs.Tests.{first-here, first-skip, first-end}
 use Rattle.ratio_format.specs.declared.Read.{Read}
-use Rattle.ratio_format.specs.declared.Read.the-variants.{Ratio, Refused}
+use Rattle.ratio_format.specs.declared.Read.the-variants.{Ratio, Nothing}
 use Rattle.ratio_format.specs.declared.Cursor.{Cursor}
 use Rattle.ratio_format.specs.declared.StepAnswer.{StepAnswer}
 use Rattle.ratio_format.specs.Windows.{windowSize, freshWindow, push, held, pushed}
@@ -89,13 +89,13 @@ module _ (b : List ℕ) (c : Cursor) where
       let e = eq-eqb (c .seen) (c .count) s in
       first-skip _ _ g ∙ first-skip _ _ (rw e (ne-eqb (c .place) (length b) p)) ∙ first-here _ _ e
 
-  pub step-no : badCursor b c ≡ false → (c .seen ≡ c .count → ⊥) → nextRead b c ≡ Refused → stepRefusal b c ≡ refusalBy 18
+  pub step-no : badCursor b c ≡ false → (c .seen ≡ c .count → ⊥) → nextRead b c ≡ Nothing → stepRefusal b c ≡ refusalBy 18
   unfolding stepRefusal
   step-no g s r =
       let e = ne-eqb (c .seen) (c .count) s in
       first-skip _ _ g ∙ first-skip _ _ (rw e) ∙ first-skip _ _ e ∙ first-here _ _ (rw r)
 
-  pub step-none : badCursor b c ≡ false → (c .seen ≡ c .count → ⊥) → (v k : ℕ) → nextRead b c ≡ Ratio v k → stepRefusal b c ≡ none
+  pub step-none : badCursor b c ≡ false → (c .seen ≡ c .count → ⊥) → (v k : ℕ) → nextRead b c ≡ Ratio v k → stepRefusal b c ≡ noRefusal
   unfolding stepRefusal
   step-none g s v k r =
       let e = ne-eqb (c .seen) (c .count) s in
@@ -108,7 +108,7 @@ module _ (b : List ℕ) (c : Cursor) where
   step-refused n z e = (simp (e, z), simp (e, z))
 
   -- a ratio
-  pub step-good : (v k : ℕ) → nextRead b c ≡ Ratio v k → stepRefusal b c ≡ none
+  pub step-good : (v k : ℕ) → nextRead b c ≡ Ratio v k → stepRefusal b c ≡ noRefusal
       → (stepAnswer b c ≡ given v) × (stepCursor b c ≡ moved c v k)
   unfolding stepAnswer stepCursor
   step-good v k r e = (simp (e, r), simp (e, r))
@@ -118,7 +118,7 @@ module _ (b : List ℕ) (c : Cursor) where
     bad : badCursor b c ≡ true → Outcome
     end : badCursor b c ≡ false → c .seen ≡ c .count → c .place ≡ length b → Outcome
     over : badCursor b c ≡ false → c .seen ≡ c .count → (c .place ≡ length b → ⊥) → Outcome
-    no : badCursor b c ≡ false → (c .seen ≡ c .count → ⊥) → nextRead b c ≡ Refused → Outcome
+    no : badCursor b c ≡ false → (c .seen ≡ c .count → ⊥) → nextRead b c ≡ Nothing → Outcome
     yes : (v k : ℕ) → badCursor b c ≡ false → (c .seen ≡ c .count → ⊥) → nextRead b c ≡ Ratio v k → Outcome
 
   pub outcome : Outcome
@@ -129,7 +129,7 @@ module _ (b : List ℕ) (c : Cursor) where
       go true g s es p ep r er = bad g
       go false g true s true p r er = end g (eqb-true (c .seen) (c .count) s) (eqb-true (c .place) (length b) p)
       go false g true s false p r er = over g (eqb-true (c .seen) (c .count) s) (eqb-false (c .place) (length b) p)
-      go false g false s p ep Refused r = no g (eqb-false (c .seen) (c .count) s) r
+      go false g false s p ep Nothing r = no g (eqb-false (c .seen) (c .count) s) r
       go false g false s p ep (Ratio v k) r = yes v k g (eqb-false (c .seen) (c .count) s) r
 
   -- what is answered and left in each
@@ -142,7 +142,7 @@ module _ (b : List ℕ) (c : Cursor) where
   pub left-over : badCursor b c ≡ false → c .seen ≡ c .count → (c .place ≡ length b → ⊥) → (stepAnswer b c ≡ refusal 18) × (stepCursor b c ≡ c)
   left-over g s p = step-refused 18 refl (step-over g s p)
 
-  pub left-no : badCursor b c ≡ false → (c .seen ≡ c .count → ⊥) → nextRead b c ≡ Refused → (stepAnswer b c ≡ refusal 18) × (stepCursor b c ≡ c)
+  pub left-no : badCursor b c ≡ false → (c .seen ≡ c .count → ⊥) → nextRead b c ≡ Nothing → (stepAnswer b c ≡ refusal 18) × (stepCursor b c ≡ c)
   left-no g s r = step-refused 18 refl (step-no g s r)
 
   pub left-ratio : (v k : ℕ) → badCursor b c ≡ false → (c .seen ≡ c .count → ⊥) → nextRead b c ≡ Ratio v k
@@ -264,9 +264,9 @@ abbrev pub started : ℕ → Cursor
 started n = record { place = 0; count = n; seen = 0; window = freshWindow }
 
 module _ (n : ℕ) (b : List ℕ) where
-  pub made-good : n ≤ maxPoints → (made n ≡ none) × (madeBody n b ≡ b) × (madeCursor n ≡ started n)
+  pub made-good : n ≤ maxPoints → (made n ≡ noRefusal) × (madeBody n b ≡ b) × (madeCursor n ≡ started n)
   unfolding made madeBody madeCursor
-  made-good h = let e : made n ≡ none = first-skip _ _ (le-ltb maxPoints n h) ∙ first-end in (e, rw e, rw e)
+  made-good h = let e : made n ≡ noRefusal = first-skip _ _ (le-ltb maxPoints n h) ∙ first-end in (e, rw e, rw e)
 
   pub made-refused : maxPoints < n → (made n ≡ refusalBy 15) × (madeBody n b ≡ []) × (madeCursor n ≡ started 0)
   unfolding made madeBody madeCursor

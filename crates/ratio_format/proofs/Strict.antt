@@ -7,10 +7,10 @@ use Prim.Native.Nat.{ℕ, zero, suc, _^_, _≤_}
 use native.Mathlib.Omega.{arith}
 use lib.ListN.{length, drop}
 use lib.Seq.{drop-at}
-use Rattle.bits.specs.Below.{Below}
-use Rattle.bits.specs.Compare.{same}
-use Rattle.bits.proofs.Below.{below-drop}
-use Rattle.bits.proofs.Compare.{same-own, same-is}
+use Rattle.lists.specs.Below.{Below}
+use Rattle.lists.specs.Compare.{same}
+use Rattle.lists.proofs.Below.{below-drop}
+use Rattle.lists.proofs.Compare.{same-own, same-is}
 use Rattle.ratio_format.specs.Windows.{windowSize, push}
 use Rattle.ratio_format.specs.Forms.{coded}
 use Rattle.ratio_format.specs.Open.{strictRead}

@@ -9,8 +9,8 @@ use lib.Dec.{ltb}
 use lib.ListN.{length, take, drop, set, getD, length-reverse, length-drop, length-append, length-set, length-take}
 use lib.Seq.{take-suc, take-length, take-all, length-take-le, take-add, take-at, take-take, take-suc-set}
 use borrow.Author.Tests.{ltb-true, ltb-false}
-use Rattle.bits.specs.Below.{Below}
-use Rattle.bits.proofs.Below.{below-append, below-take}
+use Rattle.lists.specs.Below.{Below}
+use Rattle.lists.proofs.Below.{below-append, below-take}
 use Rattle.ratio_format.specs.declared.Window.{Window}
 use Rattle.ratio_format.specs.Windows.{push, windowOf, held, pushed}
 

@@ -11,9 +11,9 @@ use mathlib.Core.List.{List, [], _∷_, _++_}
 use mathlib.Core.Option.{Option, none, some}
 use Prim.Native.Nat.{ℕ, zero, suc}
 use lib.ListN.{drop}
-use Rattle.bits.specs.Compare.{same}
+use Rattle.lists.specs.Compare.{same}
 use Rattle.ratio_format.specs.declared.Read.{Read}
-use Rattle.ratio_format.specs.declared.Read.the-variants.{Ratio, Refused}
+use Rattle.ratio_format.specs.declared.Read.the-variants.{Ratio, Nothing}
 use Rattle.ratio_format.specs.Windows.{windowSize, push}
 use Rattle.ratio_format.specs.Forms.{coded}
 use Rattle.ratio_format.specs.Open.{openRead}
@@ -39,7 +39,7 @@ atEnd (b ∷ s) = none
 
 -- what follows a ratio that was read, or nothing where none was
 abbrev pub onRatio : Read → (ℕ → ℕ → Option (List ℕ)) → Option (List ℕ)
-onRatio Refused f = none
+onRatio Nothing f = none
 onRatio (Ratio v k) f = f v k
 
 -- the open rule, from a window that takes each ratio as it is read

@@ -11,9 +11,9 @@ use Prim.Native.Nat.{ℕ, _+_, _-_, _/_, _^_}
 use lib.Bits.{bitXor}
 use lib.Dec.{leb, ltb, eqb}
 use lib.ListN.{length, getD}
-use Rattle.ratio_format.specs.declared.Form.{Form}
-use Rattle.ratio_format.specs.declared.Form.the-variants.{Reference, Xor, Exception}
-use Rattle.ratio_format.specs.Zeros.{leadZeros, trailZeros, score}
+use Rattle.ratio_format.specs.declared.RatioForm.{RatioForm}
+use Rattle.ratio_format.specs.declared.RatioForm.the-variants.{Reference, Xor, Exception}
+use Rattle.ratio_format.specs.Zeros.{leadZeros, trailZeros, sumOf}
 
 -- the smallest place of v
 unfoldable pub find : ℕ → List ℕ → ℕ
@@ -32,15 +32,15 @@ newer s b = cond (leb (b .sum) s) (record { place = 0; sum = s }) (record { plac
 -- the largest sum, at its smallest place
 unfoldable pub best : ℕ → List ℕ → Best
 best v [] = record { place = 0; sum = 0 }
-best v (u ∷ w) = newer (score v u) (best v w)
+best v (u ∷ w) = newer (sumOf v u) (best v w)
 
 -- the trailing count, the middle's length, and the middle: x without its trailing zero bytes
-abbrev pub xorForm : ℕ → ℕ → Form
+abbrev pub xorForm : ℕ → ℕ → RatioForm
 xorForm p x = Xor p (trailZeros x) (8 - (leadZeros x + trailZeros x)) (x / 256 ^ trailZeros x)
 
 -- the choice
-unfoldable pub form : ℕ → List ℕ → Form
-form v w =
+unfoldable pub ratioForm : ℕ → List ℕ → RatioForm
+ratioForm v w =
     cond (ltb (find v w) (length w))
     (Reference (find v w))
     (cond (leb 2 (best v w .sum)) (xorForm (best v w .place) (bitXor v (getD w (best v w .place) 0))) Exception)

@@ -5,7 +5,7 @@
 --   madeBody n b       the body that the reader then holds
 --   madeCursor n       the rest of the reader: place 0, the count, none seen and a fresh window
 --   badCursor b c      the reader's state is bad
---   nextRead b c       the next ratio, read strictly at the reader's place; isRefused, ratioOf, usedOf: whether none was, its bits, its bytes
+--   nextRead b c       the next ratio, read strictly at the reader's place; isNothing, ratioOf, usedOf: whether none was, its bits, its bytes
 --   allGiven c         as many ratios were given as the count says
 --   stepTests b c      the tests of a step in their order: 7, then 8 or 18
 --   stepRefusal b c    the refusal of a step, the end among them, or none
@@ -16,12 +16,12 @@ use mathlib.Core.List.{List, [], _∷_}
 use Prim.Native.Nat.{ℕ, _+_}
 use lib.Dec.{ltb, eqb}
 use lib.ListN.{length, drop}
-use Rattle.bits.specs.Compare.{both}
-use Rattle.bounds.specs.declared.Refusal.{Refusal}
-use Rattle.bounds.specs.Points.{maxPoints}
-use Rattle.bounds.specs.Tests.{Test, test, firstOf, refused}
+use Rattle.lists.specs.Compare.{both}
+use Rattle.refusals.specs.declared.Refusal.{Refusal}
+use Rattle.limits.specs.Points.{maxPoints}
+use Rattle.refusals.specs.Tests.{Test, test, firstOf, refused}
 use Rattle.ratio_format.specs.declared.Read.{Read}
-use Rattle.ratio_format.specs.declared.Read.the-variants.{Ratio, Refused}
+use Rattle.ratio_format.specs.declared.Read.the-variants.{Ratio, Nothing}
 use Rattle.ratio_format.specs.declared.Cursor.{Cursor}
 use Rattle.ratio_format.specs.declared.StepAnswer.{StepAnswer}
 use Rattle.ratio_format.specs.Windows.{freshWindow, held, pushed}
@@ -58,18 +58,18 @@ abbrev pub nextRead : List ℕ → Cursor → Read
 nextRead b c = strictRead (held (c .window)) (drop (c .place) b)
 
 -- whether none was read
-abbrev pub isRefused : Read → Bool
-isRefused Refused = true
-isRefused (Ratio v k) = false
+abbrev pub isNothing : Read → Bool
+isNothing Nothing = true
+isNothing (Ratio v k) = false
 
 -- the ratio that was read
 abbrev pub ratioOf : Read → ℕ
-ratioOf Refused = 0
+ratioOf Nothing = 0
 ratioOf (Ratio v k) = v
 
 -- how many bytes it took
 abbrev pub usedOf : Read → ℕ
-usedOf Refused = 0
+usedOf Nothing = 0
 usedOf (Ratio v k) = k
 
 -- whether all are given
@@ -82,7 +82,7 @@ stepTests b c =
     test (badCursor b c) 7 0
     ∷ test (both (allGiven c) (eqb (c .place) (length b))) 8 0
     ∷ test (allGiven c) 18 0
-    ∷ test (isRefused (nextRead b c)) 18 0
+    ∷ test (isNothing (nextRead b c)) 18 0
     ∷ []
 
 -- the refusal of a step, the end among them, or none

@@ -2,7 +2,7 @@
 --   zerosAt bs       how many zeros the list bs begins with
 --   leadZeros x      the leading zero bytes of a number of 64 bits
 --   trailZeros x     its trailing zero bytes
---   score v u        both counts of v xor u together: document 01's sum
+--   sumOf v u        both counts of v xor u together: document 01's sum
 use mathlib.Core.List.{List, [], _∷_, reverse}
 use Prim.Native.Nat.{ℕ, _+_}
 use lib.Bits.{bitXor}
@@ -23,5 +23,5 @@ unfoldable pub trailZeros : ℕ → ℕ
 trailZeros x = zerosAt (reverse (bytesOf 8 x))
 
 -- the sum that the choice maximises
-unfoldable pub score : ℕ → ℕ → ℕ
-score v u = leadZeros (bitXor v u) + trailZeros (bitXor v u)
+unfoldable pub sumOf : ℕ → ℕ → ℕ
+sumOf v u = leadZeros (bitXor v u) + trailZeros (bitXor v u)

@@ -7,7 +7,7 @@ ghost use Rattle.ratio_format.specs.Lives.{freshLive};
 
 // How one ratio is written: a place of the window; the xor with the ratio at a place, by its trailing zero bytes, the middle's length
 // and the middle as a number; or the ratio itself.
-pub enum Form {
+pub enum RatioForm {
     Reference(usize),
     Xor {
         place: usize,
@@ -21,7 +21,7 @@ pub enum Form {
 // What reading one ratio finds: the ratio and the number of bytes it takes, or no ratio.
 pub enum Read {
     Ratio(u64, usize),
-    Refused,
+    Nothing,
 }
 
 // The preceding ratios, oldest first, and how many of the cells are filled.

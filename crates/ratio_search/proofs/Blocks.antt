@@ -8,7 +8,7 @@ use native.Mathlib.Omega.{arith}
 use borrow.Author.Tests.{eqb-true, eqb-false, leb-true, leb-false}
 use lib.Dec.{eqb, leb}
 use lib.ListN.{getD}
-use Rattle.ratio_format.specs.Zeros.{score}
+use Rattle.ratio_format.specs.Zeros.{sumOf}
 use Rattle.ratio_search.specs.Planes.{byteAt, Differs, Planes}
 use Rattle.ratio_search.specs.Apart.{Apart}
 use Rattle.ratio_search.proofs.Differ.{differ-le}
@@ -62,17 +62,17 @@ slot-differs ps v i j slot x y t ex ey h o =
 
 -- the ratio in a slot whose bytes differ has a small sum
 module _ (ps l : List ℕ) (v s from high k : ℕ) (p : Planes ps l from high) (h : from ≤ k) (g : k < high) where
-  slot-passed : (a b : ℕ) → Apart s a b → Differs ps v a b (k % 128) → score v (getD l k 0) ≤ s
+  slot-passed : (a b : ℕ) → Apart s a b → Differs ps v a b (k % 128) → sumOf v (getD l k 0) ≤ s
   slot-passed a b w d =
       differ-le v (getD l k 0) s a b w (λ e. d .0 (p a k (w .1) h g ∙ e)) (λ e. d .1 (p b k (w .2) h g ∙ e))
 
   pub either-passed : (a b c d : ℕ) → Apart s a b → Apart s c d
-      → Differs ps v a b (k % 128) ⊎ Differs ps v c d (k % 128) → score v (getD l k 0) ≤ s
+      → Differs ps v a b (k % 128) ⊎ Differs ps v c d (k % 128) → sumOf v (getD l k 0) ≤ s
   either-passed a b c d w x = ⊎-elim (slot-passed a b w) (slot-passed c d x)
 
 -- going back through blocks: every ratio from h up to `high` is passed, of those from `from` on
 abbrev pub Behind : ℕ → List ℕ → ℕ → ℕ → ℕ → ℕ → Type 0
-Behind v l s from high h = (k : ℕ) → from ≤ k → h ≤ k → k < high → score v (getD l k 0) ≤ s
+Behind v l s from high h = (k : ℕ) → from ≤ k → h ≤ k → k < high → sumOf v (getD l k 0) ≤ s
 
 pub behind-none : (v : ℕ) (l : List ℕ) (s from high : ℕ) → Behind v l s from high high
 behind-none v l s from high k h g f = absurd (omega arith)
@@ -86,7 +86,7 @@ module _ (ps l : List ℕ) (v s from high h a b c d : ℕ) (p : Planes ps l from
   pub behind-block : ((t : ℕ) → low % 128 ≤ t → t < low % 128 + 16 → Differs ps v a b t ⊎ Differs ps v c d t) → Behind v l s from high low
   behind-block quiet k f g e = go (leb h k) refl
     where
-      go : (t : Bool) → leb h k ≡ t → score v (getD l k 0) ≤ s
+      go : (t : Bool) → leb h k ≡ t → sumOf v (getD l k 0) ≤ s
       go true q = passed k f (leb-true h k q) e
       go false q =
           let n = leb-false h k q in

@@ -2,7 +2,7 @@
 use mathlib.Core.Path.{_≡_, sym, ap, _∙_}
 use Prim.Native.Nat.{ℕ, _*_, _/_, _%_, _^_, _≤_}
 use lib.Bits.{bitXor, xor-shr, xor-mod}
-use Rattle.ratio_format.specs.Zeros.{score}
+use Rattle.ratio_format.specs.Zeros.{sumOf}
 use Rattle.ratio_format.proofs.Score.{xor-zero}
 use Rattle.ratio_search.specs.Planes.{byteAt}
 use Rattle.ratio_search.specs.Apart.{Apart}
@@ -15,6 +15,6 @@ byte-xor v u j = ap (λ (y : ℕ). y % 256) (xor-shr v u (8 * j)) ∙ xor-mod (v
 pub byte-same : (v u j : ℕ) → byteAt (bitXor v u) j ≡ 0 → byteAt u j ≡ byteAt v j
 byte-same v u j e = sym (xor-zero (byteAt v j) (byteAt u j) (sym (byte-xor v u j) ∙ e))
 
-pub differ-le : (v u s a b : ℕ) → Apart s a b → (byteAt u a ≡ byteAt v a → ⊥) → (byteAt u b ≡ byteAt v b → ⊥) → score v u ≤ s
-unfolding score
+pub differ-le : (v u s a b : ℕ) → Apart s a b → (byteAt u a ≡ byteAt v a → ⊥) → (byteAt u b ≡ byteAt v b → ⊥) → sumOf v u ≤ s
+unfolding sumOf
 differ-le v u s a b h n m = apart-le (bitXor v u) s a b h (λ e. n (byte-same v u a e)) (λ e. m (byte-same v u b e))

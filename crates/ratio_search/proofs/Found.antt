@@ -7,7 +7,7 @@ use native.Mathlib.Omega.{arith}
 use lib.ListN.{length, take, getD, length-take, length-reverse}
 use lib.Seq.{getD-take, length-take-le}
 use Rattle.ratio_format.specs.Windows.{windowSize, windowOf}
-use Rattle.ratio_format.specs.Zeros.{score}
+use Rattle.ratio_format.specs.Zeros.{sumOf}
 use Rattle.ratio_format.specs.Choice.{best}
 use Rattle.ratio_format.proofs.Windows.{back-at}
 use Rattle.ratio_format.proofs.Choice.{best-at, best-most, best-first}
@@ -42,15 +42,15 @@ module _ (l : List ℕ) (v i : ℕ) (h : i ≤ length l) where
       let b = best-at v w g in
       let p = best v w .place in
       let q = window-length p (b .0) in
-      omega (arith, a (i - 1 - p) (omega arith) (omega arith), sym (b .1) ∙ ap (score v) (window-at p (q .0) (q .1)))
+      omega (arith, a (i - 1 - p) (omega arith) (omega arith), sym (b .1) ∙ ap (sumOf v) (window-at p (q .0) (q .1)))
 
   pub found-none : (p s : ℕ) → s < 2 → Passed v l s (i - 127) i → Searched v w p s
   found-none p s g a =
       (λ k. absurd (omega arith), λ k. lt-of-not-le (λ (f : 2 ≤ best v w .sum). omega (arith, best-passed s a (omega arith))))
 
   -- the newest ratio with the largest sum, from 2 on
-  module _ (at s : ℕ) (two : 2 ≤ s) (from : i - 127 ≤ at) (to : at < i) (has : score v (getD l at 0) ≡ s)
-      (newer : (k : ℕ) → at < k → k < i → score v (getD l k 0) < s) (all : Passed v l s (i - 127) i) where
+  module _ (at s : ℕ) (two : 2 ≤ s) (from : i - 127 ≤ at) (to : at < i) (has : sumOf v (getD l at 0) ≡ s)
+      (newer : (k : ℕ) → at < k → k < i → sumOf v (getD l k 0) < s) (all : Passed v l s (i - 127) i) where
     abbrev p : ℕ
     p = i - 1 - at
 
@@ -59,13 +59,13 @@ module _ (l : List ℕ) (v i : ℕ) (h : i ≤ length l) where
         let e : i - 1 - p ≡ at = omega arith in
         window-at p (omega arith) (omega arith) ∙ ap (λ (k : ℕ). getD l k 0) e
 
-    score-is : score v (getD w p 0) ≡ s
-    score-is = ap (score v) at-is ∙ has
+    sum-here : sumOf v (getD w p 0) ≡ s
+    sum-here = ap (sumOf v) at-is ∙ has
 
     sum-is : s ≡ best v w .sum
     sum-is =
         let m = best-most v w p (window-has p (omega arith) (omega arith)) in
-        let g : s ≤ best v w .sum = omega (arith, score-is) in
+        let g : s ≤ best v w .sum = omega (arith, sum-here) in
         omega (arith, best-passed s all (omega arith))
 
     place-is : p ≡ best v w .place
@@ -73,9 +73,9 @@ module _ (l : List ℕ) (v i : ℕ) (h : i ≤ length l) where
         let b = best-at v w (omega (arith, sum-is)) in
         let q = best v w .place in
         let n = window-length q (b .0) in
-        let low : q ≤ p = omega (arith, lt-of-not-le (λ (f : p + 1 ≤ q). omega (arith, best-first v w p (omega arith), score-is, sum-is))) in
+        let low : q ≤ p = omega (arith, lt-of-not-le (λ (f : p + 1 ≤ q). omega (arith, best-first v w p (omega arith), sum-here, sum-is))) in
         let high : p ≤ q =
-        omega (arith, lt-of-not-le (λ (f : q + 1 ≤ p). omega (arith, newer (i - 1 - q) (omega arith) (omega arith), sym (b .1) ∙ ap (score v) (window-at q (n .0) (n .1)), sum-is))) in
+        omega (arith, lt-of-not-le (λ (f : q + 1 ≤ p). omega (arith, newer (i - 1 - q) (omega arith) (omega arith), sym (b .1) ∙ ap (sumOf v) (window-at q (n .0) (n .1)), sum-is))) in
         omega arith
 
     pub found-best : Searched v w p s

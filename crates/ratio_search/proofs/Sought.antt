@@ -8,18 +8,18 @@ use borrow.Author.Tests.{leb-true, leb-false}
 use lib.Dec.{leb}
 use lib.ListN.{length, take, getD}
 use Rattle.ratio_format.specs.Windows.{windowSize, windowOf}
-use Rattle.ratio_format.specs.Zeros.{score}
-use Rattle.ratio_format.proofs.Score.{score-same}
+use Rattle.ratio_format.specs.Zeros.{sumOf}
+use Rattle.ratio_format.proofs.Score.{sum-same}
 use Rattle.ratio_codec.specs.Searched.{Searched}
 use Rattle.ratio_codec.specs.Passed.{Passed}
 use Rattle.ratio_codec.proofs.Passed.{passed-none, passed-more, passed-join, passed-mono}
-use Rattle.ratio_codec.proofs.Sums.{score-le}
+use Rattle.ratio_codec.proofs.Sums.{sum-le}
 use Rattle.ratio_search.proofs.Found.{found-none, found-best}
 
 module _ (v : ℕ) (l : List ℕ) (i : ℕ) where
   -- the sum is that of the newest ratio with the largest sum, at the index `at`
   abbrev Holds : ℕ → ℕ → Type 0
-  Holds at sum = (i - 127 ≤ at) × (score v (getD l at 0) ≡ sum) × ((k : ℕ) → at < k → k < i → score v (getD l k 0) < sum)
+  Holds at sum = (i - 127 ≤ at) × (sumOf v (getD l at 0) ≡ sum) × ((k : ℕ) → at < k → k < i → sumOf v (getD l k 0) < sum)
 
   -- the ratios from q on are passed; from 2 on the sum is one that was found
   abbrev pub Sought : ℕ → ℕ → ℕ → ℕ → Type 0
@@ -55,7 +55,7 @@ module _ (v : ℕ) (l : List ℕ) (i : ℕ) where
 
     -- the next ratio, at q - 1, is counted
     module _ (some : i - 127 < q) where
-      pub sought-wins : (t n : ℕ) → score v (getD l (q - 1) 0) ≡ n → t ≤ n → n ≤ 7 → sum < n → Sought (q - 1) (q - 1) t n
+      pub sought-wins : (t n : ℕ) → sumOf v (getD l (q - 1) 0) ≡ n → t ≤ n → n ≤ 7 → sum < n → Sought (q - 1) (q - 1) t n
       sought-wins t n e h g f = (
         omega arith,
         omega arith,
@@ -66,7 +66,7 @@ module _ (v : ℕ) (l : List ℕ) (i : ℕ) where
         λ x. (omega arith, e, λ k a b. omega (arith, s .5 k (omega arith) b)),
       )
 
-      pub sought-loses : score v (getD l (q - 1) 0) ≤ sum → Sought (q - 1) at trail sum
+      pub sought-loses : sumOf v (getD l (q - 1) 0) ≤ sum → Sought (q - 1) at trail sum
       sought-loses e = (omega arith, s .1, s .2, s .3, s .4, passed-more v l sum q i (omega arith) e (s .5), s .6)
 
       -- an equal one ends the search
@@ -74,5 +74,5 @@ module _ (v : ℕ) (l : List ℕ) (i : ℕ) where
       sought-equal h e =
           let p : i - 1 - (q - 1) ≡ i - q = omega arith in
           subst (λ (n : ℕ). Searched v (windowOf windowSize (take i l)) n 16) p
-          (found-best l v i h (q - 1) 16 (omega arith) (omega arith) (omega arith) (ap (score v) e ∙ score-same v)
-          (λ k a b. omega (arith, s .5 k (omega arith) b)) (λ k a b. score-le v (getD l k 0)))
+          (found-best l v i h (q - 1) 16 (omega arith) (omega arith) (omega arith) (ap (sumOf v) e ∙ sum-same v)
+          (λ k a b. omega (arith, s .5 k (omega arith) b)) (λ k a b. sum-le v (getD l k 0)))

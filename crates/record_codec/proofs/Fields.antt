@@ -8,13 +8,13 @@ use native.Mathlib.Omega.{arith}
 use borrow.Author.Tests.{eqb-true, ltb-false, lt-ltb, le-ltb, not-false}
 use lib.Dec.{lit<, ltb, eqb}
 use lib.ListN.{length, take, drop}
-use Rattle.bits.specs.Compare.{both}
+use Rattle.lists.specs.Compare.{both}
 use Rattle.bits.specs.Digits.{numberOf}
-use Rattle.bounds.specs.declared.Refusal.{Refusal}
-use Rattle.bounds.specs.Points.{maxPoints}
-use Rattle.bounds.specs.Rates.{isRate}
-use Rattle.bounds.specs.Tests.{Test, test, firstOf, none}
-use Rattle.bounds.proofs.Tests.{first-here, first-skip, first-clear, first-end, first-none, first-append-none, first-append-some}
+use Rattle.refusals.specs.declared.Refusal.{Refusal}
+use Rattle.limits.specs.Points.{maxPoints}
+use Rattle.limits.specs.Rates.{isRate}
+use Rattle.refusals.specs.Tests.{Test, test, firstOf, noRefusal}
+use Rattle.refusals.proofs.Tests.{first-here, first-skip, first-clear, first-end, first-none, first-append-none, first-append-some}
 use Rattle.record_format.specs.Reading.{lengthAt, bodyAt, nextAt, second, rateIn, countIn, wholeTests, fixedTests, firstTests, secondTests}
 use Rattle.record_format.proofs.Heads.{refusal, body-whole}
 use Rattle.record_codec.specs.Fields.{Whole, Firsts, Seconds}
@@ -25,8 +25,8 @@ use Rattle.record_codec.specs.Fields.{Whole, Firsts, Seconds}
 pub whole-refused : (s : List ℕ) (tag p n a b : ℕ) → (n ≡ 0 → ⊥) → refusal n p ≡ firstOf (wholeTests s tag p) → Whole s tag p (record { refusal = refusal n p; from = a; to = b })
 whole-refused s tag p n a b d e = record { refuses = e; start = λ z. absurd (d z); stop = λ z. absurd (d z); inside = λ z. absurd (d z) }
 
-pub whole-found : (s : List ℕ) (tag p n : ℕ) → none ≡ firstOf (wholeTests s tag p) → lengthAt s p ≡ n → p + 3 ≤ length s → n ≤ length s - (p + 3)
-    → Whole s tag p (record { refusal = none; from = p + 3; to = p + 3 + n })
+pub whole-found : (s : List ℕ) (tag p n : ℕ) → noRefusal ≡ firstOf (wholeTests s tag p) → lengthAt s p ≡ n → p + 3 ≤ length s → n ≤ length s - (p + 3)
+    → Whole s tag p (record { refusal = noRefusal; from = p + 3; to = p + 3 + n })
 unfolding nextAt
 whole-found s tag p n e l h g = record {
   refuses = e;

@@ -8,13 +8,13 @@ use lib.ListN.{length, take, drop, set, length-append, length-drop}
 use lib.Seq.{take-at, drop-at, drop-drop, length-take-le}
 use borrow.Rule.Slice.PartMut.{putMid}
 use Rattle.bits.specs.Digits.{bytesOf}
-use Rattle.bits.specs.Splice.{splice}
+use Rattle.outputs.specs.Outputs.{overAt}
 use Rattle.bits.proofs.Digits.{length-digits}
-use Rattle.bits.proofs.Parts.{rest-is, put-rest}
-use Rattle.bounds.specs.declared.Wrote.{Wrote}
-use Rattle.bounds.specs.declared.Wrote.the-variants.{Done, NoRoom}
-use Rattle.bounds.specs.Outputs.{Placed}
-use Rattle.bounds.specs.Tests.{over}
+use Rattle.outputs.proofs.Parts.{rest-is, put-rest}
+use Rattle.outputs.specs.declared.Wrote.{Wrote}
+use Rattle.outputs.specs.declared.Wrote.the-variants.{Done, NoRoom}
+use Rattle.outputs.specs.Outputs.{Placed}
+use Rattle.outputs.specs.Outputs.{over}
 use Rattle.position_format.specs.Rows.{rows}
 use Rattle.position_format.specs.Positions.{codedPositions}
 use Rattle.ratio_format.specs.Bodies.{codedRatios}
@@ -23,11 +23,11 @@ use Rattle.record_format.proofs.Fields.{length-field}
 
 -- ---- a head, and a field of a number
 
-pub head-on : (o bs : List ℕ) (tag : ℕ) → 3 ≤ length o → splice (set o 0 tag) 1 2 bs ≡ tag ∷ (bs ++ drop 3 o)
+pub head-on : (o bs : List ℕ) (tag : ℕ) → 3 ≤ length o → overAt (set o 0 tag) 1 2 bs ≡ tag ∷ (bs ++ drop 3 o)
 head-on [] bs tag h = absurd (omega arith)
 head-on (x ∷ o) bs tag h = refl
 
-module _ (o p q : List ℕ) (tag n x : ℕ) (h : p ≡ tag ∷ (bytesOf 2 n ++ drop 3 o)) (g : q ≡ splice p 3 n (bytesOf n x)) where
+module _ (o p q : List ℕ) (tag n x : ℕ) (h : p ≡ tag ∷ (bytesOf 2 n ++ drop 3 o)) (g : q ≡ overAt p 3 n (bytesOf n x)) where
   abbrev lead : List ℕ
   lead = tag ∷ bytesOf 2 n
 

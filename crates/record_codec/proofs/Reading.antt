@@ -10,14 +10,15 @@ use borrow.Author.Tests.{ltb-false}
 use lib.Dec.{lit<}
 use lib.ListN.{length, take, drop, replicate, length-drop}
 use lib.Seq.{length-take-le}
-use Rattle.bits.specs.Below.{Below}
+use Rattle.lists.specs.Below.{Below}
 use Rattle.bits.specs.Digits.{numberOf}
-use Rattle.bits.proofs.Below.{below-take, below-drop}
+use Rattle.lists.proofs.Below.{below-take, below-drop}
 use Rattle.bits.proofs.Digits.{number-lt}
-use Rattle.bounds.specs.declared.Refusal.{Refusal}
-use Rattle.bounds.specs.Outputs.{Filled}
-use Rattle.bounds.specs.Tests.{test, firstOf, refused, over}
-use Rattle.bounds.proofs.Tests.{first-here, first-skip, first-end, first-clear}
+use Rattle.refusals.specs.declared.Refusal.{Refusal}
+use Rattle.outputs.specs.Outputs.{Filled}
+use Rattle.refusals.specs.Tests.{test, firstOf, refused}
+use Rattle.outputs.specs.Outputs.{over}
+use Rattle.refusals.proofs.Tests.{first-here, first-skip, first-end, first-clear}
 use Rattle.position_format.specs.Rows.{rows}
 use Rattle.position_format.specs.Positions.{readPositions}
 use Rattle.record_format.specs.declared.ReadAnswer.{ReadAnswer}

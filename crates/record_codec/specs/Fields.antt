@@ -11,8 +11,9 @@ use mathlib.Core.List.{List, _++_}
 use mathlib.Core.Option.{Option}
 use Prim.Native.Nat.{ℕ, _+_, _≤_}
 use lib.ListN.{length}
-use Rattle.bounds.specs.Points.{maxPoints}
-use Rattle.bounds.specs.Tests.{firstOf, over}
+use Rattle.limits.specs.Points.{maxPoints}
+use Rattle.refusals.specs.Tests.{firstOf}
+use Rattle.outputs.specs.Outputs.{over}
 use Rattle.record_format.specs.Reading.{Answer, recordAnswer, answerBy, nextAt, second, third, fourth, end, rateIn, countIn, ratiosIn, listOf, wholeTests, firstTests, secondTests, thirdTests, fourthTests}
 use Rattle.record_format.specs.declared.ReadAnswer.{ReadAnswer}
 use Rattle.ratio_format.specs.Bodies.{openRatios, strictRatios}

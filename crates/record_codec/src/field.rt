@@ -5,11 +5,11 @@ ghost use mathlib.Core.Bool.{true, not, cond};
 ghost use Prim.Native.Nat.{_≤_};
 ghost use lib.Dec.{ltb, eqb};
 ghost use lib.ListN.{length};
-ghost use Rattle.bits.specs.Compare.{both};
-ghost use Rattle.bounds.specs.Tests.{firstOf};
+ghost use Rattle.lists.specs.Compare.{both};
+ghost use Rattle.refusals.specs.Tests.{firstOf};
 ghost use Rattle.record_format.specs.Reading.{fixedTests, second};
 ghost use Rattle.record_codec.specs.Fields.{Whole, Firsts, Seconds};
-use bounds::Refusal;
+use refusals::Refusal;
 
 // A field of a record: its refusal, or where its body starts and ends.
 pub struct Field {
@@ -140,7 +140,7 @@ pub(crate) fn second_field(input: &[u8], positions: usize, ratios: usize) -> Sec
         };
     }
     let count = bits::get_bytes(input, 10, 2) as usize;
-    if bounds::MAX_POINTS < count {
+    if limits::MAX_POINTS < count {
         return Second {
             refusal: Refusal {
                 number: 15,
@@ -177,7 +177,7 @@ pub(crate) fn first_field(expected: u32, input: &[u8]) -> First
         };
     }
     let rate = bits::get_bytes(input, 3, 4) as u32;
-    if !bounds::is_rate(rate) {
+    if !limits::is_rate(rate) {
         return First {
             refusal: Refusal {
                 number: 13,

@@ -2,21 +2,21 @@
 ghost use mathlib.Core.Path.{_≡_};
 ghost use Prim.Native.Nat.{_≤_};
 ghost use lib.ListN.{length};
-ghost use Rattle.bounds.specs.Outputs.{Filled};
+ghost use Rattle.outputs.specs.Outputs.{Filled};
 ghost use Rattle.record_format.specs.Reading.{refusalAnswer, readWith, readStrict, readOpen};
 ghost use Rattle.record_codec.specs.Fields.{ratiosBy, Answered, Known, AtThird, AtFourth, fourthAnswer, thirdAnswer};
 use super::field::first_field;
 use super::field::second_field;
 use super::field::whole_field;
-use bounds::Refusal;
 use record_format::ReadAnswer;
+use refusals::Refusal;
 
 // A refused reading: both outputs are 0 from end to end.
 fn refuse_read(refusal: Refusal, positions: &mut [u64], ratios: &mut [u64]) -> ReadAnswer
     ensures { λ r. ⌜ Answered (refusalAnswer refusal (now (positions .entry)) (now (ratios .entry))) r (now (positions .exit)) (now (ratios .exit)) ⌝ }
 {
-    bits::clear_numbers(positions);
-    bits::clear_numbers(ratios);
+    outputs::clear_numbers(positions);
+    outputs::clear_numbers(ratios);
     ReadAnswer {
         number: refusal.number,
         place: refusal.place,

@@ -5,16 +5,17 @@ ghost use mathlib.Core.Bool.{true};
 ghost use Prim.Native.Nat.{_+_, _≤_};
 ghost use lib.ListN.{length, drop};
 ghost use Rattle.bits.specs.Digits.{bytesOf};
-ghost use Rattle.bounds.specs.Outputs.{Placed};
+ghost use Rattle.outputs.specs.Outputs.{Placed};
 ghost use Rattle.position_format.specs.Positions.{codedPositions, validPositions};
 ghost use Rattle.position_format.specs.Rows.{rows};
 ghost use Rattle.ratio_format.specs.Bodies.{codedRatios};
 ghost use Rattle.record_format.specs.Writing.{runTests, writeAnswer, writeOutput};
-ghost use Rattle.bounds.specs.Tests.{firstOf, zeros};
+ghost use Rattle.refusals.specs.Tests.{firstOf};
+ghost use Rattle.outputs.specs.Outputs.{zeros};
 ghost use Rattle.record_format.specs.Runs.{field, run, recordOf};
-use bounds::Refusal;
-use bounds::Wrote;
+use outputs::Wrote;
 use record_format::WriteAnswer;
+use refusals::Refusal;
 
 // The tag and the length of a field, at the front of the output.
 fn put_head(out: &mut [u8], tag: u8, n: usize)
@@ -113,7 +114,7 @@ fn put_record(rate: u32, positions: &[u64], ratios: &[u64], out: &mut [u8]) -> W
 fn check_run(rate: u32, positions: &[u64], ratios: &[u64]) -> Refusal
     ensures { λ r. ⌜ r ≡ firstOf (runTests (run rate (now (positions .entry)) (now (ratios .entry)))) ⌝ }
 {
-    if !bounds::is_rate(rate) {
+    if !limits::is_rate(rate) {
         return Refusal {
             number: 1,
             place: 0,
@@ -125,13 +126,13 @@ fn check_run(rate: u32, positions: &[u64], ratios: &[u64]) -> Refusal
             place: 0,
         };
     }
-    if bounds::MAX_POINTS < positions.len() {
+    if limits::MAX_POINTS < positions.len() {
         return Refusal {
             number: 3,
             place: 0,
         };
     }
-    let high = bounds::first_high(positions);
+    let high = limits::first_high(positions);
     if high < positions.len() {
         return Refusal {
             number: 4,
@@ -155,7 +156,7 @@ fn check_run(rate: u32, positions: &[u64], ratios: &[u64]) -> Refusal
 fn refuse_write(refusal: Refusal, out: &mut [u8]) -> WriteAnswer
     ensures { λ r. ⌜ (r ≡ record { number = refusal .number; place = refusal .place; length = 0 }) × (now (out .exit) ≡ zeros (now (out .entry))) ⌝ }
 {
-    bits::clear_bytes(out);
+    outputs::clear_bytes(out);
     WriteAnswer {
         number: refusal.number,
         place: refusal.place,

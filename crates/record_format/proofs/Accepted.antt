@@ -9,14 +9,14 @@ use borrow.Author.Tests.{eqb-true, eq-eqb, ltb-false, le-ltb, not-false, not-tru
 use lib.IntN.{ℤ}
 use lib.Dec.{eqb, lit<}
 use lib.ListN.{length}
-use Rattle.bounds.specs.declared.Refusal.{Refusal}
-use Rattle.bounds.specs.Lists.{firstIndex}
-use Rattle.bounds.specs.Rates.{isRate}
-use Rattle.bounds.specs.Points.{maxPoints, tooHigh, firstHigh}
-use Rattle.bounds.specs.Tests.{firstOf}
-use Rattle.bounds.proofs.Lists.{first-le}
-use Rattle.bounds.proofs.Tests.{first-clear, first-skip, first-end}
-use Rattle.bits.proofs.Compare.{both-true}
+use Rattle.refusals.specs.declared.Refusal.{Refusal}
+use Rattle.lists.specs.Lists.{firstIndex}
+use Rattle.limits.specs.Rates.{isRate}
+use Rattle.limits.specs.Points.{maxPoints, tooHigh, firstHigh}
+use Rattle.refusals.specs.Tests.{firstOf}
+use Rattle.lists.proofs.Lists.{first-le}
+use Rattle.refusals.proofs.Tests.{first-clear, first-skip, first-end}
+use Rattle.lists.proofs.Compare.{both-true}
 use Rattle.position_format.specs.Rows.{rows}
 use Rattle.position_format.specs.Steps.{steps, outside, firstOutside}
 use Rattle.position_format.specs.Positions.{validPositions}

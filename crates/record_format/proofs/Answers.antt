@@ -5,9 +5,9 @@ use mathlib.Core.Bool.{true, cond}
 use mathlib.Core.List.{List, [], _++_}
 use Prim.Native.Nat.{ℕ}
 use borrow.Author.Tests.{ne-eqb}
-use Rattle.bounds.specs.declared.Refusal.{Refusal}
-use Rattle.bounds.specs.Tests.{Test, firstOf, refused}
-use Rattle.bounds.proofs.Tests.{numbered, first-end, first-append-none, first-append-some}
+use Rattle.refusals.specs.declared.Refusal.{Refusal}
+use Rattle.refusals.specs.Tests.{Test, firstOf, refused}
+use Rattle.refusals.proofs.Tests.{numbered, first-end, first-append-none, first-append-some}
 use Rattle.record_format.specs.Reading.{Answer, refusalAnswer, answerBy}
 
 module _ (a : Answer) (ts vs : List ℕ) where

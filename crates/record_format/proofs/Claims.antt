@@ -8,9 +8,9 @@ use borrow.Author.Tests.{le-ltb}
 use lib.Dec.{lit≤}
 use lib.ListN.{length, drop}
 use lib.Seq.{drop-append-seam}
-use Rattle.bits.specs.Below.{Below}
-use Rattle.bounds.specs.Tests.{firstOf}
-use Rattle.bounds.proofs.Tests.{first-skip}
+use Rattle.lists.specs.Below.{Below}
+use Rattle.refusals.specs.Tests.{firstOf}
+use Rattle.refusals.proofs.Tests.{first-skip}
 use Rattle.ratio_format.specs.Bodies.{openRatios, strictRatios}
 use Rattle.record_format.specs.Runs.{Run, run, field, recordOf}
 use Rattle.record_format.specs.Reading.{Answer, readStrict, readOpen, rateIn, positionsIn, ratiosIn, listOf}

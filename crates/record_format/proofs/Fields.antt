@@ -11,8 +11,8 @@ use lib.Seq.{take-at, drop-at, getD-append-seam, drop-cons, drop-drop, length-ta
 use Rattle.bits.specs.Digits.{digitsOf, bytesOf, numberOf}
 use Rattle.record_format.specs.Runs.{field}
 use Rattle.record_format.specs.Reading.{tagAt, lengthAt, bodyAt, nextAt}
-use Rattle.bits.specs.Below.{Below}
-use Rattle.bits.proofs.Below.{below-take, below-drop}
+use Rattle.lists.specs.Below.{Below}
+use Rattle.lists.proofs.Below.{below-take, below-drop}
 use Rattle.bits.proofs.Digits.{length-digits, number-digits-lt, digits-number}
 
 -- how long a field is

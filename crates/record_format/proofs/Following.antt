@@ -10,11 +10,11 @@ use borrow.Author.Tests.{le-ltb}
 use lib.Dec.{ltb, eqb}
 use lib.ListN.{length, take, drop, length-append, length-drop, List·getD-append}
 use lib.Seq.{take-append-le, drop-append-le}
-use Rattle.bits.specs.Compare.{both}
+use Rattle.lists.specs.Compare.{both}
 use Rattle.bits.specs.Digits.{numberOf}
-use Rattle.bounds.specs.Points.{maxPoints}
-use Rattle.bounds.specs.Rates.{isRate}
-use Rattle.bounds.specs.Tests.{Test, test}
+use Rattle.limits.specs.Points.{maxPoints}
+use Rattle.limits.specs.Rates.{isRate}
+use Rattle.refusals.specs.Tests.{Test, test}
 use Rattle.position_format.specs.Rows.{rows}
 use Rattle.position_format.specs.Positions.{readPositions}
 use Rattle.record_format.specs.Claims.{Followed}

@@ -8,9 +8,9 @@ use native.Mathlib.Omega.{arith}
 use borrow.Author.Tests.{eq-eqb, ne-eqb, le-ltb, lt-ltb}
 use lib.ListN.{length, getD, take, drop}
 use Rattle.bits.specs.Digits.{numberOf}
-use Rattle.bounds.specs.declared.Refusal.{Refusal}
-use Rattle.bounds.specs.Tests.{Test, firstOf}
-use Rattle.bounds.proofs.Tests.{first-here, first-skip}
+use Rattle.refusals.specs.declared.Refusal.{Refusal}
+use Rattle.refusals.specs.Tests.{Test, firstOf}
+use Rattle.refusals.proofs.Tests.{first-here, first-skip}
 use Rattle.record_format.specs.Reading.{tagAt, lengthAt, nextAt, headTests, lengthTest, bodyTest}
 
 -- a refusal by its number and place

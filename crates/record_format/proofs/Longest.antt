@@ -9,11 +9,11 @@ use native.Mathlib.Omega.{arith}
 use borrow.Author.Tests.{le-ltb}
 use lib.IntN.{ℤ, pos}
 use lib.ListN.{length, getD, length-append}
-use Rattle.bits.specs.Below.{Below}
+use Rattle.lists.specs.Below.{Below}
 use Rattle.bits.specs.Digits.{digitsOf}
-use Rattle.bounds.specs.Lists.{member, firstIndex}
-use Rattle.bounds.specs.Rates.{rates, isRate}
-use Rattle.bounds.specs.Points.{maxPoints, maxPosition, tooHigh}
+use Rattle.lists.specs.Lists.{member, firstIndex}
+use Rattle.limits.specs.Rates.{rates, isRate}
+use Rattle.limits.specs.Points.{maxPoints, maxPosition, tooHigh}
 use Rattle.position_format.specs.Rows.{Row, rows, neg, inTable, code}
 use Rattle.position_format.specs.Steps.{stepOf, stepsFrom, steps, outside}
 use Rattle.position_format.specs.Positions.{stepBits, positionBits, codedPositions, validPositions}

@@ -9,13 +9,13 @@ use native.Mathlib.Omega.{arith}
 use borrow.Author.Tests.{eq-eqb, le-ltb}
 use lib.Dec.{ltb, eqb, lit<}
 use lib.ListN.{length, length-append}
-use Rattle.bounds.specs.declared.Refusal.{Refusal}
-use Rattle.bounds.specs.Rates.{isRate}
-use Rattle.bounds.specs.Points.{maxPoints}
-use Rattle.bounds.specs.Tests.{Test, test, firstOf, refused}
-use Rattle.bounds.proofs.Rates.{rate-high}
-use Rattle.bounds.proofs.Tests.{first-skip}
-use Rattle.bits.specs.Compare.{both}
+use Rattle.refusals.specs.declared.Refusal.{Refusal}
+use Rattle.limits.specs.Rates.{isRate}
+use Rattle.limits.specs.Points.{maxPoints}
+use Rattle.refusals.specs.Tests.{Test, test, firstOf, refused}
+use Rattle.limits.proofs.Rates.{rate-high}
+use Rattle.refusals.proofs.Tests.{first-skip}
+use Rattle.lists.specs.Compare.{both}
 use Rattle.bits.specs.Digits.{bytesOf, numberOf}
 use Rattle.position_format.specs.Rows.{rows}
 use Rattle.position_format.specs.Positions.{codedPositions, readPositions}
@@ -23,7 +23,7 @@ use Rattle.ratio_format.specs.Bodies.{codedRatios}
 use Rattle.record_format.specs.Runs.{Run, field, recordOf}
 use Rattle.record_format.specs.Claims.{ownTests, ownAnswer, runAnswer}
 use Rattle.record_format.specs.Reading.{Answer, refusalAnswer, recordAnswer, readTests, readWith, nextAt, bodyAt, second, third, fourth, end, rateIn, countIn, positionsIn, ratiosIn, missing, listOf, fourthTests, thirdTests, secondTests, headTests, bodyTest, lengthTest}
-use Rattle.bits.specs.Below.{Below}
+use Rattle.lists.specs.Below.{Below}
 use Rattle.bits.proofs.Digits.{length-digits, number-digits-lt}
 use Rattle.ratio_format.specs.Windows.{windowSize}
 use Rattle.ratio_format.proofs.Bodies.{nine-bytes}

@@ -9,19 +9,19 @@ use native.Mathlib.Omega.{arith}
 use borrow.Author.Tests.{eqb-true, ltb-false, not-false}
 use lib.Dec.{ltb, eqb, lit<, eqb·suc-zero}
 use lib.ListN.{length, drop}
-use Rattle.bounds.specs.declared.Refusal.{Refusal}
-use Rattle.bounds.specs.Rates.{isRate}
-use Rattle.bounds.specs.Points.{maxPoints}
-use Rattle.bounds.specs.Tests.{firstOf, refused}
-use Rattle.bounds.proofs.Tests.{first-clear}
+use Rattle.refusals.specs.declared.Refusal.{Refusal}
+use Rattle.limits.specs.Rates.{isRate}
+use Rattle.limits.specs.Points.{maxPoints}
+use Rattle.refusals.specs.Tests.{firstOf, refused}
+use Rattle.refusals.proofs.Tests.{first-clear}
 use Rattle.bits.specs.Digits.{digitsOf, bytesOf, numberOf}
 use Rattle.position_format.specs.Rows.{rows}
 use Rattle.position_format.specs.Positions.{codedPositions, validPositions}
 use Rattle.ratio_format.specs.Bodies.{codedRatios, strictRatios}
 use Rattle.record_format.specs.Runs.{Run, run, field, recordOf}
 use Rattle.record_format.specs.Reading.{Answer, refusalAnswer, recordAnswer, readTests, readWith, readStrict, lengthAt, nextAt, bodyAt, tagAt, second, third, fourth, end, rateIn, countIn, positionsIn, ratiosIn, missing}
-use Rattle.bits.specs.Below.{Below}
-use Rattle.bits.proofs.Below.{below-take, below-drop}
+use Rattle.lists.specs.Below.{Below}
+use Rattle.lists.proofs.Below.{below-take, below-drop}
 use Rattle.bits.proofs.Digits.{digits-number}
 use Rattle.ratio_format.proofs.Strict.{strict-only-body, strict-below}
 use Rattle.position_format.proofs.Positions.{read-only}

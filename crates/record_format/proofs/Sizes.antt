@@ -6,10 +6,10 @@ use Prim.Native.Nat.{ℕ, _≤_}
 use native.Mathlib.Omega.{arith}
 use lib.Dec.{lit≤}
 use lib.ListN.{length}
-use Rattle.bits.specs.Below.{Below}
+use Rattle.lists.specs.Below.{Below}
 use Rattle.bits.specs.Digits.{digitsOf}
 use Rattle.bits.specs.Packing.{eights, pack}
-use Rattle.bounds.specs.Rates.{isRate}
+use Rattle.limits.specs.Rates.{isRate}
 use Rattle.position_format.specs.Rows.{rows}
 use Rattle.position_format.specs.Positions.{positionBits, codedPositions}
 use Rattle.position_format.proofs.Valid.{valid-none}

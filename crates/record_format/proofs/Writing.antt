@@ -7,11 +7,12 @@ use Prim.Native.Nat.{ℕ, _≤_, _<_}
 use native.Mathlib.Omega.{arith}
 use borrow.Author.Tests.{eq-eqb, ne-eqb, le-ltb, lt-ltb}
 use lib.ListN.{length, drop}
-use Rattle.bounds.specs.declared.Refusal.{Refusal}
-use Rattle.bounds.specs.Points.{maxPoints, firstHigh}
-use Rattle.bounds.specs.Rates.{isRate}
-use Rattle.bounds.specs.Tests.{firstOf, zeros, over, test}
-use Rattle.bounds.proofs.Tests.{first-here, first-skip, first-end, first-append-none, first-append-some}
+use Rattle.refusals.specs.declared.Refusal.{Refusal}
+use Rattle.limits.specs.Points.{maxPoints, firstHigh}
+use Rattle.limits.specs.Rates.{isRate}
+use Rattle.refusals.specs.Tests.{firstOf, test}
+use Rattle.outputs.specs.Outputs.{zeros, over}
+use Rattle.refusals.proofs.Tests.{first-here, first-skip, first-end, first-append-none, first-append-some}
 use Rattle.position_format.specs.Rows.{rows}
 use Rattle.position_format.specs.Steps.{firstOutside}
 use Rattle.record_format.specs.declared.WriteAnswer.{WriteAnswer}

@@ -12,10 +12,11 @@ use mathlib.Core.Path.{_≡_}
 use Prim.Native.Nat.{ℕ, _*_, _≤_, _^_}
 use lib.Dec.{ltb, eqb}
 use lib.ListN.{length}
-use Rattle.bits.specs.Below.{Below}
-use Rattle.bits.specs.Compare.{both}
-use Rattle.bounds.specs.Points.{maxPoints}
-use Rattle.bounds.specs.Tests.{Test, test, firstOf, refused, over}
+use Rattle.lists.specs.Below.{Below}
+use Rattle.lists.specs.Compare.{both}
+use Rattle.limits.specs.Points.{maxPoints}
+use Rattle.refusals.specs.Tests.{Test, test, firstOf, refused}
+use Rattle.outputs.specs.Outputs.{over}
 use Rattle.ratio_format.specs.Bodies.{codedRatios, openRatios}
 use Rattle.record_format.specs.Runs.{Run, recordOf}
 use Rattle.record_format.specs.Writing.{accepts}

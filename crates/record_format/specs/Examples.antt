@@ -9,8 +9,8 @@ use Rattle.bits.specs.Packing.{eights, pack}
 use Rattle.position_format.specs.Rows.{rows, neg, code}
 use Rattle.position_format.specs.Steps.{stepsFrom}
 use Rattle.position_format.specs.Positions.{stepBits, positionBits, codedPositions}
-use Rattle.ratio_format.specs.Zeros.{zerosAt, leadZeros, trailZeros, score}
-use Rattle.ratio_format.specs.Choice.{find, best, form}
+use Rattle.ratio_format.specs.Zeros.{zerosAt, leadZeros, trailZeros, sumOf}
+use Rattle.ratio_format.specs.Choice.{find, best, ratioForm}
 use Rattle.ratio_format.specs.Forms.{written, coded}
 use Rattle.ratio_format.specs.Bodies.{codedFrom, codedRatios}
 use Rattle.record_format.specs.Runs.{Run, run, field, recordOf}
@@ -64,5 +64,5 @@ examples =
 
 -- each row's code, computed from the definitions, is the one that is printed
 pub examples-hold : map (λ e. codeOf (e .subject)) examples ≡ map (λ e. e .printed) examples
-unfolding examples codeOf digitsOf numberOf eights pack rows code stepsFrom stepBits positionBits codedPositions zerosAt leadZeros trailZeros score find best form written coded codedFrom field recordOf
+unfolding examples codeOf digitsOf numberOf eights pack rows code stepsFrom stepBits positionBits codedPositions zerosAt leadZeros trailZeros sumOf find best ratioForm written coded codedFrom field recordOf
 examples-hold = refl

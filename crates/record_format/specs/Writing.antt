@@ -10,10 +10,11 @@ use mathlib.Core.List.{List, [], _∷_, _++_}
 use Prim.Native.Nat.{ℕ}
 use lib.Dec.{ltb, eqb}
 use lib.ListN.{length}
-use Rattle.bounds.specs.declared.Refusal.{Refusal}
-use Rattle.bounds.specs.Rates.{isRate}
-use Rattle.bounds.specs.Points.{maxPoints, firstHigh}
-use Rattle.bounds.specs.Tests.{Test, test, firstOf, refused, zeros, over}
+use Rattle.refusals.specs.declared.Refusal.{Refusal}
+use Rattle.limits.specs.Rates.{isRate}
+use Rattle.limits.specs.Points.{maxPoints, firstHigh}
+use Rattle.refusals.specs.Tests.{Test, test, firstOf, refused}
+use Rattle.outputs.specs.Outputs.{zeros, over}
 use Rattle.position_format.specs.Rows.{rows}
 use Rattle.position_format.specs.Steps.{firstOutside}
 use Rattle.record_format.specs.declared.WriteAnswer.{WriteAnswer}

@@ -6,11 +6,11 @@ use Prim.Native.Nat.{ℕ, _≤_, _<_}
 use borrow.Author.Tests.{lt-ltb, le-ltb}
 use lib.IntN.{pos}
 use lib.ListN.{length}
-use Rattle.bounds.specs.declared.Refusal.{Refusal}
-use Rattle.bounds.specs.Points.{maxPoints, firstHigh}
-use Rattle.bounds.specs.Rates.{isRate}
-use Rattle.bounds.specs.Tests.{firstOf}
-use Rattle.bounds.proofs.Tests.{first-end, first-skip, first-here}
+use Rattle.refusals.specs.declared.Refusal.{Refusal}
+use Rattle.limits.specs.Points.{maxPoints, firstHigh}
+use Rattle.limits.specs.Rates.{isRate}
+use Rattle.refusals.specs.Tests.{firstOf}
+use Rattle.refusals.proofs.Tests.{first-end, first-skip, first-here}
 use Rattle.span.specs.Spans.{milliseconds, spanTests, spanAnswer, spanned}
 
 module _ (r : ℕ) (ts : List ℕ) where

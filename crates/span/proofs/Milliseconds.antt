@@ -7,7 +7,7 @@ use native.Mathlib.Omega.{arith}
 use lib.IntN.{ℤ, pos, negℤ, _-ℤ_, _*ℤ_}
 use lib.ListN.{length}
 use Rattle.span.specs.Spans.{towardZero, milliseconds}
-use Rattle.bounds.proofs.Integers.{diff-pos, diff-neg}
+use Rattle.integers.proofs.Integers.{diff-pos, diff-neg}
 
 quot-neg : (x r : ℕ) → towardZero (negℤ (pos x)) r ≡ negℤ (pos (x / r))
 quot-neg zero r = rw zero-div refl

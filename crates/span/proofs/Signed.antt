@@ -7,7 +7,7 @@ use lib.Signed.{mag}
 use mir.Syntax.{w64}
 use mir.Val.{toZ, ofZ, SFits}
 use mir.ValLaws.{toZ-ofZ, toZ-pos}
-use Rattle.bounds.proofs.Integers.{diff-neg}
+use Rattle.integers.proofs.Integers.{diff-neg}
 
 -- ---- -m as the machine computes it: 0 less what is read back
 

@@ -11,10 +11,10 @@ use lib.Dec.{ltb}
 use lib.IntN.{ℤ, pos, _-ℤ_, _*ℤ_}
 use lib.ListN.{length, getD}
 use lib.Signed.{quotZ}
-use Rattle.bounds.specs.declared.Refusal.{Refusal}
-use Rattle.bounds.specs.Rates.{isRate}
-use Rattle.bounds.specs.Points.{maxPoints, firstHigh}
-use Rattle.bounds.specs.Tests.{Test, test, firstOf, refused}
+use Rattle.refusals.specs.declared.Refusal.{Refusal}
+use Rattle.limits.specs.Rates.{isRate}
+use Rattle.limits.specs.Points.{maxPoints, firstHigh}
+use Rattle.refusals.specs.Tests.{Test, test, firstOf, refused}
 use Rattle.span.specs.declared.SpanAnswer.{SpanAnswer}
 
 -- the rounding of a span

@@ -39,21 +39,21 @@ fn between(first: u64, last: u64, rate: u64) -> i64
 pub fn span(rate: u32, positions: &[u64]) -> SpanAnswer
     ensures { λ r. ⌜ r ≡ spanned rate (now (positions .entry)) ⌝ }
 {
-    if !bounds::is_rate(rate) {
+    if !limits::is_rate(rate) {
         return SpanAnswer {
             number: 1,
             place: 0,
             milliseconds: 0,
         };
     }
-    if bounds::MAX_POINTS < positions.len() {
+    if limits::MAX_POINTS < positions.len() {
         return SpanAnswer {
             number: 3,
             place: 0,
             milliseconds: 0,
         };
     }
-    let high = bounds::first_high(positions);
+    let high = limits::first_high(positions);
     if high < positions.len() {
         return SpanAnswer {
             number: 4,

@@ -8,7 +8,7 @@ use native.Mathlib.Omega.{arith}
 use lib.ListN.{length, getD, take}
 use lib.Seq.{take-length}
 use Rattle.text.specs.Lines.{pointLine, pointLines}
-use Rattle.text.specs.Put.{Put}
+use Rattle.text.specs.PlacedAt.{PlacedAt}
 use Rattle.text.proofs.Putting.{put-none, put-as, put-put}
 
 lines-more : (ts vs : List ℕ) (i : ℕ) → i < length ts → i < length vs
@@ -22,7 +22,7 @@ lines-more (t ∷ ts) (v ∷ vs) (suc i) h g =
 
 -- the lines of the first i points were put there
 abbrev pub Points : ℕ → List ℕ → List ℕ → ℕ → ℕ → List ℕ → List ℕ → Type 0
-Points i ts vs at e o p = Put (38 * i) (pointLines (take i ts) (take i vs)) at e o p
+Points i ts vs at e o p = PlacedAt (38 * i) (pointLines (take i ts) (take i vs)) at e o p
 
 module _ (ts vs : List ℕ) (same : length ts ≡ length vs) where
   pub points-none : (at : ℕ) (o : List ℕ) → Points 0 ts vs at at o o
@@ -30,14 +30,14 @@ module _ (ts vs : List ℕ) (same : length ts ≡ length vs) where
   points-none at o = put-none at o
 
   pub points-more : {i at e f : ℕ} {o p q : List ℕ} → i < length ts → at + 38 * i ≤ length o
-      → Points i ts vs at e o p → Put 38 (pointLine (getD ts i 0) (getD vs i 0)) e f p q → Points (i + 1) ts vs at f o q
+      → Points i ts vs at e o p → PlacedAt 38 (pointLine (getD ts i 0) (getD vs i 0)) e f p q → Points (i + 1) ts vs at f o q
   points-more {i} i< room h g =
       let l = put-put room h g in
       let e : pointLines (take i ts) (take i vs) ++ pointLine (getD ts i 0) (getD vs i 0) ≡ pointLines (take (i + 1) ts) (take (i + 1) vs) =
       rw add-one (lines-more ts vs i i< (omega arith)) in
       put-as (omega (arith, ap length e, l .most)) e l
 
-  pub points-all : {i at e : ℕ} {o p : List ℕ} → length ts ≡ i → Points i ts vs at e o p → Put (38 * length ts) (pointLines ts vs) at e o p
+  pub points-all : {i at e : ℕ} {o p : List ℕ} → length ts ≡ i → Points i ts vs at e o p → PlacedAt (38 * length ts) (pointLines ts vs) at e o p
   points-all {i} all h =
       let e : pointLines (take i ts) (take i vs) ≡ pointLines ts vs = rw (← all, take-length, same, take-length) in
       put-as (omega (arith, ap length e, h .most)) e h

@@ -7,9 +7,9 @@ use native.Mathlib.Numerals.{add-one}
 use native.Mathlib.Omega.{arith}
 use lib.ListN.{length, getD, set, length-append, take-append-drop}
 use lib.Seq.{take-length, paste, paste-suc}
-use Rattle.bits.specs.Splice.{splice}
-use Rattle.bits.proofs.Splice.{splice-splice}
-use Rattle.text.specs.Put.{Put}
+use Rattle.outputs.specs.Outputs.{overAt}
+use Rattle.outputs.proofs.Outputs.{overAt-overAt}
+use Rattle.text.specs.PlacedAt.{PlacedAt}
 
 -- a turn of the loop that copies
 pub copy-more : (o p ts : List ℕ) (at i : ℕ) → at + length ts ≤ length o → i < length ts → p ≡ paste o at ts i
@@ -17,7 +17,7 @@ pub copy-more : (o p ts : List ℕ) (at i : ℕ) → at + length ts ≤ length o
 copy-more o p ts at i room i< e = rw (e, add-one) (paste-suc o at ts i 0 (omega arith) i<)
 
 -- after the last turn
-pub copied : (o p ts : List ℕ) (at i : ℕ) → length ts ≡ i → p ≡ paste o at ts i → Put (length ts) ts at (at + i) o p
+pub copied : (o p ts : List ℕ) (at i : ℕ) → length ts ≡ i → p ≡ paste o at ts i → PlacedAt (length ts) ts at (at + i) o p
 copied o p ts at i e h = record {
   most = le-refl (length ts);
   next = ap (λ (n : ℕ). at + n) (sym e);
@@ -25,24 +25,24 @@ copied o p ts at i e h = record {
 }
 
 -- no text
-pub put-none : (at : ℕ) (o : List ℕ) → Put 0 [] at at o o
+pub put-none : (at : ℕ) (o : List ℕ) → PlacedAt 0 [] at at o o
 put-none at o = record { most = le-refl 0; next = sym (add-zero at); after = sym (rw add-zero (take-append-drop at o)) }
 
 -- a text under another name, with another bound, and both
-pub put-same : {m : ℕ} {a b : List ℕ} {at e : ℕ} {o p : List ℕ} → a ≡ b → Put m a at e o p → Put m b at e o p
+pub put-same : {m : ℕ} {a b : List ℕ} {at e : ℕ} {o p : List ℕ} → a ≡ b → PlacedAt m a at e o p → PlacedAt m b at e o p
 put-same e h = rw e at h
 
-pub put-more : {m n : ℕ} {ts : List ℕ} {at e : ℕ} {o p : List ℕ} → m ≤ n → Put m ts at e o p → Put n ts at e o p
+pub put-more : {m n : ℕ} {ts : List ℕ} {at e : ℕ} {o p : List ℕ} → m ≤ n → PlacedAt m ts at e o p → PlacedAt n ts at e o p
 put-more l h = record { most = le-trans (h .most) l; next = h .next; after = h .after }
 
-pub put-as : {m n : ℕ} {a b : List ℕ} {at e : ℕ} {o p : List ℕ} → length b ≤ n → a ≡ b → Put m a at e o p → Put n b at e o p
+pub put-as : {m n : ℕ} {a b : List ℕ} {at e : ℕ} {o p : List ℕ} → length b ≤ n → a ≡ b → PlacedAt m a at e o p → PlacedAt n b at e o p
 put-as l e h = record { most = l; next = rw e at (h .next); after = rw e at (h .after) }
 
 -- a text, and then the next one after it
-pub put-put : {m n : ℕ} {a b : List ℕ} {at e f : ℕ} {o p q : List ℕ} → at + m ≤ length o → Put m a at e o p → Put n b e f p q → Put (m + n) (a ++ b) at f o q
+pub put-put : {m n : ℕ} {a b : List ℕ} {at e f : ℕ} {o p q : List ℕ} → at + m ≤ length o → PlacedAt m a at e o p → PlacedAt n b e f p q → PlacedAt (m + n) (a ++ b) at f o q
 put-put {m} {n} {a} {b} {at} {e} {f} {o} {p} {q} room h g = record {
   most = omega (arith, h .most, g .most, length-append a b);
   next = omega (arith, h .next, g .next, length-append a b);
-  after = g .after ∙ ap₂ (λ (x : List ℕ) (i : ℕ). splice x i (length b) b) (h .after) (h .next)
-      ∙ splice-splice o at (length a) a refl (omega (arith, h .most)) (length b) b ∙ ap (λ (k : ℕ). splice o at k (a ++ b)) (sym (length-append a b));
+  after = g .after ∙ ap₂ (λ (x : List ℕ) (i : ℕ). overAt x i (length b) b) (h .after) (h .next)
+      ∙ overAt-overAt o at (length a) a refl (omega (arith, h .most)) (length b) b ∙ ap (λ (k : ℕ). overAt o at k (a ++ b)) (sym (length-append a b));
 }

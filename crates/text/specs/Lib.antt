@@ -1,4 +1,4 @@
 pub mod Numbers
 pub mod Lines
-pub mod Put
+pub mod PlacedAt
 pub mod Examples

@@ -7,12 +7,12 @@ ghost use lib.IntN.{natAbs};
 ghost use lib.ListN.{length};
 ghost use Rattle.text.specs.Lines.{newline, rateLine, countLine, spanLine, pointLine, refusedLine, pointLines, listing};
 ghost use Rattle.text.specs.Numbers.{decimal, hex16, signed};
-ghost use Rattle.text.specs.Put.{Put};
+ghost use Rattle.text.specs.PlacedAt.{PlacedAt};
 
 // A text as it stands.
 fn put_text(out: &mut [u8], at: usize, text: &[u8]) -> usize
     requires { ⌜ at + length (now text) ≤ length (now out) ⌝ }
-    ensures { λ r. ⌜ Put (length (now (text .entry))) (now (text .entry)) at r (now (out .entry)) (now (out .exit)) ⌝ }
+    ensures { λ r. ⌜ PlacedAt (length (now (text .entry))) (now (text .entry)) at r (now (out .entry)) (now (out .exit)) ⌝ }
 {
     let mut i = 0;
     while i < text.len() {
@@ -25,7 +25,7 @@ fn put_text(out: &mut [u8], at: usize, text: &[u8]) -> usize
 // A number in base 10.
 fn put_decimal(out: &mut [u8], at: usize, n: u64) -> usize
     requires { ⌜ at + 20 ≤ length (now out) ⌝ }
-    ensures { λ r. ⌜ Put 20 (decimal n) at r (now (out .entry)) (now (out .exit)) ⌝ }
+    ensures { λ r. ⌜ PlacedAt 20 (decimal n) at r (now (out .entry)) (now (out .exit)) ⌝ }
 {
     let mut digits = [0; 20];
     let k = io::decimal(n, &mut digits);
@@ -35,7 +35,7 @@ fn put_decimal(out: &mut [u8], at: usize, n: u64) -> usize
 // 64 bits as 16 hex digits.
 fn put_hex(out: &mut [u8], at: usize, v: u64) -> usize
     requires { ⌜ at + 16 ≤ length (now out) ⌝ }
-    ensures { λ r. ⌜ Put 16 (hex16 v) at r (now (out .entry)) (now (out .exit)) ⌝ }
+    ensures { λ r. ⌜ PlacedAt 16 (hex16 v) at r (now (out .entry)) (now (out .exit)) ⌝ }
 {
     let mut digits = [0; 16];
     let k = io::hex(v, 16, &mut digits);
@@ -55,7 +55,7 @@ fn magnitude(z: i64) -> u64
 // A signed number in base 10.
 fn put_signed(out: &mut [u8], at: usize, z: i64) -> usize
     requires { ⌜ at + 21 ≤ length (now out) ⌝ }
-    ensures { λ r. ⌜ Put 21 (signed z) at r (now (out .entry)) (now (out .exit)) ⌝ }
+    ensures { λ r. ⌜ PlacedAt 21 (signed z) at r (now (out .entry)) (now (out .exit)) ⌝ }
 {
     let n = magnitude(z);
     if z < 0 {
@@ -68,7 +68,7 @@ fn put_signed(out: &mut [u8], at: usize, z: i64) -> usize
 // A word, a number in base 10 and the line's end.
 fn put_named(out: &mut [u8], at: usize, word: &[u8], n: u64) -> usize
     requires { ⌜ at + (length (now word) + 21) ≤ length (now out) ⌝ }
-    ensures { λ r. ⌜ Put (length (now (word .entry)) + 21) (now (word .entry) ++ (decimal n ++ newline)) at r (now (out .entry)) (now (out .exit)) ⌝ }
+    ensures { λ r. ⌜ PlacedAt (length (now (word .entry)) + 21) (now (word .entry) ++ (decimal n ++ newline)) at r (now (out .entry)) (now (out .exit)) ⌝ }
 {
     let number = put_text(out, at, word);
     let end = put_decimal(out, number, n);
@@ -78,7 +78,7 @@ fn put_named(out: &mut [u8], at: usize, word: &[u8], n: u64) -> usize
 // The line of the rate.
 fn put_rate(out: &mut [u8], at: usize, rate: u32) -> usize
     requires { ⌜ at + 26 ≤ length (now out) ⌝ }
-    ensures { λ r. ⌜ Put 26 (rateLine rate) at r (now (out .entry)) (now (out .exit)) ⌝ }
+    ensures { λ r. ⌜ PlacedAt 26 (rateLine rate) at r (now (out .entry)) (now (out .exit)) ⌝ }
 {
     put_named(out, at, b"rate ", rate as u64)
 }
@@ -86,7 +86,7 @@ fn put_rate(out: &mut [u8], at: usize, rate: u32) -> usize
 // The line of the count.
 fn put_count(out: &mut [u8], at: usize, count: u64) -> usize
     requires { ⌜ at + 27 ≤ length (now out) ⌝ }
-    ensures { λ r. ⌜ Put 27 (countLine count) at r (now (out .entry)) (now (out .exit)) ⌝ }
+    ensures { λ r. ⌜ PlacedAt 27 (countLine count) at r (now (out .entry)) (now (out .exit)) ⌝ }
 {
     put_named(out, at, b"count ", count)
 }
@@ -94,7 +94,7 @@ fn put_count(out: &mut [u8], at: usize, count: u64) -> usize
 // The line of the span.
 fn put_span(out: &mut [u8], at: usize, span: i64) -> usize
     requires { ⌜ at + 27 ≤ length (now out) ⌝ }
-    ensures { λ r. ⌜ Put 27 (spanLine span) at r (now (out .entry)) (now (out .exit)) ⌝ }
+    ensures { λ r. ⌜ PlacedAt 27 (spanLine span) at r (now (out .entry)) (now (out .exit)) ⌝ }
 {
     let number = put_text(out, at, b"span ");
     let end = put_signed(out, number, span);
@@ -104,7 +104,7 @@ fn put_span(out: &mut [u8], at: usize, span: i64) -> usize
 // The line of a point.
 fn put_point(out: &mut [u8], at: usize, position: u64, ratio: u64) -> usize
     requires { ⌜ at + 38 ≤ length (now out) ⌝ }
-    ensures { λ r. ⌜ Put 38 (pointLine position ratio) at r (now (out .entry)) (now (out .exit)) ⌝ }
+    ensures { λ r. ⌜ PlacedAt 38 (pointLine position ratio) at r (now (out .entry)) (now (out .exit)) ⌝ }
 {
     let gap = put_decimal(out, at, position);
     let digits = put_text(out, gap, b" ");
@@ -115,7 +115,7 @@ fn put_point(out: &mut [u8], at: usize, position: u64, ratio: u64) -> usize
 // The line of a refusal.
 pub fn put_refused(out: &mut [u8], at: usize, number: u32, place: u32) -> usize
     requires { ⌜ at + 53 ≤ length (now out) ⌝ }
-    ensures { λ r. ⌜ Put 53 (refusedLine number place) at r (now (out .entry)) (now (out .exit)) ⌝ }
+    ensures { λ r. ⌜ PlacedAt 53 (refusedLine number place) at r (now (out .entry)) (now (out .exit)) ⌝ }
 {
     let first = put_text(out, at, b"refused ");
     let gap = put_decimal(out, first, number as u64);
@@ -125,7 +125,7 @@ pub fn put_refused(out: &mut [u8], at: usize, number: u32, place: u32) -> usize
 // The lines of the points.
 fn put_points(out: &mut [u8], at: usize, positions: &[u64], ratios: &[u64]) -> usize
     requires { ⌜ (length (now positions) ≡ length (now ratios)) × (at + 38 * length (now positions) ≤ length (now out)) ⌝ }
-    ensures { λ r. ⌜ Put (38 * length (now (positions .entry))) (pointLines (now (positions .entry)) (now (ratios .entry))) at r (now (out .entry)) (now (out .exit)) ⌝ }
+    ensures { λ r. ⌜ PlacedAt (38 * length (now (positions .entry))) (pointLines (now (positions .entry)) (now (ratios .entry))) at r (now (out .entry)) (now (out .exit)) ⌝ }
 {
     let mut end = at;
     let mut i = 0;
@@ -139,7 +139,7 @@ fn put_points(out: &mut [u8], at: usize, positions: &[u64], ratios: &[u64]) -> u
 // The text of a run.
 pub fn put_listing(out: &mut [u8], rate: u32, span: i64, positions: &[u64], ratios: &[u64]) -> usize
     requires { ⌜ (length (now positions) ≡ length (now ratios)) × (80 + 38 * length (now positions) ≤ length (now out)) ⌝ }
-    ensures { λ r. ⌜ Put (80 + 38 * length (now (positions .entry))) (listing rate span (now (positions .entry)) (now (ratios .entry))) 0 r (now (out .entry)) (now (out .exit)) ⌝ }
+    ensures { λ r. ⌜ PlacedAt (80 + 38 * length (now (positions .entry))) (listing rate span (now (positions .entry)) (now (ratios .entry))) 0 r (now (out .entry)) (now (out .exit)) ⌝ }
 {
     let count = put_rate(out, 0, rate);
     let third = put_count(out, count, positions.len() as u64);

@@ -1,7 +1,7 @@
 -- `bits::get_bits` meets its contract: the field is read by way of the number of the bytes that hold it.
 use native.Mathlib.Omega.{arith}
 use borrow.Author.Needs.{needs}
-use Rattle.bits.proofs.Below.{below-of}
+use Rattle.lists.proofs.Below.{below-of}
 use Rattle.bits.proofs.Field.{get-is}
 use Rattle.bits.proofs.Word.{mask-pos}
 use Rattle.bits.proofs.get_bits.Statement.{statement}

@@ -4,7 +4,7 @@ use native.Mathlib.Omega.{arith}
 use borrow.Author.Needs.{needs}
 use lib.ListN.{drop, length-drop}
 use Rattle.bits.specs.Digits.{numberOf}
-use Rattle.bits.proofs.Below.{below-of, below-drop}
+use Rattle.lists.proofs.Below.{below-of, below-drop}
 use Rattle.bits.proofs.Read.{first-bytes}
 use Rattle.bits.proofs.get_first.Statement.{statement}
 use Rattle.bits.proofs.get_first.Tie as tie

@@ -6,8 +6,8 @@ use lib.Seq.{length-take-le}
 use mir.Syntax.{w64}
 use mir.Val.{SFits}
 use mir.ValLaws.{toZ-ofZ}
-use Rattle.bits.specs.Below.{Below}
-use Rattle.bits.proofs.Below.{below-of}
+use Rattle.lists.specs.Below.{Below}
+use Rattle.lists.proofs.Below.{below-of}
 use Rattle.span.specs.declared.SpanAnswer.{SpanAnswer}
 use Rattle.text.proofs.Putting.{put-same, put-more}
 use Rattle.listing.proofs.Texts.{Read, read-as, refused-text, run-text, Held, longest, held}

@@ -9,9 +9,9 @@ use borrow.Author.Needs.{needs}
 use borrow.Author.Tests.{ne-eqb, not-true, not-false}
 use lib.Dec.{eqb}
 use lib.ListN.{length, getD, take, drop, replicate}
-use Rattle.bits.specs.Compare.{begins}
-use Rattle.bits.proofs.Parts.{rest-is}
-use Rattle.ratio_format.specs.declared.Read.the-variants.{Ratio, Refused}
+use Rattle.lists.specs.Compare.{begins}
+use Rattle.outputs.proofs.Parts.{rest-is}
+use Rattle.ratio_format.specs.declared.Read.the-variants.{Ratio, Nothing}
 use Rattle.ratio_format.specs.Windows.{windowSize, windowOf}
 use Rattle.ratio_format.specs.Forms.{coded}
 use Rattle.ratio_format.specs.Open.{openRead, strictRead}
@@ -63,7 +63,7 @@ returns c =
     let w = windowOf windowSize (take (l .i) (l .out)) in
     let s = drop (l .at) (a .body .now) in
     filled-strict (a .count) (a .body .now) (a .out .now) (l .out) false (λ i. d .shared-slice-known .given i .fits)
-    (got-refused strictRead (a .count) (a .body .now) (a .out .now) (l .out) (l .at) (l .i) (l .inv .0) (omega arith) Refused
+    (got-refused strictRead (a .count) (a .body .now) (a .out .now) (l .out) (l .at) (l .i) (l .inv .0) (omega arith) Nothing
     (strict-refused w s (o .result) (o .ensures) (c .enum-told .given .1)) refl)
 
 refresh-requires : tie.Need-refresh-requires Inv-loop μ-loop
@@ -140,8 +140,8 @@ returns-2 c =
     let d = r .before .before .before .before .before .before .before .before .before .before .before .before .before .before .before in
     let a = d .before .args in
     filled-strict (a .count) (a .body .now) (a .out .now) (l .out) false (λ i. d .shared-slice-known .given i .fits)
-    (got-refused strictRead (a .count) (a .body .now) (a .out .now) (l .out) (l .at) (l .i) (l .inv .0) (turn r) Refused
-    (subst (λ (t : List ℕ). Refused ≡ strictRead (w r) t) (whole r) (strict-other (w r) (s r) (o .result) (found r) (v r) (n r) (x .accepts .result) (r .before .before .before .before .before .before .before .before .r .given .1) (x .accepts .ensures) (not-true (x .accepts .result) (c .if1 .taken)))) refl)
+    (got-refused strictRead (a .count) (a .body .now) (a .out .now) (l .out) (l .at) (l .i) (l .inv .0) (turn r) Nothing
+    (subst (λ (t : List ℕ). Nothing ≡ strictRead (w r) t) (whole r) (strict-other (w r) (s r) (o .result) (found r) (v r) (n r) (x .accepts .result) (r .before .before .before .before .before .before .before .before .r .given .1) (x .accepts .ensures) (not-true (x .accepts .result) (c .if1 .taken)))) refl)
 
 -- what was accepted
 module _ (c : tie.Else1 Inv-loop μ-loop) where

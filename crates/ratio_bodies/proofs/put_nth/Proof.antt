@@ -4,8 +4,8 @@ use mathlib.Core.List.{List}
 use Prim.Native.Nat.{ℕ}
 use native.Mathlib.Omega.{arith}
 use lib.ListN.{getD}
-use Rattle.bounds.specs.Outputs.{Placed}
-use Rattle.ratio_format.specs.declared.Form.{Form}
+use Rattle.outputs.specs.Outputs.{Placed}
+use Rattle.ratio_format.specs.declared.RatioForm.{RatioForm}
 use Rattle.ratio_format.specs.Forms.{written, coded}
 use Rattle.ratio_bodies.proofs.Start.{window-fit}
 use borrow.Author.Needs.{needs}
@@ -51,7 +51,7 @@ returns-2 c =
     let p = c .before .before .put-form in
     let f = c .before .before .before .before .choose-nth in
     let a = c .before .before .before .before .before .before .before .before .before .args in
-    subst (λ (x : Form). Placed (written (getD (a .ratios .now) (a .i) 0) x) (p .result) (a .out .now) (p .last .1 .1 .0)) (f .ensures) (p .ensures)
+    subst (λ (x : RatioForm). Placed (written (getD (a .ratios .now) (a .i) 0) x) (p .result) (a .out .now) (p .last .1 .1 .0)) (f .ensures) (p .ensures)
 
 pub put-nth-spec : {M : Type 1} → statement M
 put-nth-spec =

@@ -9,10 +9,10 @@ use lib.IntN.{ℤ}
 use lib.ListN.{length}
 use mir.Syntax.{w64}
 use mir.ValLaws.{toZ-ofZ}
-use Rattle.bounds.specs.Points.{firstHigh}
-use Rattle.bounds.specs.Rates.{isRate}
-use Rattle.bounds.proofs.Rates.{rate-low, rate-high}
-use Rattle.bounds.proofs.Points.{high-none}
+use Rattle.limits.specs.Points.{firstHigh}
+use Rattle.limits.specs.Rates.{isRate}
+use Rattle.limits.proofs.Rates.{rate-low, rate-high}
+use Rattle.limits.proofs.Points.{high-none}
 use Rattle.span.specs.declared.SpanAnswer.{SpanAnswer}
 use Rattle.span.specs.Spans.{milliseconds, spanned}
 use Rattle.span.proofs.Milliseconds.{milliseconds-short}

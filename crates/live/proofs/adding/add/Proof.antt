@@ -9,8 +9,9 @@ use borrow.Author.Tests.{lt-ltb, le-ltb, le-leb, lt-leb}
 use lib.Dec.{leb, eqb}
 use lib.ListN.{length, take, replicate}
 use lib.Seq.{length-take-le}
-use Rattle.bounds.specs.Points.{maxPoints}
-use Rattle.bounds.specs.Tests.{none, over}
+use Rattle.limits.specs.Points.{maxPoints}
+use Rattle.refusals.specs.Tests.{noRefusal}
+use Rattle.outputs.specs.Outputs.{over}
 use Rattle.ratio_format.specs.declared.Window.{Window}
 use Rattle.ratio_format.specs.declared.Live.{Live}
 use Rattle.ratio_format.specs.Windows.{pushed}
@@ -30,7 +31,7 @@ refused s v o n z e r q p l t =
     (t .0 ∙ sym (f .0), t .1 ∙ sym (f .1), t .2 ∙ ap (λ (k : ℕ). replicate k 0) l ∙ sym (f .2))
 
 -- a success, by what `encode` and `push` say
-succeeded : (s : Live) (v : ℕ) (o : List ℕ) → addRefusal s v o ≡ none
+succeeded : (s : Live) (v : ℕ) (o : List ℕ) → addRefusal s v o ≡ noRefusal
     → (n : ℕ) (w : Window) (p : List ℕ) → n ≡ length (addBytes s v) → w ≡ pushed (s .window) v → p ≡ over (addBytes s v) o
     → (record { number = 0; place = 0; length = n } ≡ addAnswer s v o) × (record { window = w; seen = s .seen + 1 } ≡ addState s v o) × (p ≡ addOutput s v o)
 succeeded s v o e n w p en ew ep =

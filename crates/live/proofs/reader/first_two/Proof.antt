@@ -46,7 +46,7 @@ use denote.Triple.Clauses.{ensured, lasts}
 use denote.Triple.Table.{entered, cited}
 use denote.Triple.Walked.{says, Stays, stay-none, stay-none-slice, walkOf, goes-none, goes-none-slice, Walks, ends-at, walked, walk-meets}
 use denote.Signature.{plain}
-use Rattle.bounds.specs.declared.Refusal.{Refusal}
+use Rattle.refusals.specs.declared.Refusal.{Refusal}
 use Rattle.ratio_format.specs.declared.Cursor.{Cursor}
 use Rattle.ratio_format.specs.declared.StepAnswer.{StepAnswer}
 use Rattle.ratio_format.specs.Stepping.{made, madeBody, madeCursor, stepAnswer, stepCursor}
@@ -54,8 +54,8 @@ use Rattle.live.specs.declared.reader.Reader.{Reader}
 use Rattle.live.specs.declared.reader.Making.{Making}
 use Rattle.live.specs.declared.reader.Two.{Two}
 use Rattle.live.specs.Readers.{cursorOf, nextAnswer, nextReader, firstTwo}
-use Rattle.bounds.proofs.Refusal as TF
-use Rattle.bounds.proofs.Refusal.Laws as TF′
+use Rattle.refusals.proofs.Refusal as TF
+use Rattle.refusals.proofs.Refusal.Laws as TF′
 use Rattle.ratio_format.proofs.StepAnswer as TS
 use Rattle.ratio_format.proofs.StepAnswer.Laws as TS′
 use Rattle.live.proofs.Loan.{puts, takes}

@@ -38,14 +38,14 @@ use denote.Triple.Clauses.{ensured, lasts}
 use denote.Triple.Table.{entered, cited}
 use denote.Triple.Walked.{says, Stays, stay-none, stay-none-slice, walkOf, goes-none, goes-none-slice, Walks, ends-at, walked, walk-meets}
 use denote.Signature.{plain, namedLft}
-use Rattle.bounds.specs.declared.Refusal.{Refusal}
+use Rattle.refusals.specs.declared.Refusal.{Refusal}
 use Rattle.ratio_format.specs.declared.Cursor.{Cursor}
 use Rattle.ratio_format.specs.Stepping.{made, madeBody, madeCursor}
 use Rattle.live.specs.declared.reader.Reader.{Reader}
 use Rattle.live.specs.declared.reader.Making.{Making}
 use Rattle.live.specs.declared.stepping.Begun.{Begun}
-use Rattle.bounds.proofs.Refusal as TF
-use Rattle.bounds.proofs.Refusal.Laws as TF′
+use Rattle.refusals.proofs.Refusal as TF
+use Rattle.refusals.proofs.Refusal.Laws as TF′
 use Rattle.ratio_format.proofs.Window as TW
 use Rattle.ratio_format.proofs.Window.Laws as TW′
 use Rattle.ratio_format.proofs.Cursor as TC

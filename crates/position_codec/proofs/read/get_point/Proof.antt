@@ -9,9 +9,9 @@ use lib.ListN.{length, drop}
 use mir.Syntax.{w64}
 use mir.Val.{toZ, ofZ}
 use mir.ValLaws.{toZ-ofZ}
-use Rattle.bits.specs.Compare.{begins}
+use Rattle.lists.specs.Compare.{begins}
 use Rattle.bits.specs.Packing.{bits}
-use Rattle.bounds.specs.Points.{maxPosition}
+use Rattle.limits.specs.Points.{maxPosition}
 use Rattle.position_format.specs.Rows.{rows, inTable, code}
 use Rattle.position_format.specs.Steps.{stepOf}
 use Rattle.position_codec.specs.declared.read.GotStep.{GotStep}

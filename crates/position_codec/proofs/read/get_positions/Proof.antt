@@ -9,8 +9,8 @@ use native.Mathlib.Omega.{arith}
 use borrow.Author.Needs.{needs}
 use lib.ListN.{length, take, drop, set}
 use Rattle.bits.specs.Packing.{bits}
-use Rattle.bits.proofs.Below.{below-of}
-use Rattle.bounds.specs.Outputs.{Filled}
+use Rattle.lists.proofs.Below.{below-of}
+use Rattle.outputs.specs.Outputs.{Filled}
 use Rattle.position_format.specs.Rows.{rows}
 use Rattle.position_format.specs.Positions.{readPositions}
 use Rattle.position_codec.specs.declared.read.GotPoint.{GotPoint}

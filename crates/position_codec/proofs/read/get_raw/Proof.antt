@@ -1,6 +1,6 @@
 -- `get_raw` meets its contract: eight bytes are 64 bits.
 use borrow.Author.Needs.{needs}
-use Rattle.bits.proofs.Below.{below-of}
+use Rattle.lists.proofs.Below.{below-of}
 use Rattle.position_codec.proofs.Stand.{raw-short, raw-high, raw-stands}
 use Rattle.position_codec.proofs.read.get_raw.Statement.{statement}
 use Rattle.position_codec.proofs.read.get_raw.Tie as tie

@@ -4,7 +4,7 @@ use Prim.Native.Nat.{ℕ, _+_, _-_, _*_, _/_, _%_}
 use native.Mathlib.Omega.{arith}
 use lib.ListN.{drop}
 use Rattle.bits.specs.Packing.{bits}
-use Rattle.bits.proofs.Below.{below-of}
+use Rattle.lists.proofs.Below.{below-of}
 use Rattle.position_codec.specs.Found.{StepFound}
 use Rattle.position_codec.proofs.Peek.{moved-front}
 use Rattle.position_codec.proofs.Alike.{found-far}

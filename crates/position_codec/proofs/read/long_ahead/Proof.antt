@@ -7,7 +7,7 @@ use lib.IntN.{ℤ}
 use lib.ListN.{length}
 use mir.Syntax.{w64}
 use mir.ValLaws.{toZ-ofZ}
-use Rattle.bits.specs.Compare.{begins}
+use Rattle.lists.specs.Compare.{begins}
 use Rattle.bits.specs.Digits.{bitsOf}
 use Rattle.position_format.specs.Rows.{rows, holds, inTable, code, reading}
 use Rattle.position_codec.proofs.Tables.{rowAt}

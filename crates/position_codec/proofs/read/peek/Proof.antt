@@ -5,7 +5,7 @@ use Prim.Native.Nat.{ℕ, _+_, _-_, _*_}
 use native.Mathlib.Omega.{arith}
 use lib.ListN.{length, drop, replicate}
 use Rattle.bits.specs.Packing.{bits}
-use Rattle.bits.proofs.Below.{below-of}
+use Rattle.lists.proofs.Below.{below-of}
 use Rattle.position_codec.proofs.Peek.{moved-last}
 use borrow.Author.Needs.{needs}
 use Rattle.position_codec.proofs.read.peek.Statement.{statement}

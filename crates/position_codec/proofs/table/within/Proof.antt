@@ -6,7 +6,7 @@ use lib.Signed.{leZ}
 use mir.Syntax.{w64}
 use mir.Val.{toZ, ofZ, SFits}
 use mir.ValLaws.{toZ-ofZ}
-use Rattle.bits.specs.Compare.{both}
+use Rattle.lists.specs.Compare.{both}
 use Rattle.position_codec.proofs.table.within.Statement.{statement}
 use Rattle.position_codec.proofs.table.within.Tie as tie
 

@@ -1,5 +1,5 @@
 -- `put_last` meets its contract: the bits held and their fill are whole bytes.
-use Rattle.bits.proofs.Below.{below-of}
+use Rattle.lists.proofs.Below.{below-of}
 use Rattle.position_codec.proofs.Sinks.{last-size, last-none, last-put}
 use borrow.Author.Needs.{needs}
 use Rattle.position_codec.proofs.write.put_last.Statement.{statement}

@@ -7,7 +7,7 @@ use native.Mathlib.Omega.{arith}
 use borrow.Author.Needs.{needs}
 use lib.ListN.{length, take}
 use lib.Seq.{take-all}
-use Rattle.bits.proofs.Below.{below-of}
+use Rattle.lists.proofs.Below.{below-of}
 use Rattle.position_format.specs.Rows.{rows}
 use Rattle.position_format.specs.Positions.{positionBits, codedPositions}
 use Rattle.position_format.proofs.Rows.{rows-good}

@@ -2,7 +2,7 @@
 use Prim.Native.Nat.{_-_}
 use native.Mathlib.Omega.{arith}
 use borrow.Author.Needs.{needs}
-use Rattle.bounds.proofs.Points.{high-none}
+use Rattle.limits.proofs.Points.{high-none}
 use Rattle.position_codec.proofs.write.step_at.Statement.{statement}
 use Rattle.position_codec.proofs.write.step_at.Tie as tie
 

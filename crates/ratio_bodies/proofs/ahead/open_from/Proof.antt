@@ -2,7 +2,7 @@
 use mathlib.Core.Path.{ap, _∙_}
 use borrow.Author.Needs.{needs}
 use lib.ListN.{take}
-use Rattle.bits.proofs.Parts.{rest-is}
+use Rattle.outputs.proofs.Parts.{rest-is}
 use Rattle.ratio_format.specs.Open.{openRead}
 use Rattle.ratio_format.specs.Windows.{windowSize, windowOf}
 use Rattle.ratio_bodies.proofs.ahead.open_from.Statement.{statement}

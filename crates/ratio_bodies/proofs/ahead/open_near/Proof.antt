@@ -4,7 +4,7 @@ use Prim.Native.Nat.{ℕ, _-_, _%_}
 use native.Mathlib.Omega.{arith}
 use borrow.Author.Needs.{needs}
 use lib.ListN.{getD, take, drop, length-drop}
-use Rattle.bits.proofs.Parts.{rest-is}
+use Rattle.outputs.proofs.Parts.{rest-is}
 use Rattle.ratio_format.specs.Open.{openRead}
 use Rattle.ratio_format.specs.Windows.{windowSize, windowOf}
 use Rattle.ratio_bodies.proofs.Places.{rest-first, named}

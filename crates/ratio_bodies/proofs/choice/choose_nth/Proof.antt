@@ -3,7 +3,7 @@ use mathlib.Core.Path.{sym, ap, _∙_, subst}
 use mathlib.Core.List.{List}
 use Prim.Native.Nat.{ℕ}
 use native.Mathlib.Omega.{arith}
-use Rattle.ratio_format.specs.Choice.{form}
+use Rattle.ratio_format.specs.Choice.{ratioForm}
 use Rattle.ratio_codec.specs.Searched.{Searched}
 use Rattle.ratio_bodies.proofs.Start.{start-window}
 use borrow.Author.Needs.{needs}
@@ -33,7 +33,7 @@ returns c =
     let d = c .before .before .before .before .before in
     let a = d .args in
     let f = c .before .before .before .window-start in
-    c .choose .ensures ∙ ap (form (a .v)) (start-window (a .ratios .now) (a .i) (f .result) (f .ensures) (d .pre .0))
+    c .choose .ensures ∙ ap (ratioForm (a .v)) (start-window (a .ratios .now) (a .i) (f .result) (f .ensures) (d .pre .0))
 
 find-requires : tie.Need-find-requires
 find-requires c κs =
@@ -66,7 +66,7 @@ returns-2 c =
     let d = c .before .before .before .before .before .before in
     let a = d .args in
     let f = c .before .before .before .before .window-start in
-    c .form-of .ensures ∙ ap (form (a .v)) (start-window (a .ratios .now) (a .i) (f .result) (f .ensures) (d .pre .0))
+    c .form-of .ensures ∙ ap (ratioForm (a .v)) (start-window (a .ratios .now) (a .i) (f .result) (f .ensures) (d .pre .0))
 
 pub choose-nth-spec : {M : Type 1} → statement M
 choose-nth-spec =

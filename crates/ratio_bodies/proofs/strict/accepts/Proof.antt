@@ -6,12 +6,12 @@ use native.Mathlib.Omega.{arith}
 use lib.Dec.{eqb}
 use lib.ListN.{getD, take}
 use Rattle.ratio_format.proofs.Windows.{window-few}
-use Rattle.bits.specs.Compare.{begins}
-use Rattle.bits.proofs.Below.{below-of}
-use Rattle.ratio_format.specs.declared.Form.{Form}
+use Rattle.lists.specs.Compare.{begins}
+use Rattle.lists.proofs.Below.{below-of}
+use Rattle.ratio_format.specs.declared.RatioForm.{RatioForm}
 use Rattle.ratio_format.specs.declared.Read.the-variants.{Ratio}
 use Rattle.ratio_format.specs.Windows.{windowSize, windowOf}
-use Rattle.ratio_codec.specs.Heads.{head}
+use Rattle.ratio_codec.specs.Heads.{formHead}
 use Rattle.ratio_codec.proofs.Heads.{head-decides}
 use Rattle.ratio_codec.proofs.Named.{Named, named-begins}
 use Rattle.ratio_search.proofs.Found.{window-length}
@@ -66,7 +66,7 @@ returns-2 c =
     let d = c .before .before .before .before .before in
     let a = d .args in
     let f = c .before .choose-nth in
-    c .has-head .ensures ∙ ap (λ (x : Form). begins (head x) (a .s .now)) (f .ensures)
+    c .has-head .ensures ∙ ap (λ (x : RatioForm). begins (formHead x) (a .s .now)) (f .ensures)
     ∙ sym (head-decides (a .v) (a .n) (window d) (window-few windowSize (take (a .i) (a .ratios .now)) .0) (a .s .now) (below-of 256 (a .s .now) (λ i. k .given i .fits)) (d .pre .2))
 
 pub accepts-spec : {M : Type 1} → statement M

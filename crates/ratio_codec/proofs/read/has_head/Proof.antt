@@ -1,10 +1,10 @@
 -- `has_head` meets its contract: each form by the test of its head.
 use mathlib.Core.Path.{sym, ap, _∙_, subst}
 use native.Mathlib.Omega.{arith}
-use Rattle.bits.specs.Compare.{begins}
-use Rattle.ratio_format.specs.declared.Form.{Form}
+use Rattle.lists.specs.Compare.{begins}
+use Rattle.ratio_format.specs.declared.RatioForm.{RatioForm}
 use Rattle.ratio_format.specs.Forms.{Fit}
-use Rattle.ratio_codec.specs.Heads.{head}
+use Rattle.ratio_codec.specs.Heads.{formHead}
 use borrow.Author.Needs.{needs}
 use Rattle.ratio_codec.proofs.read.has_head.Statement.{statement}
 use Rattle.ratio_codec.proofs.read.has_head.Tie as tie
@@ -39,17 +39,17 @@ has-one-requires-2 c κs = search needs
 returns : tie.Need-returns
 returns c =
     let a = c .before .before .before .before .before .args in
-    c .has-one .ensures ∙ ap (λ (f : Form). begins (head f) (a .s .now)) (sym (c .before .before .f .given .1))
+    c .has-one .ensures ∙ ap (λ (f : RatioForm). begins (formHead f) (a .s .now)) (sym (c .before .before .f .given .1))
 
 returns-2 : tie.Need-returns-2
 returns-2 c =
     let a = c .before .before .before .before .before .args in
-    c .has-two .ensures ∙ ap (λ (f : Form). begins (head f) (a .s .now)) (sym (c .before .before .f2 .given .1))
+    c .has-two .ensures ∙ ap (λ (f : RatioForm). begins (formHead f) (a .s .now)) (sym (c .before .before .f2 .given .1))
 
 returns-3 : tie.Need-returns-3
 returns-3 c =
     let a = c .before .before .before .before .args in
-    c .has-one2 .ensures ∙ ap (λ (f : Form). begins (head f) (a .s .now)) (sym (c .before .enum-told .given .1))
+    c .has-one2 .ensures ∙ ap (λ (f : RatioForm). begins (formHead f) (a .s .now)) (sym (c .before .enum-told .given .1))
 
 pub has-head-spec : {M : Type 1} → statement M
 has-head-spec =

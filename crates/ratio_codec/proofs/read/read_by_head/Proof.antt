@@ -3,12 +3,12 @@ use mathlib.Core.List.{List, reverse}
 use mathlib.Core.Path.{_≡_, sym, ap, _∙_}
 use Prim.Native.Nat.{ℕ, _≤_}
 use lib.ListN.{length, length-reverse}
-use Rattle.bits.specs.Compare.{begins}
-use Rattle.bits.proofs.Below.{below-of}
-use Rattle.ratio_format.specs.declared.Form.{Form}
+use Rattle.lists.specs.Compare.{begins}
+use Rattle.lists.proofs.Below.{below-of}
+use Rattle.ratio_format.specs.declared.RatioForm.{RatioForm}
 use Rattle.ratio_format.specs.Forms.{coded}
 use Rattle.ratio_format.proofs.Reading.{strict-refused, strict-good, strict-other}
-use Rattle.ratio_codec.specs.Heads.{head}
+use Rattle.ratio_codec.specs.Heads.{formHead}
 use Rattle.ratio_codec.proofs.Chosen.{chosen-fit}
 use Rattle.ratio_codec.proofs.Heads.{head-decides}
 use borrow.Author.Needs.{needs}
@@ -57,7 +57,7 @@ module _ (c : tie.After-has-head) where
       let k = c .before .before .before .before .before .before .shared-slice-known2 in
       let o = c .before .before .before .before .before .read-open in
       let h : length (reverse l) ≤ 127 = rw length-reverse (c .before .before .before .before .before .before .before .before .pre) in
-      c .has-head .ensures ∙ ap (λ (f : Form). begins (head f) s) (c .before .choose .ensures)
+      c .has-head .ensures ∙ ap (λ (f : RatioForm). begins (formHead f) s) (c .before .choose .ensures)
       ∙ sym (head-decides v n (reverse l) h s (below-of 256 s (λ i. k .given i .fits)) (sym (o .ensures) ∙ c .before .before .before .r .given .1))
 
 returns-2 : tie.Need-returns-2

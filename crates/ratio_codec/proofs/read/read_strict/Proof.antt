@@ -4,7 +4,7 @@ use mathlib.Core.List.{List, reverse}
 use Prim.Native.Nat.{ℕ, _-_, _≤_}
 use native.Mathlib.Omega.{arith}
 use lib.ListN.{length, getD, length-reverse}
-use Rattle.ratio_format.specs.declared.Read.the-variants.{Refused}
+use Rattle.ratio_format.specs.declared.Read.the-variants.{Nothing}
 use Rattle.ratio_format.specs.Choice.{find}
 use Rattle.ratio_format.proofs.Windows.{back}
 use Rattle.ratio_format.proofs.Reading.{open-empty, strict-refused}
@@ -17,7 +17,7 @@ returns : tie.Need-returns
 returns c =
     let a = c .before .before .before .args in
     let w = reverse (a .window .now) in
-    strict-refused w (a .s .now) Refused (open-empty w (a .s .now) (c .if1 .taken)) refl
+    strict-refused w (a .s .now) Nothing (open-empty w (a .s .now) (c .if1 .taken)) refl
 
 shared-slice-read-b : tie.Need-shared-slice-read-b
 shared-slice-read-b c = search needs

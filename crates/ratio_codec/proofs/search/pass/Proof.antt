@@ -6,7 +6,7 @@ use native.Mathlib.Omega.{arith}
 use borrow.Author.Needs.{needs}
 use lib.Dec.{lit<}
 use lib.ListN.{length-reverse}
-use Rattle.bits.proofs.Below.{below-of}
+use Rattle.lists.proofs.Below.{below-of}
 use Rattle.bits.proofs.Digits.{pow-bytes}
 use Rattle.ratio_format.proofs.Zeros.{raised-fits}
 use Rattle.ratio_format.proofs.Windows.{reverse-below}

@@ -6,7 +6,7 @@ use lib.ListN.{length, getD}
 use Rattle.ratio_format.proofs.Windows.{back}
 use Rattle.ratio_codec.specs.Passed.{Passed}
 use Rattle.ratio_codec.proofs.Passed.{passed-none, passed-next}
-use Rattle.ratio_codec.proofs.Sums.{score-under}
+use Rattle.ratio_codec.proofs.Sums.{sum-under}
 use Rattle.ratio_codec.proofs.search.pass_over.Statement.{statement}
 use Rattle.ratio_codec.proofs.search.pass_over.Tie as tie
 
@@ -58,7 +58,7 @@ loop-again c =
       omega arith,
       λ s q.
           passed-next (a .v) (reverse w) s (a .from) (l .i) (l .inv .2 s q)
-          (rw (back w (l .i) h) (score-under (a .v) (getD w k 0) s (d .fits .v .fits) known (omega (arith, c .before .if1 .left)) (c .if2 .left))),
+          (rw (back w (l .i) h) (sum-under (a .v) (getD w k 0) s (d .fits .v .fits) known (omega (arith, c .before .if1 .left)) (c .if2 .left))),
     )
 
 returns-3 : tie.Need-returns-3 Inv-loop μ-loop

@@ -6,7 +6,7 @@ use native.Mathlib.Omega.{arith}
 use borrow.Author.Needs.{needs}
 use lib.ListN.{length, getD}
 use Rattle.ratio_format.specs.Choice.{Best}
-use Rattle.ratio_format.proofs.Score.{score-other}
+use Rattle.ratio_format.proofs.Score.{sum-other}
 use Rattle.ratio_codec.proofs.Scan.{Scanned, scan-none, scan-wins, scan-loses, scan-pass, scan-equal, scan-all}
 use Rattle.ratio_codec.proofs.search.search.Statement.{statement}
 use Rattle.ratio_codec.proofs.search.search.Tie as tie
@@ -39,8 +39,8 @@ returns c =
     let e = scan-equal (a .v) (a .window .now) (l .i) (l .place) (l .sum) (l .inv) (omega arith) (c .if1 .taken) in
     (sym (ap (λ (b : Best). b .place) e), sym (ap (λ (b : Best). b .sum) e))
 
-score-of-requires : tie.Need-score-of-requires Inv-loop μ-loop
-score-of-requires c κs = search needs
+sum-of-requires : tie.Need-sum-of-requires Inv-loop μ-loop
+sum-of-requires c κs = search needs
 
 -- the ratio at place i is counted
 counted : (c : tie.Joined2 Inv-loop μ-loop)
@@ -53,7 +53,7 @@ counted c =
     let w = a .window .now in
     let k = c .before .before .before .before .before .before .shared-slice-known .given (length w - 1 - l .i) .fits in
     let h : l .i < length w = omega arith in
-    let o = score-other (a .v) (getD w (length w - 1 - l .i) 0) (d .fits .v .fits) k (λ q. c .before .before .if1 .left (sym q)) in
+    let o = sum-other (a .v) (getD w (length w - 1 - l .i) 0) (d .fits .v .fits) k (λ q. c .before .before .if1 .left (sym q)) in
     ⊎-elim
     (λ t. let n = scan-wins (a .v) w (l .i) (l .place) (l .sum) (l .inv) h (omega arith) (omega arith) in let e = n .2 in (n .0, omega arith, cc))
     (λ t. let n = scan-loses (a .v) w (l .i) (l .place) (l .sum) (l .inv) h (omega arith) in let e = n .2 in (n .0, omega arith, cc))
@@ -95,7 +95,7 @@ search-spec =
     mul-u
     shared-slice-read-u
     returns
-    score-of-requires
+    sum-of-requires
     add-pass
     pass-requires
     loop-less

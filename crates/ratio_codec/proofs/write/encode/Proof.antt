@@ -1,8 +1,8 @@
 -- `encode` meets its contract: the chosen form is written.
 use mathlib.Core.Path.{subst}
 use borrow.Author.Needs.{needs}
-use Rattle.bounds.specs.Outputs.{Placed}
-use Rattle.ratio_format.specs.declared.Form.{Form}
+use Rattle.outputs.specs.Outputs.{Placed}
+use Rattle.ratio_format.specs.declared.RatioForm.{RatioForm}
 use Rattle.ratio_format.specs.Forms.{written, coded}
 use Rattle.ratio_codec.proofs.Chosen.{chosen-fit}
 use Rattle.ratio_codec.proofs.write.encode.Statement.{statement}
@@ -26,7 +26,7 @@ returns c =
     let p = c .before .before .put-form in
     let d = c .before .before .before .before in
     let a = d .before .before .before .args in
-    subst (λ (f : Form). Placed (written (a .v) f) (p .result) (a .out .now) (p .last .1 .1 .0)) (d .choose .ensures) (p .ensures)
+    subst (λ (f : RatioForm). Placed (written (a .v) f) (p .result) (a .out .now) (p .last .1 .1 .0)) (d .choose .ensures) (p .ensures)
 
 pub encode-spec : {M : Type 1} → statement M
 encode-spec = tie.close (tie.spec choose-requires put-form-requires same-length returns)

@@ -2,9 +2,9 @@
 use mathlib.Core.Path.{_≡_, sym, subst}
 use mathlib.Core.List.{List}
 use Prim.Native.Nat.{ℕ}
-use Rattle.bounds.specs.declared.Wrote.{Wrote}
-use Rattle.bounds.specs.Outputs.{Placed}
-use Rattle.ratio_format.specs.declared.Form.{Form}
+use Rattle.outputs.specs.declared.Wrote.{Wrote}
+use Rattle.outputs.specs.Outputs.{Placed}
+use Rattle.ratio_format.specs.declared.RatioForm.{RatioForm}
 use Rattle.ratio_format.specs.Forms.{written, Fit}
 use borrow.Author.Needs.{needs}
 use Rattle.ratio_codec.proofs.write.put_form.Statement.{statement}
@@ -34,8 +34,8 @@ same-length : tie.Need-same-length
 same-length c = search needs
 
 -- what is placed for a form that is known is what is placed for f
-same-form : (v : ℕ) {f g : Form} (r : Wrote) (o p : List ℕ) → f ≡ g → Placed (written v g) r o p → Placed (written v f) r o p
-same-form v r o p e h = subst (λ (x : Form). Placed (written v x) r o p) (sym e) h
+same-form : (v : ℕ) {f g : RatioForm} (r : Wrote) (o p : List ℕ) → f ≡ g → Placed (written v g) r o p → Placed (written v f) r o p
+same-form v r o p e h = subst (λ (x : RatioForm). Placed (written v x) r o p) (sym e) h
 
 returns : tie.Need-returns
 unfolding written

@@ -5,9 +5,9 @@ use Prim.Native.Nat.{ℕ, _+_, _-_, _<_}
 use native.Mathlib.Omega.{arith}
 use lib.Bits.{bitXor, xor-self}
 use lib.ListN.{getD}
-use Rattle.ratio_format.specs.Zeros.{score}
+use Rattle.ratio_format.specs.Zeros.{sumOf}
 use Rattle.ratio_format.proofs.Zeros.{lead-le, trail-le}
-use Rattle.ratio_format.proofs.Score.{xor-zero, score-other}
+use Rattle.ratio_format.proofs.Score.{xor-zero, sum-other}
 use Rattle.ratio_search.proofs.Sought.{Sought, sought-none, sought-as, sought-pass, sought-all, sought-wins, sought-loses, sought-equal}
 use Rattle.ratio_search.proofs.search.find.Statement.{statement}
 use Rattle.ratio_search.proofs.search.find.Tie as tie
@@ -79,7 +79,7 @@ counted : (c : tie.Joined2 Inv-loop μ-loop)
     → let d = c .before .before .before .before .before .before .before .before .before .before in
     let l = c .before .before .before .before .before .before .loop in
     Sought (d .args .v) (d .args .ratios .now) (d .args .i) (l .q - 1) (c .if2 .at) (c .if2 .trail) (c .if2 .sum)
-unfolding score
+unfolding sumOf
 counted c =
     let d = c .before .before .before .before .before .before .before .before .before .before in
     let a = d .args in
@@ -89,8 +89,8 @@ counted c =
     let t = c .before .before .trail-zeros2 in
     let n = c .before .lead-zeros in
     let known = e .before .shared-slice-known2 .given (l .q - 1) .fits in
-    let small = score-other (a .v) u (d .fits .v .fits) known (λ q. e .if1 .left (ap (bitXor (a .v)) (sym q) ∙ xor-self (a .v))) in
-    let sum : score (a .v) u ≡ n .result + t .result = ap₂ (λ (x y : ℕ). x + y) (sym (n .ensures)) (sym (t .ensures)) in
+    let small = sum-other (a .v) u (d .fits .v .fits) known (λ q. e .if1 .left (ap (bitXor (a .v)) (sym q) ∙ xor-self (a .v))) in
+    let sum : sumOf (a .v) u ≡ n .result + t .result = ap₂ (λ (x y : ℕ). x + y) (sym (n .ensures)) (sym (t .ensures)) in
     let from : a .i - 127 < l .q = omega arith in
     ⊎-elim
     (λ w. sought-as (a .v) (a .ratios .now) (a .i) (l .q - 1) (c .if2 .at) (l .q - 1) (c .if2 .trail) (t .result) (c .if2 .sum) (n .result + t .result) (w .1) (w .2) (w .3)

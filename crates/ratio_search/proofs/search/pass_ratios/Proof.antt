@@ -2,7 +2,7 @@
 use Prim.Native.Nat.{_≤_}
 use native.Mathlib.Omega.{arith}
 use borrow.Author.Needs.{needs}
-use Rattle.ratio_format.specs.Zeros.{score}
+use Rattle.ratio_format.specs.Zeros.{sumOf}
 use Rattle.ratio_codec.specs.Passed.{Passed}
 use Rattle.ratio_codec.proofs.Passed.{passed-none, passed-more}
 use Rattle.ratio_search.proofs.search.pass_ratios.Statement.{statement}
@@ -43,7 +43,7 @@ loop-less : tie.Need-loop-less Inv-loop μ-loop
 loop-less c = omega arith
 
 loop-again : tie.Need-loop-again Inv-loop μ-loop
-unfolding score
+unfolding sumOf
 loop-again c =
     let l = c .before .before .before .before .loop in
     let a = c .before .before .before .before .before .before .args in

@@ -3,7 +3,7 @@ use Prim.Native.Nat.{ℕ}
 use borrow.Author.Needs.{needs}
 use borrow.Author.Tests.{not-true, not-false}
 use lib.Dec.{lit≤}
-use Rattle.bounds.specs.declared.Refusal.{Refusal}
+use Rattle.refusals.specs.declared.Refusal.{Refusal}
 use Rattle.record_codec.proofs.Fields.{fixed-inside, first-head, first-rate, first-other, first-found}
 use Rattle.record_codec.proofs.field.first_field.Statement.{statement}
 use Rattle.record_codec.proofs.field.first_field.Tie as tie

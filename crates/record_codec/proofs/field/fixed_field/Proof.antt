@@ -1,7 +1,7 @@
 use mathlib.Core.Path.{sym, _∙_}
 use native.Mathlib.Omega.{arith}
 use borrow.Author.Needs.{needs}
-use Rattle.bounds.proofs.Tests.{first-end}
+use Rattle.refusals.proofs.Tests.{first-end}
 use Rattle.record_format.proofs.Heads.{head-short, head-other, head-good, length-other, length-good, body-short, body-good, stated}
 use Rattle.record_codec.proofs.field.fixed_field.Statement.{statement}
 use Rattle.record_codec.proofs.field.fixed_field.Tie as tie

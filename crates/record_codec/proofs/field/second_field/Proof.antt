@@ -2,7 +2,7 @@ use mathlib.Core.Path.{sym, ap, _∙_}
 use Prim.Native.Nat.{ℕ}
 use borrow.Author.Needs.{needs}
 use lib.Dec.{lit≤}
-use Rattle.bounds.specs.declared.Refusal.{Refusal}
+use Rattle.refusals.specs.declared.Refusal.{Refusal}
 use Rattle.record_codec.proofs.Fields.{fixed-inside, second-head, second-many, second-lacks, second-found}
 use Rattle.record_codec.proofs.field.second_field.Statement.{statement}
 use Rattle.record_codec.proofs.field.second_field.Tie as tie

@@ -1,7 +1,7 @@
 use mathlib.Core.Path.{sym, _∙_}
 use native.Mathlib.Omega.{arith}
 use borrow.Author.Needs.{needs}
-use Rattle.bounds.proofs.Tests.{first-end}
+use Rattle.refusals.proofs.Tests.{first-end}
 use Rattle.record_format.proofs.Heads.{head-short, head-other, head-good, body-short, body-good, stated}
 use Rattle.record_codec.proofs.Fields.{whole-refused, whole-found}
 use Rattle.record_codec.proofs.field.whole_field.Statement.{statement}

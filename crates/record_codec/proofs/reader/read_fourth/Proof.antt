@@ -5,8 +5,8 @@ use Prim.Native.Nat.{ℕ, _≤_}
 use borrow.Author.Needs.{needs}
 use borrow.Author.Tests.{not-true, not-false}
 use lib.ListN.{length}
-use Rattle.bounds.specs.declared.Refusal.{Refusal}
-use Rattle.bounds.specs.Outputs.{Filled}
+use Rattle.refusals.specs.declared.Refusal.{Refusal}
+use Rattle.outputs.specs.Outputs.{Filled}
 use Rattle.record_format.proofs.Heads.{refusal}
 use Rattle.record_format.specs.Reading.{nextAt, end, ratiosIn}
 use Rattle.record_codec.specs.Fields.{ratiosBy}

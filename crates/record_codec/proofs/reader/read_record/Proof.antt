@@ -2,8 +2,8 @@ use mathlib.Core.Path.{sym, ap, _∙_, subst}
 use Prim.Native.Nat.{ℕ, _≤_}
 use borrow.Author.Needs.{needs}
 use lib.ListN.{length}
-use Rattle.bounds.specs.declared.Refusal.{Refusal}
-use Rattle.bounds.specs.Points.{maxPoints}
+use Rattle.refusals.specs.declared.Refusal.{Refusal}
+use Rattle.limits.specs.Points.{maxPoints}
 use Rattle.record_codec.specs.Fields.{ratiosBy}
 use Rattle.record_codec.proofs.Reading.{answered-as, front-refused, second-refused, past-second}
 use Rattle.record_codec.proofs.reader.read_record.Statement.{statement}

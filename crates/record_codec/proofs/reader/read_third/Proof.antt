@@ -5,9 +5,9 @@ use Prim.Native.Nat.{ℕ, _≤_}
 use borrow.Author.Needs.{needs}
 use borrow.Author.Tests.{not-true, not-false}
 use lib.ListN.{length}
-use Rattle.bounds.specs.declared.Refusal.{Refusal}
-use Rattle.bits.proofs.Below.{below-of}
-use Rattle.bounds.specs.Outputs.{Filled}
+use Rattle.refusals.specs.declared.Refusal.{Refusal}
+use Rattle.lists.proofs.Below.{below-of}
+use Rattle.outputs.specs.Outputs.{Filled}
 use Rattle.record_format.proofs.Heads.{refusal}
 use Rattle.record_format.specs.Reading.{positionsIn}
 use Rattle.record_codec.specs.Fields.{ratiosBy}

@@ -1,5 +1,0 @@
-pub mod Lists
-pub mod Rates
-pub mod Points
-pub mod Tests
-pub mod Outputs

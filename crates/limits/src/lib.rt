@@ -1,0 +1,34 @@
+// The limits of document 01: rates, points and positions.
+ghost use mathlib.Core.Path.{_≡_};
+ghost use Rattle.limits.specs.Points.{firstHigh};
+ghost use Rattle.limits.specs.Rates.{isRate};
+
+// The largest number of points of a run.
+pub const MAX_POINTS: usize = 4096;
+
+// The largest position.
+pub const MAX_POSITION: u64 = 4611686018427387903;
+
+// Whether a rate is in the list of rates.
+pub fn is_rate(rate: u32) -> bool
+    ensures { λ r. ⌜ r ≡ isRate rate ⌝ }
+{
+    match rate {
+        44100 | 48000 | 88200 | 96000 | 176400 | 192000 => true,
+        _ => false,
+    }
+}
+
+// The index of the first position above the largest, or their number where there is none.
+pub fn first_high(positions: &[u64]) -> usize
+    ensures { λ r. ⌜ r ≡ firstHigh (now (positions .entry)) ⌝ }
+{
+    let mut i = 0;
+    while i < positions.len() {
+        if MAX_POSITION < positions[i] {
+            return i;
+        }
+        i += 1;
+    }
+    i
+}

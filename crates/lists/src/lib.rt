@@ -1,0 +1,1 @@
+// Short operations on lists and comparisons of them: definitions and laws.

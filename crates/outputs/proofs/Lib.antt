@@ -1,0 +1,3 @@
+pub mod Outputs
+pub mod Clear
+pub mod Parts

@@ -1,0 +1,38 @@
+-- What a lent output holds after a call. `over` and `overAt` say what stands in it; `Placed` and `Filled` what an internal function says that it
+-- did. Document 01 says nothing of internal functions: they leave an output as they please where they fail, and the call above them then
+-- fills it with zeros; a slice keeps its length in any case.
+--   zeros l            as many zeros as l is long: document 01's output after a refusal
+--   over bs o          bs at the front of the output o, whose rest stays: document 01's output after a success
+--   overAt o at n bs   o with the n elements from `at` on replaced by bs, of which there are n
+--   Placed bs w o p    the bytes bs were put at the front of o, which is now p; or there was no room for them
+--   Filled l b o p     the list l was put at the front of o, which is now p; or there is no such list
+use mathlib.Core.Bool.{Bool, true, false}
+use mathlib.Core.List.{List, _++_}
+use mathlib.Core.Option.{Option, none, some}
+use mathlib.Core.Path.{_≡_}
+use Prim.Native.Nat.{ℕ, _+_, _≤_, _<_}
+use lib.ListN.{length, take, drop, replicate}
+use Rattle.outputs.specs.declared.Wrote.{Wrote}
+use Rattle.outputs.specs.declared.Wrote.the-variants.{Done, NoRoom}
+
+-- on a refusal a lent output is 0 from end to end
+abbrev pub zeros : List ℕ → List ℕ
+zeros l = replicate (length l) 0
+
+-- on a success what is written stands at the front, and the output past it stays
+abbrev pub over : List ℕ → List ℕ → List ℕ
+over bs o = bs ++ drop (length bs) o
+
+-- n elements from `at` on replaced
+abbrev pub overAt : List ℕ → ℕ → ℕ → List ℕ → List ℕ
+overAt o at n bs = take at o ++ (bs ++ drop (at + n) o)
+
+-- how many bytes were written, or that they do not fit
+abbrev pub Placed : List ℕ → Wrote → List ℕ → List ℕ → Type 0
+Placed bs (Done n) o p = (n ≡ length bs) × (length bs ≤ length o) × (p ≡ over bs o)
+Placed bs NoRoom o p = length o < length bs
+
+-- whether a list was read
+abbrev pub Filled : Option (List ℕ) → Bool → List ℕ → List ℕ → Type 0
+Filled none b o p = b ≡ false
+Filled (some l) b o p = (b ≡ true) × (p ≡ over l o)

@@ -1,0 +1,67 @@
+-- Laws of a call's tests: the refusal that the first of them gives, by one test and by two lists of tests.
+use mathlib.Core.Bool.{Bool, true, false}
+use mathlib.Core.List.{List, [], _∷_, _++_}
+use mathlib.Core.Path.{_≡_, refl, sym, _∙_}
+use Prim.Native.Nat.{_<_}
+use native.Mathlib.Omega.{arith}
+use borrow.Author.Tests.{ltb-true}
+use lib.Dec.{ltb}
+use Rattle.refusals.specs.Tests.{Test, noRefusal, firstOf}
+use Rattle.lists.proofs.Lists.{every, every-cons}
+
+-- no test has the number of a success: of tests with literal numbers, by refl
+abbrev pub numbered : List Test → Bool
+numbered ts = every (λ t. ltb 0 (t .number)) ts
+
+-- ---- one test
+
+pub first-end : firstOf [] ≡ noRefusal
+unfolding firstOf
+first-end = refl
+
+pub first-skip : (t : Test) (ts : List Test) → t .applies ≡ false → firstOf (t ∷ ts) ≡ firstOf ts
+unfolding firstOf
+first-skip t ts e = rw e refl
+
+pub first-here : (t : Test) (ts : List Test) → t .applies ≡ true → firstOf (t ∷ ts) ≡ record { number = t .number; place = t .place }
+unfolding firstOf
+first-here t ts e = rw e refl
+
+-- where nothing is refused, the first test does not apply, and the others refuse nothing
+pub first-clear : (t : Test) (ts : List Test) → 0 < t .number → firstOf (t ∷ ts) .number ≡ 0 → (t .applies ≡ false) × (firstOf ts .number ≡ 0)
+first-clear t ts n e = go (t .applies) refl
+  where
+    go : (b : Bool) → t .applies ≡ b → (t .applies ≡ false) × (firstOf ts .number ≡ 0)
+    go true q = let r : firstOf (t ∷ ts) .number ≡ t .number = rw (first-here t ts q) refl in absurd (omega arith)
+    go false q = (q, rw (first-skip t ts q) at e)
+
+-- ---- a list of tests
+
+parts : (t : Test) (ts : List Test) → numbered (t ∷ ts) ≡ true → (0 < t .number) × (numbered ts ≡ true)
+parts t ts e = let h = every-cons (λ (t : Test). ltb 0 (t .number)) t ts e in (ltb-true 0 (t .number) (h .0), h .1)
+
+-- number 0 has place 0
+pub first-none : (ts : List Test) → numbered ts ≡ true → firstOf ts .number ≡ 0 → firstOf ts ≡ noRefusal
+first-none [] n e = first-end
+first-none (t ∷ ts) n e =
+    let p = parts t ts n in
+    let h = first-clear t ts (p .0) e in
+    first-skip t ts (h .0) ∙ first-none ts (p .1) (h .1)
+
+-- the second list decides where the first refuses nothing
+pub first-append-none : (ss ts : List Test) → numbered ss ≡ true → firstOf ss .number ≡ 0 → firstOf (ss ++ ts) ≡ firstOf ts
+first-append-none [] ts n e = refl
+first-append-none (s ∷ ss) ts n e =
+    let p = parts s ss n in
+    let h = first-clear s ss (p .0) e in
+    first-skip s (ss ++ ts) (h .0) ∙ first-append-none ss ts (p .1) (h .1)
+
+-- the first list decides where it refuses
+pub first-append-some : (ss ts : List Test) → (firstOf ss .number ≡ 0 → ⊥) → firstOf (ss ++ ts) ≡ firstOf ss
+unfolding firstOf
+first-append-some [] ts e = absurd (e refl)
+first-append-some (s ∷ ss) ts e = go (s .applies) refl (first-append-some ss ts)
+  where
+    go : (b : Bool) → s .applies ≡ b → ((firstOf ss .number ≡ 0 → ⊥) → firstOf (ss ++ ts) ≡ firstOf ss) → firstOf (s ∷ (ss ++ ts)) ≡ firstOf (s ∷ ss)
+    go true q f = first-here s (ss ++ ts) q ∙ sym (first-here s ss q)
+    go false q f = first-skip s (ss ++ ts) q ∙ f (λ z. e (rw (first-skip s ss q) z)) ∙ sym (first-skip s ss q)

@@ -11,7 +11,7 @@ use Rattle.outputs.specs.Outputs.{over}
 use Rattle.record_format.specs.Claims.{Accepted, ownAnswer}
 use Rattle.record_format.specs.Reading.{readStrict}
 use Rattle.record_format.specs.Runs.{Run}
-use Rattle.record_format.proofs.Accepted.{accepted-fits}
+use Rattle.record_format.proofs.Writing.{accepted-fits}
 use Rattle.record_format.proofs.Claims.{reads-back, reads-only, with-room}
 use Rattle.span.specs.Spans.{spanned}
 use Rattle.text.specs.Lines.{listing}

@@ -12,7 +12,7 @@ use Rattle.record_format.specs.Claims.{ownAnswer}
 use Rattle.record_format.specs.Reading.{Answer, readStrict}
 use Rattle.record_format.specs.Runs.{Run}
 use Rattle.record_format.specs.declared.ReadAnswer.{ReadAnswer}
-use Rattle.record_format.proofs.Accepted.{accepted-fits}
+use Rattle.record_format.proofs.Writing.{accepted-fits}
 use Rattle.record_format.proofs.Claims.{reads-only}
 use Rattle.span.specs.Spans.{spanned}
 use Rattle.text.specs.Lines.{refusedLine, listing}

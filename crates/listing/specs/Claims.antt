@@ -1,14 +1,17 @@
 -- Document 01, "Bytes to compare", the listing, as a statement about runs; proved in proofs/Claims.
 --   listingOf r   the listing of the run r: its rate, its count, its span, and each point
 --   PrintsRun     of input that begins with the record of an accepted run the program prints that run's listing, whatever follows
+--   PrintsListed  of document 01's 46 bytes it prints the output that document 01 gives in full, and of no input the line `refused 10 at 0`
 --   PrintsOnly    of any other input it prints the line of a refusal, whose number is not 0
-use mathlib.Core.List.{List, _++_}
+use mathlib.Core.List.{List, [], _++_}
 use mathlib.Core.Path.{_≡_}
 use Prim.Native.Nat.{ℕ}
 use Rattle.record_format.specs.Claims.{Accepted, Beginning, Bytes}
+use Rattle.record_format.specs.Examples.{listedBytes}
 use Rattle.record_format.specs.Reading.{readStrict}
 use Rattle.record_format.specs.Runs.{Run, recordOf}
 use Rattle.span.specs.Spans.{spanned}
+use Rattle.text.specs.Examples.{listedText, refusedText}
 use Rattle.text.specs.Lines.{refusedLine, listing}
 use Rattle.listing.specs.Printed.{room, printed}
 
@@ -24,3 +27,7 @@ PrintsRun = (r : Run) → Accepted r → (rest : List ℕ) → printed (recordOf
 abbrev pub PrintsOnly : Type 0
 PrintsOnly = (s : List ℕ) → Bytes s → ((r : Run) → Accepted r → Beginning (recordOf r) s → ⊥)
     → let a = readStrict 0 s room room .answer in (a .number ≡ 0 → ⊥) × (printed s ≡ refusedLine (a .number) (a .place))
+
+-- the example
+abbrev pub PrintsListed : Type 0
+PrintsListed = (printed listedBytes ≡ listedText) × (printed [] ≡ refusedText)

@@ -3,11 +3,13 @@ use mathlib.Core.Bool.{Bool, true, false, cond}
 use mathlib.Core.List.{List, [], _∷_}
 use mathlib.Core.Logic.{inl, inr}
 use mathlib.Core.Path.{_≡_, refl}
-use Prim.Native.Nat.{ℕ, zero, suc, _≤_, _<_, zero-le, suc-le-suc}
+use Prim.Native.Nat.{ℕ, zero, suc, _+_, _≤_, _<_, zero-le, suc-le-suc}
+use native.Mathlib.Numerals.{add-one}
 use native.Mathlib.Omega.{arith}
 use borrow.Author.Tests.{eq-eqb, ne-eqb, eqb-true}
 use lib.Dec.{eqb}
-use lib.ListN.{length, getD}
+use lib.ListN.{length, getD, drop, drop-of-length-le}
+use lib.Seq.{drop-cons}
 use types.Run.{OneOf}
 use Rattle.lists.specs.Lists.{member, firstIndex}
 
@@ -44,6 +46,20 @@ unfolding member
 member-out [] x h = refl
 member-out (k ∷ []) x h = rw (ne-eqb x k h) refl
 member-out (k ∷ j ∷ l) x h = rw (ne-eqb x k (λ e. h (inl e))) (member-out (j ∷ l) x (λ m. h (inr m)))
+
+-- a search from the front: at the element of index i, past it, and at the end
+module _ (x : ℕ) (l : List ℕ) (i : ℕ) where
+  pub member-here : i < length l → x ≡ getD l i 0 → member x (drop i l) ≡ true
+  unfolding member
+  member-here h e = rw (drop-cons l i 0 h, eq-eqb x (getD l i 0) e)
+
+  pub member-next : i < length l → (x ≡ getD l i 0 → ⊥) → member x (drop i l) ≡ member x (drop (i + 1) l)
+  unfolding member
+  member-next h n = rw (add-one, drop-cons l i 0 h, ne-eqb x (getD l i 0) n)
+
+  pub member-end : length l ≤ i → member x (drop i l) ≡ false
+  unfolding member
+  member-end h = rw (drop-of-length-le l {i = i} h)
 
 -- a test of every element holds of each member
 pub member-every : (q : ℕ → Bool) (l : List ℕ) (x : ℕ) → every q l ≡ true → member x l ≡ true → q x ≡ true

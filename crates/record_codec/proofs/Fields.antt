@@ -1,148 +1,138 @@
--- What the functions that read a record's fields have to show, at each of their returns.
--- Assumes nothing.
-use mathlib.Core.Path.{_≡_, refl, sym, ap, _∙_, subst}
-use mathlib.Core.Bool.{Bool, true, false, not, cond}
-use mathlib.Core.List.{List, [], _∷_, _++_}
+-- Laws of fields as they are read: what each outcome of a test leaves to be said, for a field at an offset.
+use mathlib.Core.Path.{_≡_, refl, sym, ap, ap₂, _∙_, subst}
+use mathlib.Core.Bool.{true, false}
+use mathlib.Core.List.{List, [], _∷_, _++_, append-nil}
+use mathlib.Core.Option.{Option, none, some}
 use Prim.Native.Nat.{ℕ, _+_, _-_, _≤_, _<_}
 use native.Mathlib.Omega.{arith}
-use borrow.Author.Tests.{eqb-true, ltb-false, lt-ltb, le-ltb, not-false}
-use lib.Dec.{lit<, ltb, eqb}
-use lib.ListN.{length, take, drop}
-use Rattle.lists.specs.Compare.{both}
+use borrow.Author.Tests.{eqb-true, eqb-false}
+use lib.ListN.{length, getD, take, drop}
+use Rattle.lists.specs.Below.{Below}
+use Rattle.lists.specs.Lists.{member}
 use Rattle.bits.specs.Digits.{numberOf}
 use Rattle.refusals.specs.declared.Refusal.{Refusal}
-use Rattle.limits.specs.Points.{maxPoints}
-use Rattle.limits.specs.Rates.{isRate}
-use Rattle.refusals.specs.Tests.{Test, test, firstOf, noRefusal}
-use Rattle.refusals.proofs.Tests.{first-here, first-skip, first-clear, first-end, first-none, first-append-none, first-append-some}
-use Rattle.record_format.specs.Reading.{lengthAt, bodyAt, nextAt, second, rateIn, countIn, wholeTests, fixedTests, firstTests, secondTests}
-use Rattle.record_format.proofs.Heads.{refusal, body-whole}
-use Rattle.record_codec.specs.Fields.{Whole, Firsts, Seconds}
+use Rattle.refusals.specs.Tests.{Test, firstOf, noRefusal}
+use Rattle.refusals.proofs.Tests.{numbered, first-end, first-none, first-append-none, first-append-some}
+use Rattle.record_format.specs.Fields.{headSize, tagAt, lengthAt, bodyAt, nextAt, fieldTests}
+use Rattle.record_format.proofs.Fields.{next-most}
+use Rattle.record_format.proofs.Reading.{refusal, Stated, field-clear, head-short, tag-other, length-other, body-short, field-good}
+use Rattle.record_codec.specs.declared.field.Field.{Field}
+use Rattle.record_codec.specs.Fields.{lengthGood, PartRead, FieldRead}
 
--- ---- a field whose length is free
+-- of a refused part nothing else is said
+pub part-refused : (tests : List Test) (s : List ℕ) (p : ℕ) (f : Refusal) (end : ℕ) → (f .number ≡ 0 → ⊥) → f ≡ firstOf tests → PartRead tests s p f end
+part-refused tests s p f end d e = record { refuses = e; next = λ z. absurd (d z); inside = λ z. absurd (d z); near = λ z. absurd (d z) }
 
--- of a refused field nothing else is said
-pub whole-refused : (s : List ℕ) (tag p n a b : ℕ) → (n ≡ 0 → ⊥) → refusal n p ≡ firstOf (wholeTests s tag p) → Whole s tag p (record { refusal = refusal n p; from = a; to = b })
-whole-refused s tag p n a b d e = record { refuses = e; start = λ z. absurd (d z); stop = λ z. absurd (d z); inside = λ z. absurd (d z) }
+-- the length that is asked for
+stated-as : (m : Option ℕ) (l : ℕ) → lengthGood m l ≡ true → Stated m l
+stated-as none l e = tt
+stated-as (some k) l e = eqb-true l k e
 
-pub whole-found : (s : List ℕ) (tag p n : ℕ) → noRefusal ≡ firstOf (wholeTests s tag p) → lengthAt s p ≡ n → p + 3 ≤ length s → n ≤ length s - (p + 3)
-    → Whole s tag p (record { refusal = noRefusal; from = p + 3; to = p + 3 + n })
-unfolding nextAt
-whole-found s tag p n e l h g = record {
-  refuses = e;
-  start = λ z. refl;
-  stop = λ z. ap (λ (k : ℕ). p + 3 + k) (sym l);
-  inside = λ z. body-whole s p [] n l h g;
-}
+stated-other : (m : Option ℕ) (l : ℕ) → lengthGood m l ≡ false → (k : ℕ) × (m ≡ some k) × (l ≡ k → ⊥)
+stated-other none l e = absurd (let z : _≡_ {A = ℕ} 0 1 = cc in omega arith)
+stated-other (some k) l e = (k, refl, eqb-false l k e)
 
--- ---- a field of n bytes that is not refused
+-- a field at the offset p, by its tests in turn
+module _ (s tags : List ℕ) (n : Option ℕ) (p : ℕ) where
+  abbrev tests : List Test
+  tests = fieldTests s tags n p
 
-module _ (s : List ℕ) (tag n p : ℕ) (clear : firstOf (fixedTests s tag n p) .number ≡ 0) where
-  pub fixed-length : lengthAt s p ≡ n
-  fixed-length =
-      let a = first-clear _ _ (lit< tt) clear in
-      let b = first-clear _ _ (lit< tt) (a .1) in
-      let c = first-clear _ _ (lit< tt) (b .1) in
-      eqb-true (lengthAt s p) n (not-false _ (c .0))
+  alone : firstOf (tests ++ []) ≡ firstOf tests
+  alone = ap firstOf (append-nil tests)
 
-  pub fixed-next : nextAt s p ≡ p + 3 + n
-  unfolding nextAt
-  fixed-next = ap (λ (k : ℕ). p + 3 + k) fixed-length
+  -- the answer of a refusal with the number x
+  refused : (r : Field) (x : ℕ) → r ≡ record { refusal = refusal x p; from = 0; to = 0 } → (x ≡ 0 → ⊥) → refusal x p ≡ firstOf (tests ++ []) → FieldRead tests s p r
+  refused r x e d h =
+      subst (FieldRead tests s p) (sym e)
+      (record { part = part-refused tests s p (refusal x p) 0 d (h ∙ alone); from = λ z. absurd (d z) })
 
-  pub fixed-inside : p + 3 + n ≤ length s
-  fixed-inside =
-      let a = first-clear _ _ (lit< tt) clear in
-      let b = first-clear _ _ (lit< tt) (a .1) in
-      let c = first-clear _ _ (lit< tt) (b .1) in
-      let d = first-clear _ _ (lit< tt) (c .1) in
-      subst (λ (k : ℕ). k ≤ length s) fixed-next (ltb-false (length s) (nextAt s p) (d .0))
+  pub field-head : (r : Field) → r ≡ record { refusal = refusal 10 p; from = 0; to = 0 } → p ≤ length s → length s - p < headSize → FieldRead tests s p r
+  field-head r e a h = refused r 10 e (λ z. omega arith) (head-short s tags n p [] (omega arith))
 
-  -- the number that it holds, as it is read
-  pub fixed-number : (x : ℕ) → x ≡ numberOf 256 (take n (drop (p + 3) s)) → numberOf 256 (bodyAt s p) ≡ x
-  unfolding bodyAt
-  fixed-number x e = ap (λ (k : ℕ). numberOf 256 (take k (drop (p + 3) s))) fixed-length ∙ sym e
+  module _ (inside : p ≤ length s) (head : headSize ≤ length s - p) where
+    whole-head : p + headSize ≤ length s
+    whole-head = omega arith
 
--- ---- the first field
+    pub field-tag : (r : Field) → r ≡ record { refusal = refusal 11 p; from = 0; to = 0 } → member (getD s p 0) tags ≡ false → FieldRead tests s p r
+    unfolding tagAt
+    field-tag r e h = refused r 11 e (λ z. omega arith) (tag-other s tags n p [] whole-head h)
 
-module _ (e : ℕ) (s : List ℕ) where
-  pub first-refused : (f : Refusal) (x : ℕ) → (f .number ≡ 0 → ⊥) → f ≡ firstOf (firstTests e s) → Firsts e s (record { refusal = f; rate = x })
-  first-refused f x d q = record { refuses = q; rate = λ z. absurd (d z); next = λ z. absurd (d z); inside = λ z. absurd (d z) }
+    module _ (tagged : member (getD s p 0) tags ≡ true) (l : ℕ) (stated : l ≡ numberOf 256 (take 2 (drop (p + 1) s))) where
+      length-is : lengthAt s p ≡ l
+      unfolding lengthAt
+      length-is = sym stated
 
-  pub first-head : (f : Refusal) → f ≡ firstOf (fixedTests s 1 4 0) → (f .number ≡ 0 → ⊥) → Firsts e s (record { refusal = f; rate = 0 })
-  first-head f q d = first-refused f 0 d (q ∙ sym (first-append-some (fixedTests s 1 4 0) _ (λ z. d (ap (λ (g : Refusal). g .number) q ∙ z))))
+      tag-good : member (tagAt s p) tags ≡ true
+      unfolding tagAt
+      tag-good = tagged
 
-  module _ (clear : firstOf (fixedTests s 1 4 0) .number ≡ 0) (x : ℕ) (h : x ≡ numberOf 256 (take 4 (drop 3 s))) where
-    is : rateIn s ≡ x
-    is = fixed-number s 1 4 0 clear x h
+      next-is : nextAt s p ≡ p + headSize + l
+      unfolding nextAt
+      next-is = ap (λ (k : ℕ). p + headSize + k) length-is
 
-    past : firstOf (firstTests e s) ≡ firstOf (test (not (isRate x)) 13 0 ∷ test (both (not (eqb e 0)) (not (eqb e x))) 14 0 ∷ [])
-    past =
-        first-append-none (fixedTests s 1 4 0) _ refl clear
-        ∙ ap (λ (y : ℕ). firstOf (test (not (isRate y)) 13 0 ∷ test (both (not (eqb e 0)) (not (eqb e y))) 14 0 ∷ [])) is
+      pub field-length : (r : Field) → r ≡ record { refusal = refusal 12 p; from = 0; to = 0 } → lengthGood n l ≡ false → FieldRead tests s p r
+      field-length r e h =
+          let o = stated-other n l h in
+          refused r 12 e (λ z. omega arith) (length-other s tags n p [] whole-head tag-good (o .0) (o .1) (λ z. o .2 (sym length-is ∙ z)))
 
-    pub first-rate : isRate x ≡ false → Firsts e s (record { refusal = refusal 13 0; rate = 0 })
-    first-rate q = first-refused _ 0 (λ z. omega arith) (sym (past ∙ first-here _ _ (ap not q)))
+      module _ (good : lengthGood n l ≡ true) where
+        length-good : Stated n (lengthAt s p)
+        length-good = subst (Stated n) (sym length-is) (stated-as n l good)
 
-    pub first-other : isRate x ≡ true → both (not (eqb e 0)) (not (eqb e x)) ≡ true → Firsts e s (record { refusal = refusal 14 0; rate = 0 })
-    first-other q d = first-refused _ 0 (λ z. omega arith) (sym (past ∙ first-skip _ _ (ap not q) ∙ first-here _ _ d))
+        pub field-body : (r : Field) → r ≡ record { refusal = refusal 10 p; from = 0; to = 0 } → length s - (p + headSize) < l → FieldRead tests s p r
+        field-body r e h = refused r 10 e (λ z. omega arith) (body-short s tags n p [] whole-head tag-good length-good (omega (arith, next-is)))
 
-    pub first-found : (f : Refusal) → f ≡ firstOf (fixedTests s 1 4 0) → isRate x ≡ true → both (not (eqb e 0)) (not (eqb e x)) ≡ false → Firsts e s (record { refusal = f; rate = x })
-    first-found f g q d = record {
-      refuses = g ∙ first-none (fixedTests s 1 4 0) refl clear ∙ sym (past ∙ first-skip _ _ (ap not q) ∙ first-skip _ _ d ∙ first-end);
-      rate = λ z. sym is;
-      next = λ z. fixed-next s 1 4 0 clear;
-      inside = λ z. fixed-inside s 1 4 0 clear;
+        pub field-found : Below 256 s → l ≤ length s - (p + headSize) → FieldRead tests s p (record { refusal = noRefusal; from = p + headSize; to = p + headSize + l })
+        field-found bytes h =
+            let whole : nextAt s p ≤ length s = omega (arith, next-is) in
+            record {
+              part = record {
+                refuses = sym (sym alone ∙ field-good s tags n p [] whole-head tag-good length-good whole ∙ first-end);
+                next = λ z. sym next-is;
+                inside = λ z. whole;
+                near = λ z. omega (arith, next-most s p bytes whole-head);
+              };
+              from = λ z. refl;
+            }
+
+-- ---- contents after a field
+
+pub field-numbered : (s tags : List ℕ) (n : Option ℕ) (p : ℕ) → numbered (fieldTests s tags n p) ≡ true
+field-numbered s tags none p = refl
+field-numbered s tags (some k) p = refl
+
+-- a part by its first tests, and then by others
+module _ (fs ts : List Test) (s : List ℕ) (p : ℕ) (f : Refusal) (end : ℕ) (num : numbered fs ≡ true) (h : PartRead fs s p f end) where
+  pub part-first : (f .number ≡ 0 → ⊥) → PartRead (fs ++ ts) s p f end
+  part-first d =
+      part-refused (fs ++ ts) s p f end d
+      (h .refuses ∙ sym (first-append-some fs ts (λ z. d (ap (λ (g : Refusal). g .number) (h .refuses) ∙ z))))
+
+  module _ (clear : f .number ≡ 0) where
+    past : firstOf (fs ++ ts) ≡ firstOf ts
+    past = first-append-none fs ts num (sym (ap (λ (g : Refusal). g .number) (h .refuses)) ∙ clear)
+
+    pub part-then : (g : Refusal) (e : ℕ) → g ≡ firstOf ts → (g .number ≡ 0 → ⊥) → PartRead (fs ++ ts) s p g e
+    part-then g e q d = part-refused (fs ++ ts) s p g e d (q ∙ sym past)
+
+    pub part-both : firstOf ts ≡ noRefusal → PartRead (fs ++ ts) s p f end
+    part-both q = record {
+      refuses = h .refuses ∙ first-none fs num (sym (ap (λ (g : Refusal). g .number) (h .refuses)) ∙ clear) ∙ sym (past ∙ q);
+      next = h .next;
+      inside = h .inside;
+      near = h .near;
     }
 
--- ---- the second field, which stands at 7
+-- a field of n bytes that is not refused: its number
+module _ (s : List ℕ) (tag n p : ℕ) (f : Field) (h : FieldRead (fieldTests s (tag ∷ []) (some n) p) s p f) (clear : f .refusal .number ≡ 0) where
+  sized : lengthAt s p ≡ n
+  sized =
+      field-clear s (tag ∷ []) (some n) p [] (ap (λ (l : List Test). firstOf l .number) (append-nil (fieldTests s (tag ∷ []) (some n) p)) ∙ sym (ap (λ (g : Refusal). g .number) (h .part .refuses)) ∙ clear) .0 .stated
 
-module _ (s : List ℕ) (m n : ℕ) (at : second s ≡ 7) where
-  pub second-refused : (f : Refusal) (x : ℕ) → (f .number ≡ 0 → ⊥) → f ≡ firstOf (secondTests s m n) → Seconds s m n (record { refusal = f; count = x })
-  second-refused f x d q = record {
-    refuses = q;
-    count = λ z. absurd (d z);
-    few = λ z. absurd (d z);
-    points = λ z. absurd (d z);
-    values = λ z. absurd (d z);
-    next = λ z. absurd (d z);
-    inside = λ z. absurd (d z);
-  }
+  pub number-inside : f .from + n ≤ length s
+  unfolding nextAt
+  number-inside = omega (arith, h .from clear, sized, h .part .inside clear)
 
-  abbrev contents : ℕ → ℕ → List Test
-  contents p c = test (ltb maxPoints c) 15 p ∷ test (cond (ltb m c) true (ltb n c)) 16 p ∷ []
-
-  moved : firstOf (secondTests s m n) ≡ firstOf (fixedTests s 2 2 7 ++ contents 7 (countIn s))
-  moved = ap (λ (p : ℕ). firstOf (fixedTests s 2 2 p ++ contents p (countIn s))) at
-
-  pub second-head : (f : Refusal) → f ≡ firstOf (fixedTests s 2 2 7) → (f .number ≡ 0 → ⊥) → Seconds s m n (record { refusal = f; count = 0 })
-  second-head f q d = second-refused f 0 d (q ∙ sym (moved ∙ first-append-some (fixedTests s 2 2 7) _ (λ z. d (ap (λ (g : Refusal). g .number) q ∙ z))))
-
-  module _ (clear : firstOf (fixedTests s 2 2 7) .number ≡ 0) (x : ℕ) (h : x ≡ numberOf 256 (take 2 (drop 10 s))) where
-    counted : countIn s ≡ x
-    counted = ap (λ (p : ℕ). numberOf 256 (bodyAt s p)) at ∙ fixed-number s 2 2 7 clear x h
-
-    onward : firstOf (secondTests s m n) ≡ firstOf (contents 7 x)
-    onward = moved ∙ first-append-none (fixedTests s 2 2 7) _ refl clear ∙ ap (λ (c : ℕ). firstOf (contents 7 c)) counted
-
-    pub second-many : maxPoints < x → Seconds s m n (record { refusal = refusal 15 7; count = 0 })
-    second-many q = second-refused _ 0 (λ z. omega arith) (sym (onward ∙ first-here _ _ (lt-ltb _ _ q)))
-
-    pub second-lacks : x ≤ maxPoints → cond (ltb m x) true (ltb n x) ≡ true → Seconds s m n (record { refusal = refusal 16 7; count = 0 })
-    second-lacks q d = second-refused _ 0 (λ z. omega arith) (sym (onward ∙ first-skip _ _ (le-ltb _ _ q) ∙ first-here _ _ d))
-
-    room : (a b : Bool) → cond a true b ≡ false → (a ≡ false) × (b ≡ false)
-    room true b e = (cc, cc)
-    room false b e = (refl, e)
-
-    pub second-found : (f : Refusal) → f ≡ firstOf (fixedTests s 2 2 7) → x ≤ maxPoints → cond (ltb m x) true (ltb n x) ≡ false → Seconds s m n (record { refusal = f; count = x })
-    second-found f g q d =
-        let r = room (ltb m x) (ltb n x) d in
-        record {
-          refuses = g ∙ first-none (fixedTests s 2 2 7) refl clear ∙ sym (onward ∙ first-skip _ _ (le-ltb _ _ q) ∙ first-skip _ _ d ∙ first-end);
-          count = λ z. sym counted;
-          few = λ z. subst (λ (c : ℕ). c ≤ maxPoints) (sym counted) q;
-          points = λ z. subst (λ (c : ℕ). c ≤ m) (sym counted) (ltb-false _ _ (r .0));
-          values = λ z. subst (λ (c : ℕ). c ≤ n) (sym counted) (ltb-false _ _ (r .1));
-          next = λ z. ap (nextAt s) at ∙ fixed-next s 2 2 7 clear;
-          inside = λ z. fixed-inside s 2 2 7 clear;
-        }
+  pub number-is : (x : ℕ) → x ≡ numberOf 256 (take n (drop (f .from) s)) → x ≡ numberOf 256 (bodyAt s p)
+  unfolding bodyAt
+  number-is x e = e ∙ ap₂ (λ (k q : ℕ). numberOf 256 (take k (drop q s))) (sym sized) (h .from clear)

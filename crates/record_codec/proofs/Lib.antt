@@ -1,3 +1,5 @@
 pub mod Fields
-pub mod Placing
-pub mod Reading
+pub mod Fronts
+pub mod Codings
+pub mod Readings
+pub mod Writings

@@ -1,89 +1,136 @@
--- What the functions that read a record's fields say of what they find.
---   Whole s tag p f     the field of a tag at the offset p: its refusal, or where its body stands
---   Firsts e s f        the first field: its refusal, or the rate
---   Seconds s m n f     the second field: its refusal, or the count
---   ratiosBy open       the reading of the fourth field: by the open rule, or strictly
+-- What the functions that read and write the parts of a record say of what they did.
+--   longestField        the most bytes that a field can take
+--   farthest            offsets up to here are returned as places, in 32 bits
+--   lengthAsked l       the length that a field must state, or nothing; lengthGood: whether a length is that one
+--   PartRead ..         a part of a record, read from the offset p on: its refusal, or the offset past its last field
+--   FieldRead ..        the same of one field, with the start of its body
+--   NumberRead ..       the same of a field that holds a number, with the number
+--   FrontRead e s f     rate and count: their refusal, or both numbers, the place of the count, and the offset past them
+--   tagOf, numberFor, codedBy, readBy   of a coding: its field's tag, the number of the refusal of a body that is none, the body of
+--                       numbers, and what a body holds; ratiosBy: the same of ratios, openly or strictly
+--   CodedRead ..        a field of coded numbers: its refusal, or the offset past it, and its numbers at the front of the output
+--   Codable c ns        the numbers ns can be coded so
 --   Answered a r p q    the returned numbers r and the outputs p and q are those of the answer a
---   Past .. At ..       what is known of the record where the third and the fourth field are read
 use mathlib.Core.Path.{_≡_}
 use mathlib.Core.Bool.{Bool, true, false}
-use mathlib.Core.List.{List, _++_}
-use mathlib.Core.Option.{Option}
-use Prim.Native.Nat.{ℕ, _+_, _≤_}
+use mathlib.Core.List.{List, [], _∷_}
+use mathlib.Core.Option.{Option, none, some}
+use Prim.Native.Nat.{ℕ, _+_, _*_, _^_, _≤_, _<_}
+use lib.Dec.{eqb}
 use lib.ListN.{length}
+use Rattle.bits.specs.Digits.{numberOf}
 use Rattle.limits.specs.Points.{maxPoints}
-use Rattle.refusals.specs.Tests.{firstOf}
 use Rattle.outputs.specs.Outputs.{over}
-use Rattle.record_format.specs.Reading.{Answer, recordAnswer, answerBy, nextAt, second, third, fourth, end, rateIn, countIn, ratiosIn, listOf, wholeTests, firstTests, secondTests, thirdTests, fourthTests}
+use Rattle.refusals.specs.declared.Refusal.{Refusal}
+use Rattle.refusals.specs.Tests.{Test, firstOf}
+use Rattle.position_format.specs.Rows.{rows}
+use Rattle.position_format.specs.Positions.{codedPositions, readPositions, validPositions}
+use Rattle.ratio_format.specs.Bodies.{codedRatios, openRatios, strictRatios}
+use Rattle.record_format.specs.Fields.{headSize, maxBody, bodyAt, nextAt}
+use Rattle.record_format.specs.Runs.{positionsTag, ratiosTag}
+use Rattle.record_format.specs.Reading.{Answer, listOf, countAt, positionsAt, rateIn, countIn, frontTests, codedTests}
 use Rattle.record_format.specs.declared.ReadAnswer.{ReadAnswer}
-use Rattle.ratio_format.specs.Bodies.{openRatios, strictRatios}
 use Rattle.record_codec.specs.declared.field.Field.{Field}
-use Rattle.record_codec.specs.declared.field.First.{First}
-use Rattle.record_codec.specs.declared.field.Second.{Second}
+use Rattle.record_codec.specs.declared.field.Length.{Length}
+use Rattle.record_codec.specs.declared.field.Length.the-variants.{Any, Exactly}
+use Rattle.record_codec.specs.declared.front.Number.{Number}
+use Rattle.record_codec.specs.declared.front.Front.{Front}
+use Rattle.record_codec.specs.declared.coding.Coding.{Coding}
+use Rattle.record_codec.specs.declared.coding.Part.{Part}
+use Rattle.record_codec.specs.declared.coding.Coding.the-variants.{Positions, Ratios}
 
--- the refusal of a field, and where nothing is refused its body, which ends within the bytes
-pub record Whole (s : List ℕ) (tag p : ℕ) (f : Field) : Type 0 where
-  pub refuses : f .refusal ≡ firstOf (wholeTests s tag p)
-  pub start : f .refusal .number ≡ 0 → f .from ≡ p + 3
-  pub stop : f .refusal .number ≡ 0 → f .to ≡ nextAt s p
-  pub inside : f .refusal .number ≡ 0 → nextAt s p ≤ length s
+-- head and body
+abbrev pub longestField : ℕ
+longestField = headSize + maxBody
 
--- the refusal of the first field, and where nothing is refused its rate, and where the second stands
-pub record Firsts (e : ℕ) (s : List ℕ) (f : First) : Type 0 where
-  pub refuses : f .refusal ≡ firstOf (firstTests e s)
+-- a record's fields all begin before it
+abbrev pub farthest : ℕ
+farthest = 2 ^ 31
+
+-- ---- reading a field
+
+-- any length, or one
+abbrev pub lengthAsked : Length → Option ℕ
+lengthAsked Any = none
+lengthAsked (Exactly n) = some n
+
+-- whether a stated length is the one that is asked for, if one is
+abbrev pub lengthGood : Option ℕ → ℕ → Bool
+lengthGood none n = true
+lengthGood (some m) n = eqb n m
+
+-- a refusal, or where the next field stands
+pub record PartRead (tests : List Test) (s : List ℕ) (p : ℕ) (f : Refusal) (end : ℕ) : Type 0 where
+  pub refuses : f ≡ firstOf tests
+  pub next : f .number ≡ 0 → end ≡ nextAt s p
+  pub inside : f .number ≡ 0 → nextAt s p ≤ length s
+  pub near : f .number ≡ 0 → nextAt s p ≤ p + longestField
+
+-- one field, with the start of its body
+pub record FieldRead (tests : List Test) (s : List ℕ) (p : ℕ) (f : Field) : Type 0 where
+  pub part : PartRead tests s p (f .refusal) (f .to)
+  pub from : f .refusal .number ≡ 0 → f .from ≡ p + headSize
+
+-- with the number that it holds in n bytes
+pub record NumberRead (n : ℕ) (tests : List Test) (s : List ℕ) (p : ℕ) (f : Number) : Type 0 where
+  pub part : PartRead tests s p (f .refusal) (f .end)
+  pub value : f .refusal .number ≡ 0 → f .value ≡ numberOf 256 (bodyAt s p)
+  pub small : f .value < 256 ^ n
+
+-- rate and count, and where each stands
+pub record FrontRead (e : ℕ) (s : List ℕ) (f : Front) : Type 0 where
+  pub refuses : f .refusal ≡ firstOf (frontTests e s)
   pub rate : f .refusal .number ≡ 0 → f .rate ≡ rateIn s
-  pub next : f .refusal .number ≡ 0 → second s ≡ 7
-  pub inside : f .refusal .number ≡ 0 → 7 ≤ length s
-
--- the refusal of the second field, and where nothing is refused its count, for which there is room, and where the third stands
-pub record Seconds (s : List ℕ) (m n : ℕ) (f : Second) : Type 0 where
-  pub refuses : f .refusal ≡ firstOf (secondTests s m n)
   pub count : f .refusal .number ≡ 0 → f .count ≡ countIn s
   pub few : f .refusal .number ≡ 0 → countIn s ≤ maxPoints
-  pub points : f .refusal .number ≡ 0 → countIn s ≤ m
-  pub values : f .refusal .number ≡ 0 → countIn s ≤ n
-  pub next : f .refusal .number ≡ 0 → third s ≡ 12
-  pub inside : f .refusal .number ≡ 0 → 12 ≤ length s
+  pub place : f .refusal .number ≡ 0 → f .place ≡ countAt s
+  pub next : f .refusal .number ≡ 0 → f .end ≡ positionsAt s
+  pub inside : f .refusal .number ≡ 0 → positionsAt s ≤ length s
+  pub near : f .refusal .number ≡ 0 → positionsAt s ≤ 2 * longestField
 
--- open or strict
+-- ---- fields of coded numbers
+
+-- the tag of the field
+abbrev pub tagOf : Coding → ℕ
+tagOf Positions = positionsTag
+tagOf Ratios = ratiosTag
+
+-- the refusal of a body that is none
+abbrev pub numberFor : Coding → ℕ
+numberFor Positions = 17
+numberFor Ratios = 18
+
+-- numbers as a body
+abbrev pub codedBy : Coding → List ℕ → List ℕ
+codedBy Positions ns = codedPositions rows ns
+codedBy Ratios ns = codedRatios ns
+
+-- ratios by the open rule, or strictly
 abbrev pub ratiosBy : Bool → ℕ → List ℕ → Option (List ℕ)
 ratiosBy true = openRatios
 ratiosBy false = strictRatios
 
+-- a body as numbers
+abbrev pub readBy : Coding → Bool → ℕ → List ℕ → Option (List ℕ)
+readBy Positions openly = readPositions rows
+readBy Ratios openly = ratiosBy openly
+
+-- not too many, and positions that the table can code
+abbrev pub Codable : Coding → List ℕ → Type 0
+Codable Positions ns = (validPositions rows ns ≡ true) × (length ns ≤ maxPoints)
+Codable Ratios ns = length ns ≤ maxPoints
+
+-- the tests of such a field
+abbrev pub bodyTests : Coding → Bool → ℕ → List ℕ → ℕ → List Test
+bodyTests c openly n s p = codedTests s (tagOf c ∷ []) (readBy c openly n) (numberFor c) p
+
+-- what reading it leaves in the output o, which is now q
+pub record CodedRead (c : Coding) (openly : Bool) (n : ℕ) (s : List ℕ) (p : ℕ) (f : Part) (o q : List ℕ) : Type 0 where
+  pub part : PartRead (bodyTests c openly n s p) s p (f .refusal) (f .end)
+  pub filled : f .refusal .number ≡ 0 → q ≡ over (listOf (readBy c openly n (bodyAt s p))) o
+
+-- ---- the whole answer
+
 -- an answer as it is returned
 abbrev pub Answered : Answer → ReadAnswer → List ℕ → List ℕ → Type 0
 Answered a r p q = (r ≡ a .answer) × (p ≡ a .positions) × (q ≡ a .ratios)
-
--- the numbers of the first two fields, for which there is room
-pub record Known (s : List ℕ) (rate count m n : ℕ) : Type 0 where
-  pub rate-is : rate ≡ rateIn s
-  pub count-is : count ≡ countIn s
-  pub few : count ≤ maxPoints
-  pub points : count ≤ m
-  pub values : count ≤ n
-
--- the third field stands at 12
-pub record AtThird (s : List ℕ) : Type 0 where
-  pub place : third s ≡ 12
-  pub inside : 12 ≤ length s
-
--- the fourth field stands at p
-pub record AtFourth (s : List ℕ) (p : ℕ) : Type 0 where
-  pub place : fourth s ≡ p
-  pub inside : p ≤ length s
-  pub near : p ≤ 65550
-
--- the answer from the fourth field on, where the positions are stored
-abbrev pub fourthAnswer : (ℕ → List ℕ → Option (List ℕ)) → List ℕ → List ℕ → List ℕ → Answer
-fourthAnswer k s ts vs =
-    answerBy (fourthTests k s)
-    (record {
-      answer = record { number = 0; place = 0; rate = rateIn s; count = countIn s; used = end s };
-      positions = ts;
-      ratios = over (listOf (ratiosIn k s)) vs;
-    })
-    ts vs
-
--- the answer from the third field on
-abbrev pub thirdAnswer : (ℕ → List ℕ → Option (List ℕ)) → List ℕ → List ℕ → List ℕ → Answer
-thirdAnswer k s ts vs = answerBy (thirdTests s ++ fourthTests k s) (recordAnswer k s ts vs) ts vs

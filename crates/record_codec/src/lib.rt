@@ -1,5 +1,7 @@
 // Records of runs: writing, strict reading and open reading.
+mod coding;
 mod field;
+mod front;
 mod reader;
 mod writer;
 

@@ -1,13 +1,10 @@
-// Reading: the fields of a record in their order, strictly or with the fourth by the open rule.
+// Reading: the parts of a record in their order, strictly or with the ratios by the open rule.
 ghost use mathlib.Core.Path.{_≡_};
-ghost use Prim.Native.Nat.{_≤_};
-ghost use lib.ListN.{length};
-ghost use Rattle.outputs.specs.Outputs.{Filled};
-ghost use Rattle.record_format.specs.Reading.{refusalAnswer, readWith, readStrict, readOpen};
-ghost use Rattle.record_codec.specs.Fields.{ratiosBy, Answered, Known, AtThird, AtFourth, fourthAnswer, thirdAnswer};
-use super::field::first_field;
-use super::field::second_field;
-use super::field::whole_field;
+ghost use Rattle.record_format.specs.Reading.{refusalAnswer, lacksRoom, readWith, readStrict, readOpen};
+ghost use Rattle.record_codec.specs.Fields.{ratiosBy, Answered};
+use super::coding::Coding;
+use super::coding::read_coded;
+use super::front::read_front;
 use record_format::ReadAnswer;
 use refusals::Refusal;
 
@@ -26,92 +23,14 @@ fn refuse_read(refusal: Refusal, positions: &mut [u64], ratios: &mut [u64]) -> R
     }
 }
 
-// The ratios of the fourth field, by the open rule or strictly.
-fn get_ratios(openly: bool, body: &[u8], count: usize, out: &mut [u64]) -> bool
-    requires { ⌜ count ≤ length (now out) ⌝ }
-    ensures { λ r. ⌜ Filled (ratiosBy openly count (now (body .entry))) r (now (out .entry)) (now (out .exit)) ⌝ }
+// Whether an output has room for fewer than count numbers.
+fn lacks(positions: usize, ratios: usize, count: usize) -> bool
+    ensures { λ r. ⌜ r ≡ lacksRoom positions ratios count ⌝ }
 {
-    if openly {
-        ratio_bodies::get_open(body, count, out)
-    } else {
-        ratio_bodies::get_strict(body, count, out)
-    }
+    positions < count || ratios < count
 }
 
-// The fourth field, at an offset, where the positions are stored already.
-fn read_fourth(
-    openly: bool,
-    input: &[u8],
-    at: usize,
-    rate: u32,
-    count: usize,
-    positions: &mut [u64],
-    ratios: &mut [u64],
-) -> ReadAnswer
-    requires { ⌜ AtFourth (now input) at × Known (now input) rate count (length (now positions)) (length (now ratios)) ⌝ }
-    ensures { λ r. ⌜ Answered (fourthAnswer (ratiosBy openly) (now (input .entry)) (now (positions .entry)) (now (ratios .entry))) r (now (positions .exit)) (now (ratios .exit)) ⌝ }
-{
-    let field = whole_field(input, at, 4);
-    let refusal = field.refusal;
-    let number = refusal.number;
-    if number != 0 {
-        return refuse_read(refusal, positions, ratios);
-    }
-    let from = field.from;
-    let to = field.to;
-    if !get_ratios(openly, &input[from..to], count, ratios) {
-        return refuse_read(
-            Refusal {
-                number: 18,
-                place: at as u32,
-            },
-            positions,
-            ratios,
-        );
-    }
-    ReadAnswer {
-        number: 0,
-        place: 0,
-        rate,
-        count: count as u32,
-        used: to as u64,
-    }
-}
-
-// The third and the fourth field.
-fn read_third(
-    openly: bool,
-    input: &[u8],
-    rate: u32,
-    count: usize,
-    positions: &mut [u64],
-    ratios: &mut [u64],
-) -> ReadAnswer
-    requires { ⌜ AtThird (now input) × Known (now input) rate count (length (now positions)) (length (now ratios)) ⌝ }
-    ensures { λ r. ⌜ Answered (thirdAnswer (ratiosBy openly) (now (input .entry)) (now (positions .entry)) (now (ratios .entry))) r (now (positions .exit)) (now (ratios .exit)) ⌝ }
-{
-    let field = whole_field(input, 12, 3);
-    let refusal = field.refusal;
-    let number = refusal.number;
-    if number != 0 {
-        return refuse_read(refusal, positions, ratios);
-    }
-    let from = field.from;
-    let to = field.to;
-    if !position_codec::get_positions(&input[from..to], count, positions) {
-        return refuse_read(
-            Refusal {
-                number: 17,
-                place: 12,
-            },
-            positions,
-            ratios,
-        );
-    }
-    read_fourth(openly, input, to, rate, count, positions, ratios)
-}
-
-// A record read into the outputs, its fourth field by the open rule or strictly: the tests of the fields in their order.
+// A record read into the outputs, its ratios by the open rule or strictly: front, room, positions, ratios.
 fn read_record(
     openly: bool,
     expected: u32,
@@ -121,22 +40,45 @@ fn read_record(
 ) -> ReadAnswer
     ensures { λ r. ⌜ Answered (readWith (ratiosBy openly) expected (now (input .entry)) (now (positions .entry)) (now (ratios .entry))) r (now (positions .exit)) (now (ratios .exit)) ⌝ }
 {
-    let first = first_field(expected, input);
-    let refusal = first.refusal;
-    let number = refusal.number;
+    let front = read_front(expected, input);
+    let refused = front.refusal;
+    let number = refused.number;
     if number != 0 {
-        return refuse_read(refusal, positions, ratios);
+        return refuse_read(refused, positions, ratios);
     }
-    let second = second_field(input, positions.len(), ratios.len());
-    let refusal2 = second.refusal;
-    let number2 = refusal2.number;
+    let count = front.count;
+    if lacks(positions.len(), ratios.len(), count) {
+        return refuse_read(
+            Refusal {
+                number: 16,
+                place: front.place as u32,
+            },
+            positions,
+            ratios,
+        );
+    }
+    let first = read_coded(Coding::Positions, false, input, front.end, count, positions);
+    let refused2 = first.refusal;
+    let number2 = refused2.number;
     if number2 != 0 {
-        return refuse_read(refusal2, positions, ratios);
+        return refuse_read(refused2, positions, ratios);
     }
-    read_third(openly, input, first.rate, second.count, positions, ratios)
+    let second = read_coded(Coding::Ratios, openly, input, first.end, count, ratios);
+    let refused3 = second.refusal;
+    let number3 = refused3.number;
+    if number3 != 0 {
+        return refuse_read(refused3, positions, ratios);
+    }
+    ReadAnswer {
+        number: 0,
+        place: 0,
+        rate: front.rate,
+        count: count as u32,
+        used: second.end as u64,
+    }
 }
 
-// Strict reading of a record: field 4 must be the coding of its ratios. An expected rate of 0 expects none.
+// Strict reading of a record: the ratios' field must be the coding of its ratios. An expected rate of 0 expects none.
 pub fn read_strict(
     expected: u32,
     input: &[u8],
@@ -150,7 +92,7 @@ pub fn read_strict(
     read_record(false, expected, input, positions, ratios)
 }
 
-// Open reading of a record: field 4 is read by the open rule, all else strictly.
+// Open reading of a record: the ratios' field is read by the open rule, all else strictly.
 pub fn read_open(
     expected: u32,
     input: &[u8],

@@ -1,26 +1,35 @@
 // Writing: the record of a run, field by field, each straight into the rest of the caller's output.
-ghost use mathlib.Core.List.{_∷_, _++_};
+ghost use mathlib.Core.List.{[], _∷_, _++_};
 ghost use mathlib.Core.Path.{_≡_};
 ghost use mathlib.Core.Bool.{true};
-ghost use Prim.Native.Nat.{_+_, _≤_};
+ghost use Prim.Native.Nat.{_≤_};
 ghost use lib.ListN.{length, drop};
 ghost use Rattle.bits.specs.Digits.{bytesOf};
-ghost use Rattle.outputs.specs.Outputs.{Placed};
-ghost use Rattle.position_format.specs.Positions.{codedPositions, validPositions};
+ghost use Rattle.limits.specs.Points.{maxPoints};
+ghost use Rattle.outputs.specs.Outputs.{Placed, zeros};
+ghost use Rattle.position_format.specs.Positions.{validPositions};
 ghost use Rattle.position_format.specs.Rows.{rows};
-ghost use Rattle.ratio_format.specs.Bodies.{codedRatios};
-ghost use Rattle.record_format.specs.Writing.{runTests, writeAnswer, writeOutput};
 ghost use Rattle.refusals.specs.Tests.{firstOf};
-ghost use Rattle.outputs.specs.Outputs.{zeros};
-ghost use Rattle.record_format.specs.Runs.{field, run, recordOf};
+ghost use Rattle.record_format.specs.Fields.{fieldOf, headSize, fieldBytes};
+ghost use Rattle.record_format.specs.Runs.{run, recordOf};
+ghost use Rattle.record_format.specs.Writing.{runTests, writeAnswer, writeOutput};
+ghost use Rattle.record_codec.specs.Fields.{tagOf, codedBy, Codable};
+use super::coding::Coding;
+use super::coding::put_body;
+use super::coding::tag_of;
 use outputs::Wrote;
+use record_format::COUNT_SIZE;
+use record_format::COUNT_TAG;
+use record_format::HEAD_SIZE;
+use record_format::RATE_SIZE;
+use record_format::RATE_TAG;
 use record_format::WriteAnswer;
 use refusals::Refusal;
 
 // The tag and the length of a field, at the front of the output.
 fn put_head(out: &mut [u8], tag: u8, n: usize)
-    requires { ⌜ 3 ≤ length (now out) ⌝ }
-    ensures { λ _. ⌜ now (out .exit) ≡ tag ∷ (bytesOf 2 n ++ drop 3 (now (out .entry))) ⌝ }
+    requires { ⌜ headSize ≤ length (now out) ⌝ }
+    ensures { λ _. ⌜ now (out .exit) ≡ tag ∷ (bytesOf 2 n ++ drop headSize (now (out .entry))) ⌝ }
 {
     out[0] = tag;
     bits::put_bytes(out, 1, 2, n as u64);
@@ -29,85 +38,52 @@ fn put_head(out: &mut [u8], tag: u8, n: usize)
 // A field that holds a number in n bytes, at the front of the output.
 fn put_number(out: &mut [u8], tag: u8, n: usize, x: u64) -> Wrote
     requires { ⌜ n ≤ 8 ⌝ }
-    ensures { λ r. ⌜ Placed (field tag (bytesOf n x)) r (now (out .entry)) (now (out .exit)) ⌝ }
+    ensures { λ r. ⌜ Placed (fieldBytes (fieldOf tag (bytesOf n x))) r (now (out .entry)) (now (out .exit)) ⌝ }
 {
-    if out.len() < n + 3 {
+    if out.len() < n + HEAD_SIZE {
         return Wrote::NoRoom;
     }
     put_head(out, tag, n);
-    bits::put_bytes(out, 3, n, x);
-    Wrote::Done(n + 3)
+    bits::put_bytes(out, HEAD_SIZE, n, x);
+    Wrote::Done(n + HEAD_SIZE)
 }
 
-// The fields of the rate and of the count.
-fn put_front(rate: u32, count: usize, out: &mut [u8]) -> Wrote
-    ensures { λ r. ⌜ Placed (field 1 (bytesOf 4 rate) ++ field 2 (bytesOf 2 count)) r (now (out .entry)) (now (out .exit)) ⌝ }
+// A field of coded numbers, at the front of the output: the body past the head, and then the head.
+fn put_coded(coding: Coding, numbers: &[u64], out: &mut [u8]) -> Wrote
+    requires { ⌜ Codable coding (now numbers) ⌝ }
+    ensures { λ r. ⌜ Placed (fieldBytes (fieldOf (tagOf coding) (codedBy coding (now (numbers .entry))))) r (now (out .entry)) (now (out .exit)) ⌝ }
 {
-    let Wrote::Done(n) = put_number(out, 1, 4, rate as u64) else {
-        return Wrote::NoRoom;
-    };
-    let Wrote::Done(m) = put_number(&mut out[n..], 2, 2, count as u64) else {
-        return Wrote::NoRoom;
-    };
-    Wrote::Done(n + m)
-}
-
-// The field of the positions, at the front of the output.
-fn put_third(positions: &[u64], out: &mut [u8]) -> Wrote
-    requires { ⌜ (validPositions rows (now positions) ≡ true) × (length (now positions) ≤ 4096) ⌝ }
-    ensures { λ r. ⌜ Placed (field 3 (codedPositions rows (now (positions .entry)))) r (now (out .entry)) (now (out .exit)) ⌝ }
-{
-    if out.len() < 3 {
+    if out.len() < HEAD_SIZE {
         return Wrote::NoRoom;
     }
-    let Wrote::Done(n) = position_codec::put_positions(positions, &mut out[3..]) else {
+    let Wrote::Done(n) = put_body(coding, numbers, &mut out[HEAD_SIZE..]) else {
         return Wrote::NoRoom;
     };
-    put_head(out, 3, n);
-    Wrote::Done(n + 3)
-}
-
-// The field of the ratios, at the front of the output.
-fn put_fourth(ratios: &[u64], out: &mut [u8]) -> Wrote
-    requires { ⌜ length (now ratios) ≤ 4096 ⌝ }
-    ensures { λ r. ⌜ Placed (field 4 (codedRatios (now (ratios .entry)))) r (now (out .entry)) (now (out .exit)) ⌝ }
-{
-    if out.len() < 3 {
-        return Wrote::NoRoom;
-    }
-    let Wrote::Done(n) = ratio_bodies::put_ratios(ratios, &mut out[3..]) else {
-        return Wrote::NoRoom;
-    };
-    put_head(out, 4, n);
-    Wrote::Done(n + 3)
-}
-
-// The fields of the positions and of the ratios.
-fn put_back(positions: &[u64], ratios: &[u64], out: &mut [u8]) -> Wrote
-    requires { ⌜ (validPositions rows (now positions) ≡ true) × (length (now positions) ≤ 4096) × (length (now ratios) ≤ 4096) ⌝ }
-    ensures { λ r. ⌜ Placed (field 3 (codedPositions rows (now (positions .entry))) ++ field 4 (codedRatios (now (ratios .entry)))) r (now (out .entry)) (now (out .exit)) ⌝ }
-{
-    let Wrote::Done(n) = put_third(positions, out) else {
-        return Wrote::NoRoom;
-    };
-    let Wrote::Done(m) = put_fourth(ratios, &mut out[n..]) else {
-        return Wrote::NoRoom;
-    };
-    Wrote::Done(n + m)
+    put_head(out, tag_of(coding), n);
+    Wrote::Done(n + HEAD_SIZE)
 }
 
 // The record of a run whose tests 1 to 5 do not apply.
 fn put_record(rate: u32, positions: &[u64], ratios: &[u64], out: &mut [u8]) -> Wrote
-    requires { ⌜ (validPositions rows (now positions) ≡ true) × (length (now positions) ≤ 4096) × (length (now ratios) ≤ 4096) ⌝ }
+    requires { ⌜ (validPositions rows (now positions) ≡ true) × (length (now positions) ≤ maxPoints) × (length (now ratios) ≤ maxPoints) ⌝ }
     ensures { λ r. ⌜ Placed (recordOf (run rate (now (positions .entry)) (now (ratios .entry)))) r (now (out .entry)) (now (out .exit)) ⌝ }
 {
-    let Wrote::Done(n) = put_front(rate, positions.len(), out) else {
+    let Wrote::Done(a) = put_number(out, RATE_TAG, RATE_SIZE, rate as u64) else {
         return Wrote::NoRoom;
     };
-    let Wrote::Done(m) = put_back(positions, ratios, &mut out[n..]) else {
+    let Wrote::Done(b) = put_number(&mut out[a..], COUNT_TAG, COUNT_SIZE, positions.len() as u64)
+    else {
         return Wrote::NoRoom;
     };
-    Wrote::Done(n + m)
+    let c = a + b;
+    let Wrote::Done(d) = put_coded(Coding::Positions, positions, &mut out[c..]) else {
+        return Wrote::NoRoom;
+    };
+    let e = c + d;
+    let Wrote::Done(f) = put_coded(Coding::Ratios, ratios, &mut out[e..]) else {
+        return Wrote::NoRoom;
+    };
+    Wrote::Done(e + f)
 }
 
 // The refusal of a run by tests 1 to 5, in this order, each over the whole run.

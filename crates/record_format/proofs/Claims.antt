@@ -1,28 +1,40 @@
--- The demands on records, proved of the definitions. Assumes nothing.
+-- The demands on records, proved of the definitions.
 use mathlib.Core.Path.{_≡_, refl, sym, ap, ap₂, _∙_}
-use mathlib.Core.Bool.{Bool, true, cond}
+use mathlib.Core.Bool.{Bool, true, false, not, cond}
 use mathlib.Core.List.{List, [], _∷_, _++_, append-nil}
+use mathlib.Core.Logic.{_⊎_, inl, inr}
+use mathlib.Core.Option.{Option, some}
 use Prim.Native.Nat.{ℕ, _≤_}
 use native.Mathlib.Omega.{arith}
-use borrow.Author.Tests.{le-ltb}
-use lib.Dec.{lit≤}
-use lib.ListN.{length, drop}
-use lib.Seq.{drop-append-seam}
+use borrow.Author.Tests.{eqb-true, eq-eqb, ltb-false, le-ltb, not-false}
+use lib.Dec.{eqb, ltb, lit<, lit≤}
+use lib.ListN.{length, getD}
 use Rattle.lists.specs.Below.{Below}
+use Rattle.lists.specs.Compare.{both}
+use Rattle.bits.specs.Digits.{bytesOf, numberOf}
+use Rattle.bits.proofs.Digits.{number-digits-lt}
+use Rattle.limits.proofs.Rates.{rate-high}
 use Rattle.refusals.specs.Tests.{firstOf}
-use Rattle.refusals.proofs.Tests.{first-skip}
-use Rattle.ratio_format.specs.Bodies.{openRatios, strictRatios}
-use Rattle.record_format.specs.Runs.{Run, run, field, recordOf}
-use Rattle.record_format.specs.Reading.{Answer, readStrict, readOpen, rateIn, positionsIn, ratiosIn, listOf}
-use Rattle.record_format.specs.Claims.{Accepted, AllAccepted, joined, ownTests, ownAnswer, runAnswer, ReadsBack, ReadsOnly, AcceptsExactly, PrefixFree, ListsApart, TrailingBytes, Shortest, NineEach}
+use Rattle.refusals.proofs.Tests.{first-skip, first-clear}
+use Rattle.position_format.specs.Rows.{rows}
+use Rattle.position_format.specs.Positions.{codedPositions, readPositions}
+use Rattle.position_format.proofs.Rows.{rows-good}
+use Rattle.position_format.proofs.Positions.{read-coded}
 use Rattle.ratio_format.specs.Windows.{windowSize}
+use Rattle.ratio_format.specs.Bodies.{codedRatios, openRatios, strictRatios}
 use Rattle.ratio_format.proofs.Bodies.{nine-bytes}
 use Rattle.ratio_format.proofs.ReadFrom.{open-coded}
 use Rattle.ratio_format.proofs.Shortest.{shortest}
 use Rattle.ratio_format.proofs.Strict.{strict-coded}
-use Rattle.record_format.proofs.Accepted.{accepted-fits, fitting-accepted}
-use Rattle.record_format.proofs.ReadBack.{read-record, rate-is, positions-are, ratios-are}
-use Rattle.record_format.proofs.ReadOnly.{quiet, accepted-begins}
+use Rattle.record_format.specs.Fields.{Field, fieldOf, fieldBytes, laid}
+use Rattle.record_format.specs.Runs.{Run, run, rateSize, countSize, ratiosTag, fieldsOf, recordOf}
+use Rattle.record_format.specs.Reading.{Answer, readStrict, readOpen, listOf, otherRate}
+use Rattle.record_format.specs.Claims.{Accepted, AllAccepted, joined, ownTests, ownAnswer, runAnswer, ReadsBack, ReadsOnly, AcceptsExactly, PrefixFree, ListsApart, TrailingBytes, Shortest, NineEach, Demand3}
+use Rattle.record_format.proofs.Fields.{laid-same}
+use Rattle.record_format.proofs.Reading.{answer-quiet, answer-good}
+use Rattle.record_format.proofs.ReadsBack.{fields-small, read-record}
+use Rattle.record_format.proofs.ReadsOnly.{accepted-begins}
+use Rattle.record_format.proofs.Writing.{accepted-fits, fitting-accepted}
 
 -- ---- demand 2
 
@@ -30,12 +42,12 @@ pub reads-back : ReadsBack
 unfolding Below
 reads-back r a e rest ts vs =
     let f = accepted-fits r (a .passes) in
-    (read-record r f (a .words) rest strictRatios (strict-coded (r .ratios) (a .words)) e ts vs, read-record r f (a .words) rest openRatios (open-coded windowSize (lit≤ tt) [] (r .ratios) (lit≤ tt) tt (a .words)) e ts vs)
+    (read-record r f rest strictRatios (strict-coded (r .ratios) (a .words)) e ts vs, read-record r f rest openRatios (open-coded windowSize (lit≤ tt) [] (r .ratios) (lit≤ tt) tt (a .words)) e ts vs)
 
 -- an answer with number 0 is the run's own
 own-of : (r : Run) (e : ℕ) (ts vs : List ℕ) → runAnswer r e ts vs .answer .number ≡ 0 → runAnswer r e ts vs ≡ ownAnswer r ts vs
 own-of r e ts vs h =
-    let z = quiet (firstOf (ownTests r e (length ts) (length vs))) (ownAnswer r ts vs) ts vs h in
+    let z = answer-quiet (ownTests r e (length ts) (length vs)) (ownAnswer r ts vs) ts vs h in
     rw z
 
 pub reads-only : ReadsOnly
@@ -46,63 +58,113 @@ reads-only e s ts vs bytes h =
     let q : readStrict e s ts vs ≡ runAnswer r e ts vs = ap (λ (l : List ℕ). readStrict e l ts vs) (b .splits) ∙ reads-back r a e (b .rest) ts vs .0 in
     (r, a, (b .rest, b .splits), q ∙ own-of r e ts vs (sym (ap (λ (x : Answer). x .answer .number) q) ∙ h))
 
--- with room, and no other rate expected, the tests of a run's record refuse nothing
-no-test : (r : Run) (ts vs : List ℕ) → length (r .positions) ≤ length ts → length (r .positions) ≤ length vs → firstOf (ownTests r 0 (length ts) (length vs)) ≡ firstOf []
-no-test r ts vs m n =
-    first-skip _ _ refl
-    ∙ first-skip _ _ (ap₂ (λ (a b : Bool). cond a true b) (le-ltb _ _ m) (le-ltb _ _ n))
+-- no other rate is expected
+no-other : (e r : ℕ) → (e ≡ 0) ⊎ (e ≡ r) → otherRate e r ≡ false
+no-other e r (inl h) = rw (eq-eqb e 0 h)
+no-other e r (inr h) = go (eqb e 0)
+  where
+    go : (b : Bool) → both (not b) (not (eqb e r)) ≡ false
+    go true = refl
+    go false = rw (eq-eqb e r h)
 
+other-none : (e r : ℕ) → otherRate e r ≡ false → (e ≡ 0) ⊎ (e ≡ r)
+other-none e r h = go (eqb e 0) refl h
+  where
+    go : (b : Bool) → eqb e 0 ≡ b → both (not b) (not (eqb e r)) ≡ false → (e ≡ 0) ⊎ (e ≡ r)
+    go true q k = inl (eqb-true e 0 q)
+    go false q k = inr (eqb-true e r (not-false (eqb e r) k))
+
+-- there is room
+room-none : (a b : Bool) → cond a true b ≡ false → (a ≡ false) × (b ≡ false)
+room-none true b e = (cc, cc)
+room-none false b e = (refl, e)
+
+module _ (r : Run) (e : ℕ) (ts vs : List ℕ) where
+  -- the tests of a run's record refuse nothing exactly where no other rate is expected and there is room
+  own-clear : (e ≡ 0) ⊎ (e ≡ r .rate) → length (r .positions) ≤ length ts → length (r .positions) ≤ length vs → runAnswer r e ts vs ≡ ownAnswer r ts vs
+  own-clear o m n =
+      answer-good (ownAnswer r ts vs) ts vs (ownTests r e (length ts) (length vs))
+      (first-skip _ _ (no-other e (r .rate) o)
+      ∙ first-skip _ _ (ap₂ (λ (a b : Bool). cond a true b) (le-ltb _ _ m) (le-ltb _ _ n)))
+
+  own-only : runAnswer r e ts vs .answer .number ≡ 0 → ((e ≡ 0) ⊎ (e ≡ r .rate)) × (length (r .positions) ≤ length ts) × (length (r .positions) ≤ length vs)
+  own-only h =
+      let a = first-clear _ _ (lit< tt) (answer-quiet (ownTests r e (length ts) (length vs)) (ownAnswer r ts vs) ts vs h) in
+      let b = first-clear _ _ (lit< tt) (a .1) in
+      let c = room-none (ltb (length ts) (length (r .positions))) (ltb (length vs) (length (r .positions))) (b .0) in
+      (other-none e (r .rate) (a .0), ltb-false _ _ (c .0), ltb-false _ _ (c .1))
+
+-- with room, and no other rate expected, the answer is the run's own
 pub with-room : (r : Run) (ts vs : List ℕ) → length (r .positions) ≤ length ts → length (r .positions) ≤ length vs → runAnswer r 0 ts vs ≡ ownAnswer r ts vs
-unfolding firstOf
-with-room r ts vs m n = rw (no-test r ts vs m n)
+with-room r ts vs m n = own-clear r 0 ts vs (inl refl) m n
 
 pub accepts-exactly : AcceptsExactly
-accepts-exactly s ts vs bytes m n = (
-  λ h. let r = reads-only 0 s ts vs bytes h in (r .0, r .1, r .2),
+accepts-exactly e s ts vs bytes = (
+  λ h.
+      let o = reads-only e s ts vs bytes h in
+      let r = o .0 in
+      let q : readStrict e s ts vs ≡ runAnswer r e ts vs = ap (λ (l : List ℕ). readStrict e l ts vs) (o .2 .1) ∙ reads-back r (o .1) e (o .2 .0) ts vs .0 in
+      let k = own-only r e ts vs (sym (ap (λ (x : Answer). x .answer .number) q) ∙ h) in
+      (r, o .1, o .2, k .0, k .1, k .2),
   λ b.
       let r : Run = b .0 in
-      let f = accepted-fits r (b .1 .passes) in
-      let e : readStrict 0 s ts vs ≡ ownAnswer r ts vs =
-      ap (λ (l : List ℕ). readStrict 0 l ts vs) (b .2 .1)
-      ∙ reads-back r (b .1) 0 (b .2 .0) ts vs .0
-      ∙ with-room r ts vs (omega (arith, f .few)) (omega (arith, f .few)) in
-      ap (λ (x : Answer). x .answer .number) e,
+      let q : readStrict e s ts vs ≡ ownAnswer r ts vs =
+      ap (λ (l : List ℕ). readStrict e l ts vs) (b .2 .1)
+      ∙ reads-back r (b .1) e (b .2 .0) ts vs .0
+      ∙ own-clear r e ts vs (b .3) (b .4) (b .5) in
+      ap (λ (x : Answer). x .answer .number) q,
 )
 
 -- ---- demand 3
+
+-- the ratios' field is the last of a record
+isLast : ℕ → Bool
+isLast tag = eqb tag ratiosTag
 
 -- a run is its parts
 same-run : (r q : Run) → r .rate ≡ q .rate → r .positions ≡ q .positions → r .ratios ≡ q .ratios → r ≡ q
 same-run r q a b c = ap (λ (x : ℕ). run x (r .positions) (r .ratios)) a ∙ ap₂ (λ (x y : List ℕ). run (q .rate) x y) b c
 
--- bytes that begin with the records of two runs: the runs are the same
-pub unique : (r q : Run) → Accepted r → Accepted q → (x y : List ℕ) → recordOf r ++ x ≡ recordOf q ++ y → r ≡ q
-unique r q a b x y e =
+-- the body of the field of index k
+abbrev body-of : ℕ → List Field → List ℕ
+body-of k fs = getD fs k (fieldOf 0 []) .body
+
+-- the fields of two runs are the same: the runs are the same
+same-fields : (r q : Run) → Accepted r → Accepted q → fieldsOf r ≡ fieldsOf q → r ≡ q
+same-fields r q a b e =
     let f = accepted-fits r (a .passes) in
     let g = accepted-fits q (b .passes) in
-    let sr = strict-coded (r .ratios) (a .words) in
-    let sq = strict-coded (q .ratios) (b .words) in
-    let one : r .rate ≡ q .rate = sym (rate-is r f (a .words) x) ∙ ap rateIn e ∙ rate-is q g (b .words) y in
-    let two : r .positions ≡ q .positions =
-    ap listOf (sym (positions-are r f (a .words) x) ∙ ap positionsIn e ∙ positions-are q g (b .words) y) in
-    let three : r .ratios ≡ q .ratios =
-    ap listOf (sym (ratios-are r f (a .words) x strictRatios sr) ∙ ap (ratiosIn strictRatios) e ∙ ratios-are q g (b .words) y strictRatios sq) in
-    same-run r q one two three
+    let rates : bytesOf rateSize (r .rate) ≡ bytesOf rateSize (q .rate) = ap (body-of 0) e in
+    let counts : bytesOf countSize (length (r .positions)) ≡ bytesOf countSize (length (q .positions)) = ap (body-of 1) e in
+    let bodies : codedPositions rows (r .positions) ≡ codedPositions rows (q .positions) = ap (body-of 2) e in
+    let codes : codedRatios (r .ratios) ≡ codedRatios (q .ratios) = ap (body-of 3) e in
+    let n : length (r .positions) ≡ length (q .positions) =
+    sym (number-digits-lt (lit< tt) countSize (omega (arith, f .few))) ∙ ap (numberOf 256) counts ∙ number-digits-lt (lit< tt) countSize (omega (arith, g .few)) in
+    same-run r q
+    (sym (number-digits-lt (lit< tt) rateSize (omega (arith, rate-high (r .rate) (f .listed)))) ∙ ap (numberOf 256) rates
+    ∙ number-digits-lt (lit< tt) rateSize (omega (arith, rate-high (q .rate) (g .listed))))
+    (ap listOf
+    (sym (read-coded rows rows-good (r .positions) (f .valid)) ∙ ap₂ (readPositions rows) n bodies ∙ read-coded rows rows-good (q .positions) (g .valid)))
+    (ap listOf
+    (sym (strict-coded (r .ratios) (a .words)) ∙ ap₂ strictRatios (f .paired ∙ n ∙ sym (g .paired)) codes ∙ strict-coded (q .ratios) (b .words)))
+
+-- bytes that begin with the records of two runs: the runs are the same, and so is what follows
+pub unique : (r q : Run) → Accepted r → Accepted q → (x y : List ℕ) → recordOf r ++ x ≡ recordOf q ++ y → (r ≡ q) × (x ≡ y)
+unfolding recordOf isLast
+unique r q a b x y e =
+    let h = laid-same isLast (fieldsOf r) (fieldsOf q) (fields-small r (accepted-fits r (a .passes))) (fields-small q (accepted-fits q (b .passes))) refl refl x y e in
+    (same-fields r q a b (h .0), h .1)
 
 pub prefix-free : PrefixFree
 prefix-free r q a b n = (
-  λ t. n (unique r q a b (t .0) [] (sym (t .1) ∙ sym (append-nil (recordOf q)))),
-  λ t. n (unique r q a b [] (t .0) (append-nil (recordOf r) ∙ t .1)),
+  λ t. n (unique r q a b (t .0) [] (sym (t .1) ∙ sym (append-nil (recordOf q))) .0),
+  λ t. n (unique r q a b [] (t .0) (append-nil (recordOf r) ∙ t .1) .0),
 )
 
 -- a record is not empty
 filled : (r : Run) (x : List ℕ) → [] ≡ recordOf r ++ x → ⊥
-unfolding recordOf field
+unfolding recordOf laid fieldBytes
 filled r x e = let z : _≡_ {A = ℕ} 0 1 = cc in omega arith
-
--- what stands after equal beginnings
-cancel : (a x y : List ℕ) → a ++ x ≡ a ++ y → x ≡ y
-cancel a x y e = sym (drop-append-seam a x) ∙ ap (drop (length a)) e ∙ drop-append-seam a y
 
 apart : (rs qs : List Run) → AllAccepted rs → AllAccepted qs → joined rs ≡ joined qs → rs ≡ qs
 unfolding joined
@@ -110,9 +172,8 @@ apart [] [] a b e = refl
 apart [] (q ∷ qs) a b e = absurd (filled q (joined qs) e)
 apart (r ∷ rs) [] a b e = absurd (filled r (joined rs) (sym e))
 apart (r ∷ rs) (q ∷ qs) a b e =
-    let h : r ≡ q = unique r q (a .0) (b .0) (joined rs) (joined qs) e in
-    let t : rs ≡ qs = apart rs qs (a .1) (b .1) (cancel (recordOf r) (joined rs) (joined qs) (e ∙ ap (λ (p : Run). recordOf p ++ joined qs) (sym h))) in
-    ap₂ (λ (p : Run) (l : List Run). p ∷ l) h t
+    let h = unique r q (a .0) (b .0) (joined rs) (joined qs) e in
+    ap₂ (λ (p : Run) (l : List Run). p ∷ l) (h .0) (apart rs qs (a .1) (b .1) (h .1))
 
 pub lists-apart : ListsApart
 lists-apart rs qs a b = (apart rs qs a b, ap joined)
@@ -131,3 +192,6 @@ shortest-of-all vs s words bytes e = shortest windowSize [] (length vs) s vs byt
 
 pub nine-each : NineEach
 nine-each vs words = nine-bytes windowSize [] vs
+
+pub demand3 : Demand3
+demand3 = (prefix-free, lists-apart, trailing-bytes, shortest-of-all, nine-each)

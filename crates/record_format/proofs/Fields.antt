@@ -1,129 +1,301 @@
--- A field where it stands in a record: its parts, read back; and the bytes of a whole field, put together again.
--- Assumes nothing.
+-- Laws of fields: where each stands when they are laid end to end, what is read there, what whole fields are, and that bytes are laid of one
+-- list of fields only.
 use mathlib.Core.Path.{_≡_, refl, sym, ap, ap₂, _∙_, subst}
-use mathlib.Core.List.{List, _∷_, _++_, append-assoc}
-use Prim.Native.Nat.{ℕ, suc, _+_, _-_, _≤_, _<_}
+use mathlib.Core.Bool.{Bool, true, false, not, false≢true}
+use mathlib.Core.List.{List, [], _∷_, _++_, append-assoc, append-nil}
+use Prim.Native.Nat.{ℕ, suc, _+_, _-_, _^_, _≤_, _<_}
 use native.Mathlib.Numerals.{add-one}
 use native.Mathlib.Omega.{arith}
+use borrow.Author.Tests.{not-true}
 use lib.Dec.{lit<}
-use lib.ListN.{length, take, drop, getD, length-append, length-drop, take-append-drop}
-use lib.Seq.{take-at, drop-at, getD-append-seam, drop-cons, drop-drop, length-take-le}
-use Rattle.bits.specs.Digits.{digitsOf, bytesOf, numberOf}
-use Rattle.record_format.specs.Runs.{field}
-use Rattle.record_format.specs.Reading.{tagAt, lengthAt, bodyAt, nextAt}
+use lib.ListN.{length, take, drop, getD, length-append, length-drop, take-append-drop, List·getD-append}
+use lib.Seq.{take-at, drop-at, getD-append-seam, drop-append-seam, drop-cons, drop-drop, length-take-le, take-append-le, drop-append-le}
 use Rattle.lists.specs.Below.{Below}
+use Rattle.lists.specs.Compare.{both}
 use Rattle.lists.proofs.Below.{below-take, below-drop}
-use Rattle.bits.proofs.Digits.{length-digits, number-digits-lt, digits-number}
+use Rattle.lists.proofs.Compare.{both-true}
+use Rattle.bits.specs.Digits.{digitsOf, bytesOf, numberOf}
+use Rattle.bits.proofs.Digits.{length-digits, number-digits-lt, digits-number, number-lt}
+use Rattle.record_format.specs.Fields.{Field, fieldOf, headSize, maxBody, fieldBytes, laid, tagAt, lengthAt, bodyAt, nextAt}
 
--- how long a field is
-pub length-field : (tag : ℕ) (body : List ℕ) → length (field tag body) ≡ 3 + length body
-unfolding field
-length-field tag body = ap suc (length-append (bytesOf 2 (length body)) body ∙ ap (λ (n : ℕ). n + length body) (length-digits 256 2 (length body))) ∙ omega arith
+-- ---- length
 
--- the field of a tag and a body, after p bytes and before any others
-module _ (before : List ℕ) (tag : ℕ) (body rest : List ℕ) (small : length body < 65536) (p : ℕ) (at : length before ≡ p) where
+pub length-field : (f : Field) → length (fieldBytes f) ≡ headSize + length (f .body)
+unfolding fieldBytes
+length-field f = ap suc (length-append (bytesOf 2 (length (f .body))) (f .body) ∙ ap (λ (n : ℕ). n + length (f .body)) (length-digits 256 2 (length (f .body)))) ∙ omega arith
+
+-- how many bytes fields take
+abbrev pub sizeAll : List Field → ℕ
+sizeAll [] = 0
+sizeAll (f ∷ fs) = headSize + length (f .body) + sizeAll fs
+
+pub length-laid : (fs : List Field) → length (laid fs) ≡ sizeAll fs
+unfolding laid
+length-laid [] = refl
+length-laid (f ∷ fs) = length-append (fieldBytes f) (laid fs) ∙ ap₂ (λ (a b : ℕ). a + b) (length-field f) (length-laid fs)
+
+-- some fields, and then others
+pub laid-append : (fs gs : List Field) → laid (fs ++ gs) ≡ laid fs ++ laid gs
+unfolding laid
+laid-append [] gs = refl
+laid-append (f ∷ fs) gs = ap (λ (l : List ℕ). fieldBytes f ++ l) (laid-append fs gs) ∙ sym (append-assoc (fieldBytes f) (laid fs) (laid gs))
+
+pub laid-one : (f : Field) → laid (f ∷ []) ≡ fieldBytes f
+unfolding laid
+laid-one f = append-nil (fieldBytes f)
+
+-- ---- a field that stands in bytes
+
+-- the field f stands at the offset p of the bytes s
+pub record Stands (s : List ℕ) (p : ℕ) (f : Field) : Type 0 where
+  pub head : p + headSize ≤ length s
+  pub tagged : tagAt s p ≡ f .tag
+  pub stated : lengthAt s p ≡ length (f .body)
+  pub whole : nextAt s p ≤ length s
+  pub within : bodyAt s p ≡ f .body
+  pub next : nextAt s p ≡ p + length (fieldBytes f)
+
+-- after other bytes and before any others
+module _ (before : List ℕ) (f : Field) (rest : List ℕ) (small : length (f .body) ≤ maxBody) where
   abbrev here : List ℕ
-  here = before ++ (field tag body ++ rest)
+  here = before ++ (fieldBytes f ++ rest)
 
-  from-tag : drop p here ≡ field tag body ++ rest
-  from-tag = drop-at before (field tag body ++ rest) p at
+  abbrev p : ℕ
+  p = length before
 
-  tag-at : tagAt here p ≡ tag
-  unfolding tagAt field
-  tag-at = ap (λ (n : ℕ). getD here n 0) (sym at) ∙ getD-append-seam before tag ((bytesOf 2 (length body) ++ body) ++ rest) 0
+  from-tag : drop p here ≡ fieldBytes f ++ rest
+  from-tag = drop-append-seam before (fieldBytes f ++ rest)
+
+  tag-at : tagAt here p ≡ f .tag
+  unfolding tagAt fieldBytes
+  tag-at = getD-append-seam before (f .tag) ((bytesOf 2 (length (f .body)) ++ f .body) ++ rest) 0
 
   -- the bytes after the tag
-  from-length : drop (p + 1) here ≡ bytesOf 2 (length body) ++ (body ++ rest)
-  unfolding field
+  from-length : drop (p + 1) here ≡ bytesOf 2 (length (f .body)) ++ (f .body ++ rest)
+  unfolding fieldBytes
   from-length =
-      sym (drop-drop 1 p here) ∙ ap (drop 1) from-tag ∙ append-assoc (bytesOf 2 (length body)) body rest
+      sym (drop-drop 1 p here) ∙ ap (drop 1) from-tag ∙ append-assoc (bytesOf 2 (length (f .body))) (f .body) rest
 
-  length-at : lengthAt here p ≡ length body
+  length-at : lengthAt here p ≡ length (f .body)
   unfolding lengthAt
   length-at =
       ap (λ (l : List ℕ). numberOf 256 (take 2 l)) from-length
-      ∙ ap (numberOf 256) (take-at (bytesOf 2 (length body)) (body ++ rest) 2 (length-digits 256 2 (length body)))
-      ∙ number-digits-lt (lit< tt) 2 small
+      ∙ ap (numberOf 256) (take-at (bytesOf 2 (length (f .body))) (f .body ++ rest) 2 (length-digits 256 2 (length (f .body))))
+      ∙ number-digits-lt (lit< tt) 2 (omega arith)
 
-  from-body : drop (p + 3) here ≡ body ++ rest
+  from-body : drop (p + headSize) here ≡ f .body ++ rest
   from-body =
-      let e : p + 3 ≡ p + 1 + 2 = omega arith in
+      let e : p + headSize ≡ p + 1 + 2 = omega arith in
       ap (λ (n : ℕ). drop n here) e ∙ sym (drop-drop 2 (p + 1) here) ∙ ap (drop 2) from-length
-      ∙ drop-at (bytesOf 2 (length body)) (body ++ rest) 2 (length-digits 256 2 (length body))
+      ∙ drop-at (bytesOf 2 (length (f .body))) (f .body ++ rest) 2 (length-digits 256 2 (length (f .body)))
 
-  body-at : bodyAt here p ≡ body
+  body-at : bodyAt here p ≡ f .body
   unfolding bodyAt
-  body-at = ap₂ take length-at from-body ∙ take-at body rest (length body) refl
+  body-at = ap₂ take length-at from-body ∙ take-at (f .body) rest (length (f .body)) refl
 
-  next-at : nextAt here p ≡ p + 3 + length body
+  next-at : nextAt here p ≡ p + length (fieldBytes f)
   unfolding nextAt
-  next-at = ap (λ (n : ℕ). p + 3 + n) length-at
+  next-at = ap (λ (n : ℕ). p + headSize + n) length-at ∙ omega (arith, length-field f)
 
-  length-here : length here ≡ p + 3 + length body + length rest
-  length-here =
-      length-append before (field tag body ++ rest)
-      ∙ omega (arith, at, length-append (field tag body) rest, length-field tag body)
+  length-here : length here ≡ p + length (fieldBytes f) + length rest
+  length-here = length-append before (fieldBytes f ++ rest) ∙ omega (arith, length-append (fieldBytes f) rest)
 
-  whole-head : p + 3 ≤ length here
-  whole-head = omega (arith, length-here)
+  pub stands : Stands here p f
+  stands = record {
+    head = omega (arith, length-here, length-field f);
+    tagged = tag-at;
+    stated = length-at;
+    whole = omega (arith, length-here, next-at);
+    within = body-at;
+    next = next-at;
+  }
 
-  whole-body : nextAt here p ≤ length here
-  whole-body = omega (arith, length-here, next-at)
+-- ---- fields laid end to end
 
--- the field of a tag and a body stands at the offset p of the bytes s
-pub record Stands (s : List ℕ) (p tag : ℕ) (body : List ℕ) : Type 0 where
-  pub head : p + 3 ≤ length s
-  pub tagged : tagAt s p ≡ tag
-  pub stated : lengthAt s p ≡ length body
-  pub whole : nextAt s p ≤ length s
-  pub within : bodyAt s p ≡ body
-  pub next : nextAt s p ≡ p + 3 + length body
+-- bodies whose length two bytes can state
+abbrev pub Small : List Field → Type 0
+Small [] = Unit {0}
+Small (f ∷ fs) = (length (f .body) ≤ maxBody) × Small fs
 
-pub stands : (before : List ℕ) (tag : ℕ) (body rest : List ℕ) → length body < 65536 → (p : ℕ) → length before ≡ p
-    → Stands (before ++ (field tag body ++ rest)) p tag body
-stands before tag body rest small p at = record {
-  head = whole-head before tag body rest small p at;
-  tagged = tag-at before tag body rest small p at;
-  stated = length-at before tag body rest small p at;
-  whole = whole-body before tag body rest small p at;
-  within = body-at before tag body rest small p at;
-  next = next-at before tag body rest small p at;
-}
+-- the fields fs stand one after the other, from the offset p on
+abbrev pub StandAll : List ℕ → ℕ → List Field → Type 0
+StandAll s p [] = Unit {0}
+StandAll s p (f ∷ fs) = Stands s p f × StandAll s (nextAt s p) fs
+
+-- where each stands, whatever is before and after
+pub laid-stand : (before : List ℕ) (fs : List Field) (rest : List ℕ) → Small fs → StandAll (before ++ (laid fs ++ rest)) (length before) fs
+unfolding laid
+laid-stand before [] rest small = tt
+laid-stand before (f ∷ fs) rest small = go (laid-stand (before ++ fieldBytes f) fs rest (small .1))
+  where
+    first : before ++ (laid (f ∷ fs) ++ rest) ≡ before ++ (fieldBytes f ++ (laid fs ++ rest))
+    first = simp append-assoc
+
+    later : (before ++ fieldBytes f) ++ (laid fs ++ rest) ≡ before ++ (fieldBytes f ++ (laid fs ++ rest))
+    later = append-assoc before (fieldBytes f) (laid fs ++ rest)
+
+    go : StandAll ((before ++ fieldBytes f) ++ (laid fs ++ rest)) (length (before ++ fieldBytes f)) fs
+        → StandAll (before ++ (laid (f ∷ fs) ++ rest)) (length before) (f ∷ fs)
+    go h =
+        let here = stands before f (laid fs ++ rest) (small .0) in
+        let e : nextAt (before ++ (fieldBytes f ++ (laid fs ++ rest))) (length before) ≡ length (before ++ fieldBytes f) =
+        here .next ∙ sym (length-append before (fieldBytes f)) in
+        rw first (here, rw e (subst (λ (l : List ℕ). StandAll l (length (before ++ fieldBytes f)) fs) later h))
+
+-- the offset past the fields fs, which stand from p on
+abbrev pub pastAll : List ℕ → ℕ → List Field → ℕ
+pastAll s p [] = p
+pastAll s p (f ∷ fs) = pastAll s (nextAt s p) fs
+
+pub stand-past : (s : List ℕ) (p : ℕ) (fs : List Field) → StandAll s p fs → pastAll s p fs ≡ p + length (laid fs)
+unfolding laid
+stand-past s p [] h = omega arith
+stand-past s p (f ∷ fs) h =
+    stand-past s (nextAt s p) fs (h .1) ∙ omega (arith, h .0 .next, length-append (fieldBytes f) (laid fs))
+
+-- ---- bytes are laid of one list of fields only
+
+-- what stands after equal beginnings
+cancel : (a x y : List ℕ) → a ++ x ≡ a ++ y → x ≡ y
+cancel a x y e = sym (drop-append-seam a x) ∙ ap (drop (length a)) e ∙ drop-append-seam a y
+
+pub field-same : (f g : Field) → length (f .body) ≤ maxBody → length (g .body) ≤ maxBody → (x y : List ℕ) → fieldBytes f ++ x ≡ fieldBytes g ++ y → (f ≡ g) × (x ≡ y)
+field-same f g m n x y e =
+    let a = stands [] f x m in
+    let b = stands [] g y n in
+    let t : f .tag ≡ g .tag = sym (a .tagged) ∙ ap (λ (l : List ℕ). tagAt l 0) e ∙ b .tagged in
+    let c : f .body ≡ g .body = sym (a .within) ∙ ap (λ (l : List ℕ). bodyAt l 0) e ∙ b .within in
+    let h : f ≡ g = ap₂ fieldOf t c in
+    (h, cancel (fieldBytes f) x y (e ∙ ap (λ (k : Field). fieldBytes k ++ y) (sym h)))
+
+-- the fields end with the first whose tag is a last one
+abbrev pub closed : (ℕ → Bool) → List Field → Bool
+closed last [] = false
+closed last (f ∷ []) = last (f .tag)
+closed last (f ∷ g ∷ fs) = both (not (last (f .tag))) (closed last (g ∷ fs))
+
+-- so of two such lists, laid end to end, neither is a beginning of the other
+module _ (last : ℕ → Bool) where
+  apart : (f g : Field) → f ≡ g → last (f .tag) ≡ true → not (last (g .tag)) ≡ true → ⊥
+  apart f g e a b = let z : _≡_ {A = ℕ} 0 1 = cc (ap (λ (k : Field). last (k .tag)) e, not-true (last (g .tag)) b) in omega arith
+
+  pub laid-same : (fs gs : List Field) → Small fs → Small gs → closed last fs ≡ true → closed last gs ≡ true
+      → (x y : List ℕ) → laid fs ++ x ≡ laid gs ++ y → (fs ≡ gs) × (x ≡ y)
+  unfolding laid
+  laid-same [] gs m n c d x y e = absurd (false≢true c)
+  laid-same (f ∷ fs) [] m n c d x y e = absurd (false≢true d)
+  laid-same (f ∷ []) (g ∷ []) m n c d x y e =
+      let h = field-same f g (m .0) (n .0) x y (sym (append-assoc (fieldBytes f) [] x) ∙ e ∙ append-assoc (fieldBytes g) [] y) in
+      (ap (λ (k : Field). k ∷ []) (h .0), h .1)
+  laid-same (f ∷ []) (g ∷ k ∷ gs) m n c d x y e =
+      let h = field-same f g (m .0) (n .0) x (laid (k ∷ gs) ++ y) (rw append-nil at (e ∙ append-assoc (fieldBytes g) (laid (k ∷ gs)) y)) in
+      absurd (apart f g (h .0) c (both-true (not (last (g .tag))) (closed last (k ∷ gs)) d .0))
+  laid-same (f ∷ k ∷ fs) (g ∷ []) m n c d x y e =
+      let h = field-same g f (n .0) (m .0) y (laid (k ∷ fs) ++ x) (rw append-nil at (sym e ∙ append-assoc (fieldBytes f) (laid (k ∷ fs)) x)) in
+      absurd (apart g f (h .0) d (both-true (not (last (f .tag))) (closed last (k ∷ fs)) c .0))
+  laid-same (f ∷ k ∷ fs) (g ∷ l ∷ gs) m n c d x y e =
+      let p = both-true (not (last (f .tag))) (closed last (k ∷ fs)) c in
+      let q = both-true (not (last (g .tag))) (closed last (l ∷ gs)) d in
+      let h = field-same f g (m .0) (n .0) (laid (k ∷ fs) ++ x) (laid (l ∷ gs) ++ y)
+      (sym (append-assoc (fieldBytes f) (laid (k ∷ fs)) x) ∙ e ∙ append-assoc (fieldBytes g) (laid (l ∷ gs)) y) in
+      let r = laid-same (k ∷ fs) (l ∷ gs) (m .1) (n .1) (p .1) (q .1) x y (h .1) in
+      (ap₂ (λ (a : Field) (l : List Field). a ∷ l) (h .0) (r .0), r .1)
+
+-- ---- whole fields in any bytes
 
 -- the bytes s from the offset p on, where a whole field stands there
-module _ (s : List ℕ) (p : ℕ) (bytes : Below 256 s) (head : p + 3 ≤ length s) (whole : nextAt s p ≤ length s) where
-  fits : lengthAt s p ≤ length s - (p + 3)
-  unfolding nextAt
-  fits = omega (arith, whole)
+module _ (s : List ℕ) (p : ℕ) (bytes : Below 256 s) (head : p + headSize ≤ length s) where
+  length-bytes : length (take 2 (drop (p + 1) s)) ≡ 2
+  length-bytes = length-take-le 2 (drop (p + 1) s) (subst (λ (n : ℕ). 2 ≤ n) (sym (length-drop (p + 1) s)) (omega arith))
 
-  pub length-body : length (bodyAt s p) ≡ lengthAt s p
-  unfolding bodyAt
-  length-body = length-take-le (lengthAt s p) (drop (p + 3) s) (subst (λ (n : ℕ). lengthAt s p ≤ n) (sym (length-drop (p + 3) s)) fits)
+  below-length : Below 256 (take 2 (drop (p + 1) s))
+  below-length = below-take 256 2 (drop (p + 1) s) (below-drop 256 (p + 1) s bytes)
 
-  stated : bytesOf 2 (lengthAt s p) ≡ take 2 (drop (p + 1) s)
+  -- two bytes state no more than they hold
+  pub length-most : lengthAt s p ≤ maxBody
   unfolding lengthAt
-  stated =
-      let l = take 2 (drop (p + 1) s) in
-      let e : length l ≡ 2 = length-take-le 2 (drop (p + 1) s) (subst (λ (n : ℕ). 2 ≤ n) (sym (length-drop (p + 1) s)) (omega arith)) in
-      ap (λ (n : ℕ). digitsOf 256 n (numberOf 256 l)) (sym e) ∙ digits-number 256 l (below-take 256 2 (drop (p + 1) s) (below-drop 256 (p + 1) s bytes))
+  length-most = omega (arith, subst (λ (n : ℕ). numberOf 256 (take 2 (drop (p + 1) s)) < 256 ^ n) length-bytes (number-lt 256 (take 2 (drop (p + 1) s)) below-length))
 
-  after-tag : drop (p + 1) s ≡ take 2 (drop (p + 1) s) ++ (bodyAt s p ++ drop (nextAt s p) s)
+  pub next-most : nextAt s p ≤ p + headSize + maxBody
+  unfolding nextAt
+  next-most = omega (arith, length-most)
+
+  module _ (whole : nextAt s p ≤ length s) where
+    fits : lengthAt s p ≤ length s - (p + headSize)
+    unfolding nextAt
+    fits = omega (arith, whole)
+
+    pub length-body : length (bodyAt s p) ≡ lengthAt s p
+    unfolding bodyAt
+    length-body = length-take-le (lengthAt s p) (drop (p + headSize) s) (subst (λ (n : ℕ). lengthAt s p ≤ n) (sym (length-drop (p + headSize) s)) fits)
+
+    stated : bytesOf 2 (lengthAt s p) ≡ take 2 (drop (p + 1) s)
+    unfolding lengthAt
+    stated =
+        ap (λ (n : ℕ). digitsOf 256 n (numberOf 256 (take 2 (drop (p + 1) s)))) (sym length-bytes) ∙ digits-number 256 (take 2 (drop (p + 1) s)) below-length
+
+    after-tag : drop (p + 1) s ≡ take 2 (drop (p + 1) s) ++ (bodyAt s p ++ drop (nextAt s p) s)
+    unfolding bodyAt nextAt
+    after-tag =
+        let three : p + 1 + 2 ≡ p + headSize = omega arith in
+        sym (take-append-drop 2 (drop (p + 1) s))
+        ∙ ap (λ (l : List ℕ). take 2 (drop (p + 1) s) ++ l)
+        (drop-drop 2 (p + 1) s ∙ ap (λ (n : ℕ). drop n s) three
+        ∙ sym (take-append-drop (lengthAt s p) (drop (p + headSize) s))
+        ∙ ap (λ (l : List ℕ). take (lengthAt s p) (drop (p + headSize) s) ++ l) (drop-drop (lengthAt s p) (p + headSize) s))
+
+    -- it is that field, and then what follows
+    pub field-here : drop p s ≡ fieldBytes (fieldOf (tagAt s p) (bodyAt s p)) ++ drop (nextAt s p) s
+    unfolding fieldBytes tagAt
+    field-here =
+        drop-cons s p 0 (omega arith)
+        ∙ ap (λ (n : ℕ). getD s p 0 ∷ drop n s) (sym (add-one p))
+        ∙ ap (λ (l : List ℕ). getD s p 0 ∷ l)
+        (after-tag
+        ∙ sym (append-assoc (take 2 (drop (p + 1) s)) (bodyAt s p) (drop (nextAt s p) s))
+        ∙ ap (λ (l : List ℕ). (l ++ bodyAt s p) ++ drop (nextAt s p) s) (sym stated ∙ ap (bytesOf 2) (sym length-body)))
+
+    pub below-body : Below 256 (bodyAt s p)
+    unfolding bodyAt
+    below-body = below-take 256 (lengthAt s p) (drop (p + headSize) s) (below-drop 256 (p + headSize) s bytes)
+
+-- the fields fs follow one another from the offset p on
+abbrev pub Follow : List ℕ → ℕ → List Field → Type 0
+Follow s p [] = Unit {0}
+Follow s p (f ∷ fs) = (drop p s ≡ fieldBytes f ++ drop (nextAt s p) s) × Follow s (nextAt s p) fs
+
+-- then the bytes from p on are they, laid end to end, and what follows them
+pub follow-laid : (s : List ℕ) (p : ℕ) (fs : List Field) → Follow s p fs → drop p s ≡ laid fs ++ drop (pastAll s p fs) s
+unfolding laid
+follow-laid s p [] h = refl
+follow-laid s p (f ∷ fs) h =
+    h .0 ∙ ap (λ (l : List ℕ). fieldBytes f ++ l) (follow-laid s (nextAt s p) fs (h .1))
+    ∙ sym (append-assoc (fieldBytes f) (laid fs) (drop (pastAll s (nextAt s p) fs) s))
+
+-- ---- bytes after a field change nothing in it
+
+module _ (s rest : List ℕ) (p : ℕ) where
+  module _ (head : p + headSize ≤ length s) where
+    pub tag-same : tagAt (s ++ rest) p ≡ tagAt s p
+    unfolding tagAt
+    tag-same = List·getD-append s rest 0 p (omega arith)
+
+    pub length-same : lengthAt (s ++ rest) p ≡ lengthAt s p
+    unfolding lengthAt
+    length-same =
+        ap (λ (l : List ℕ). numberOf 256 (take 2 l)) (drop-append-le (p + 1) s rest (omega arith))
+        ∙ ap (numberOf 256) (take-append-le 2 (drop (p + 1) s) rest (subst (λ (n : ℕ). 2 ≤ n) (sym (length-drop (p + 1) s)) (omega arith)))
+
+    pub next-same : nextAt (s ++ rest) p ≡ nextAt s p
+    unfolding nextAt
+    next-same = ap (λ (n : ℕ). p + headSize + n) length-same
+
+  pub head-within : nextAt s p ≤ length s → p + headSize ≤ length s
+  unfolding nextAt
+  head-within whole = omega (arith, whole)
+
+  pub body-same : nextAt s p ≤ length s → bodyAt (s ++ rest) p ≡ bodyAt s p
   unfolding bodyAt nextAt
-  after-tag =
-      let three : p + 1 + 2 ≡ p + 3 = omega arith in
-      sym (take-append-drop 2 (drop (p + 1) s))
-      ∙ ap (λ (l : List ℕ). take 2 (drop (p + 1) s) ++ l)
-      (drop-drop 2 (p + 1) s ∙ ap (λ (n : ℕ). drop n s) three
-      ∙ sym (take-append-drop (lengthAt s p) (drop (p + 3) s))
-      ∙ ap (λ (l : List ℕ). take (lengthAt s p) (drop (p + 3) s) ++ l) (drop-drop (lengthAt s p) (p + 3) s))
-
-  -- it is that field, and then what follows
-  pub field-here : drop p s ≡ field (tagAt s p) (bodyAt s p) ++ drop (nextAt s p) s
-  unfolding field tagAt
-  field-here =
-      drop-cons s p 0 (omega arith)
-      ∙ ap (λ (n : ℕ). getD s p 0 ∷ drop n s) (sym (add-one p))
-      ∙ ap (λ (l : List ℕ). getD s p 0 ∷ l)
-      (after-tag
-      ∙ sym (append-assoc (take 2 (drop (p + 1) s)) (bodyAt s p) (drop (nextAt s p) s))
-      ∙ ap (λ (l : List ℕ). (l ++ bodyAt s p) ++ drop (nextAt s p) s) (sym stated ∙ ap (bytesOf 2) (sym length-body)))
+  body-same whole =
+      ap₂ take (length-same (head-within whole)) (drop-append-le (p + headSize) s rest (head-within whole))
+      ∙ take-append-le (lengthAt s p) (drop (p + headSize) s) rest (subst (λ (n : ℕ). lengthAt s p ≤ n) (sym (length-drop (p + headSize) s)) (omega (arith, whole)))

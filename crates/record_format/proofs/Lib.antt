@@ -1,11 +1,10 @@
 pub mod Fields
-pub mod Heads
-pub mod Accepted
-pub mod ReadBack
-pub mod ReadOnly
-pub mod Answers
-pub mod Claims
+pub mod Reading
 pub mod Writing
+pub mod ReadsBack
+pub mod ReadsOnly
+pub mod Followed
+pub mod Claims
 pub mod Longest
 pub mod Sizes
-pub mod Following
+pub mod Examples

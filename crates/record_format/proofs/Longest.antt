@@ -1,5 +1,4 @@
 -- The longest run: it is accepted, each of its steps takes 36 bits, and each of its ratios nine bytes.
--- Assumes nothing.
 use mathlib.Core.Bool.{Bool, true, false, not}
 use mathlib.Core.List.{List, _∷_}
 use mathlib.Core.Path.{_≡_, refl, sym, ap, _∙_}
@@ -25,7 +24,7 @@ use Rattle.ratio_format.specs.Bodies.{codedRatios}
 use Rattle.ratio_format.proofs.Exceptions.{Apart, all-nine}
 use Rattle.record_format.specs.Claims.{Accepted}
 use Rattle.record_format.specs.Sizes.{firstValues, swing, twoEnds, longest}
-use Rattle.record_format.proofs.Accepted.{Fitting, fitting-accepted}
+use Rattle.record_format.proofs.Writing.{Fitting, fitting-accepted}
 
 -- ---- the first values of a function
 

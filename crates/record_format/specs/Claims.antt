@@ -4,23 +4,23 @@
 --   Beginning a b       the string a is a beginning of b: b is a and then any bytes, or none
 --   joined rs           the records of the runs rs, joined in their order
 --   runAnswer r e ts vs what reading the record of r answers
-use mathlib.Core.Bool.{true, not, cond}
+--   ReadsBack .. NineEach   the parts of the demands
+--   Demand3             demand 3, whole: the conjunction of its parts
+use mathlib.Core.Bool.{true, cond}
 use mathlib.Core.List.{List, [], _∷_, _++_}
-use mathlib.Core.Logic.{_↔_}
+use mathlib.Core.Logic.{_⊎_, _↔_}
 use mathlib.Core.Option.{Option, some}
 use mathlib.Core.Path.{_≡_}
-use Prim.Native.Nat.{ℕ, _*_, _≤_, _^_}
-use lib.Dec.{ltb, eqb}
+use Prim.Native.Nat.{ℕ, _+_, _*_, _≤_, _^_}
 use lib.ListN.{length}
 use Rattle.lists.specs.Below.{Below}
-use Rattle.lists.specs.Compare.{both}
-use Rattle.limits.specs.Points.{maxPoints}
 use Rattle.refusals.specs.Tests.{Test, test, firstOf, refused}
 use Rattle.outputs.specs.Outputs.{over}
 use Rattle.ratio_format.specs.Bodies.{codedRatios, openRatios}
-use Rattle.record_format.specs.Runs.{Run, recordOf}
+use Rattle.record_format.specs.Fields.{headSize}
+use Rattle.record_format.specs.Runs.{Run, rateSize, recordOf}
 use Rattle.record_format.specs.Writing.{accepts}
-use Rattle.record_format.specs.Reading.{Answer, refusalAnswer, end, readWith, readStrict, readOpen}
+use Rattle.record_format.specs.Reading.{Answer, refusalAnswer, endAt, otherRate, lacksRoom, rateAt, readWith, readStrict, readOpen}
 
 -- an accepted run
 pub record Accepted (r : Run) : Type 0 where
@@ -45,11 +45,15 @@ unfoldable pub joined : List Run → List ℕ
 joined [] = []
 joined (r ∷ rs) = recordOf r ++ joined rs
 
+-- where the count's field stands in the record of a run: past the rate's
+abbrev pub countPlace : ℕ
+countPlace = headSize + rateSize
+
 -- the tests that can apply to the record of an accepted run
 abbrev pub ownTests : Run → ℕ → ℕ → ℕ → List Test
 ownTests r e m n =
-    test (both (not (eqb e 0)) (not (eqb e (r .rate)))) 14 0
-    ∷ test (cond (ltb m (length (r .positions))) true (ltb n (length (r .positions)))) 16 7
+    test (otherRate e (r .rate)) 14 rateAt
+    ∷ test (lacksRoom m n (length (r .positions))) 16 countPlace
     ∷ []
 
 -- a success: the run, its count and its record's length, each position and each ratio
@@ -76,10 +80,13 @@ abbrev pub ReadsOnly : Type 0
 ReadsOnly = (e : ℕ) (s ts vs : List ℕ) → Bytes s → readStrict e s ts vs .answer .number ≡ 0
     → (r : Run) × Accepted r × Beginning (recordOf r) s × (readStrict e s ts vs ≡ ownAnswer r ts vs)
 
--- demand 2, with room for every run and no rate expected: accepted exactly when the input begins with some run's record
+-- demand 2: accepted exactly when the input begins with some run's record, its rate is the expected one or none is expected, and its count
+-- is within both rooms
 abbrev pub AcceptsExactly : Type 0
-AcceptsExactly = (s ts vs : List ℕ) → Bytes s → maxPoints ≤ length ts → maxPoints ≤ length vs
-    → (readStrict 0 s ts vs .answer .number ≡ 0) ↔ ((r : Run) × Accepted r × Beginning (recordOf r) s)
+AcceptsExactly = (e : ℕ) (s ts vs : List ℕ) → Bytes s
+    → (readStrict e s ts vs .answer .number ≡ 0)
+    ↔ ((r : Run) × Accepted r × Beginning (recordOf r) s
+    × ((e ≡ 0) ⊎ (e ≡ r .rate)) × (length (r .positions) ≤ length ts) × (length (r .positions) ≤ length vs))
 
 -- demand 3: of two runs that differ, neither record is a beginning of the other
 abbrev pub PrefixFree : Type 0
@@ -96,9 +103,9 @@ TrailingBytes = (r : Run) → Accepted r → (e : ℕ) (rest ts vs : List ℕ)
     → (readStrict e (recordOf r ++ rest) ts vs ≡ readStrict e (recordOf r) ts vs)
     × (readOpen e (recordOf r ++ rest) ts vs ≡ readOpen e (recordOf r) ts vs)
 
--- the same of any bytes that have four whole fields, also such as only open reading accepts, or neither
+-- the same of any bytes that have as many whole fields as a record, also such as only open reading accepts, or neither
 abbrev pub Followed : Type 0
-Followed = (k : ℕ → List ℕ → Option (List ℕ)) (e : ℕ) (s rest ts vs : List ℕ) → end s ≤ length s
+Followed = (k : ℕ → List ℕ → Option (List ℕ)) (e : ℕ) (s rest ts vs : List ℕ) → endAt s ≤ length s
     → readWith k e (s ++ rest) ts vs ≡ readWith k e s ts vs
 
 -- demand 3: a string that the open rule reads as the same ratios, at the same count, is at least as long as ours
@@ -108,3 +115,7 @@ Shortest = (vs s : List ℕ) → Below (2 ^ 64) vs → Bytes s → openRatios (l
 -- demand 3: ours takes at most nine bytes for each ratio
 abbrev pub NineEach : Type 0
 NineEach = (vs : List ℕ) → Below (2 ^ 64) vs → length (codedRatios vs) ≤ 9 * length vs
+
+-- demand 3, undivided
+abbrev pub Demand3 : Type 0
+Demand3 = PrefixFree × ListsApart × TrailingBytes × Shortest × NineEach

@@ -13,21 +13,24 @@ use Rattle.ratio_format.specs.Zeros.{zerosAt, leadZeros, trailZeros, sumOf}
 use Rattle.ratio_format.specs.Choice.{find, best, ratioForm}
 use Rattle.ratio_format.specs.Forms.{written, coded}
 use Rattle.ratio_format.specs.Bodies.{codedFrom, codedRatios}
-use Rattle.record_format.specs.Runs.{Run, run, field, recordOf}
+use Rattle.record_format.specs.Fields.{fieldBytes, laid}
+use Rattle.record_format.specs.Runs.{Run, run, recordOf}
 
--- what is coded: a step, the ratios of a run, or a run
+-- what is shown: a step, the sum of two ratios, the ratios of a run, or a run
 pub data Subject : Type 0 where
   step : ℤ → Subject
+  sum : ℕ → ℕ → Subject
   ratios : List ℕ → Subject
   whole : Run → Subject
 
--- its code: the bits of a step, the body of field 4, the record
+-- its code: the bits of a step, the sum as one number, the body of the ratios' field, the record
 pub codeOf : Subject → List ℕ
 codeOf (step z) = code rows z
+codeOf (sum v u) = sumOf v u ∷ []
 codeOf (ratios vs) = codedRatios vs
 codeOf (whole r) = recordOf r
 
--- an example: what is coded, and the code that document 01 prints
+-- an example: what is shown, and what document 01 prints of it
 pub record Example : Type 0 where
   pub subject : Subject
   pub printed : List ℕ
@@ -35,6 +38,18 @@ pub record Example : Type 0 where
 -- such an example
 abbrev example : Subject → List ℕ → Example
 example s l = record { subject = s; printed = l }
+
+-- the run of the listing
+abbrev pub listedRun : Run
+listedRun = run 96000 (0 ∷ 960 ∷ 1920 ∷ []) (replicate 3 0x3FE0000000000000)
+
+-- and its 46 bytes
+abbrev pub listedBytes : List ℕ
+listedBytes =
+    0x01 ∷ 0x00 ∷ 0x04 ∷ 0x00 ∷ 0x01 ∷ 0x77 ∷ 0x00
+    ∷ 0x02 ∷ 0x00 ∷ 0x02 ∷ 0x00 ∷ 0x03
+    ∷ 0x03 ∷ 0x00 ∷ 0x11 ∷ (replicate 14 0 ++ (0x03 ∷ 0xC0 ∷ 0x00
+    ∷ 0x04 ∷ 0x00 ∷ 0x0B ∷ 0xFF ∷ 0x3F ∷ 0xE0 ∷ (replicate 6 0 ++ (0x00 ∷ 0x00 ∷ []))))
 
 -- the rows marked P
 pub examples : List Example
@@ -48,21 +63,17 @@ examples =
     (0xFF ∷ (bytesOf 8 0xC01A666666666666 ++ (0x80 ∷ 0x61 ∷ 0x14 ∷ [])))
     ∷ example (ratios (0x402699999999999A ∷ 0x4027000000000000 ∷ []))
     (0xFF ∷ (bytesOf 8 0x402699999999999A ++ (0xFF ∷ bytesOf 8 0x4027000000000000)))
+    ∷ example (sum 0x4027000000000000 0x402699999999999A) (1 ∷ [])
     ∷ example (ratios (0 ∷ 0x0001020304050600 ∷ []))
     (0xFF ∷ (replicate 8 0 ++ (0x80 ∷ 0x16 ∷ 0x01 ∷ 0x02 ∷ 0x03 ∷ 0x04 ∷ 0x05 ∷ 0x06 ∷ [])))
     ∷ example (ratios (0 ∷ 0x0001020304050607 ∷ []))
     (0xFF ∷ (replicate 8 0 ++ (0xFF ∷ 0x00 ∷ 0x01 ∷ 0x02 ∷ 0x03 ∷ 0x04 ∷ 0x05 ∷ 0x06 ∷ 0x07 ∷ [])))
     ∷ example (ratios (1 ∷ 2 ∷ 3 ∷ []))
     (0xFF ∷ (replicate 7 0 ++ (0x01 ∷ 0x80 ∷ 0x01 ∷ 0x03 ∷ 0x80 ∷ 0x01 ∷ 0x01 ∷ [])))
-    ∷ example
-    (whole (run 96000 (0 ∷ 960 ∷ 1920 ∷ []) (replicate 3 0x3FE0000000000000)))
-    (0x01 ∷ 0x00 ∷ 0x04 ∷ 0x00 ∷ 0x01 ∷ 0x77 ∷ 0x00
-    ∷ 0x02 ∷ 0x00 ∷ 0x02 ∷ 0x00 ∷ 0x03
-    ∷ 0x03 ∷ 0x00 ∷ 0x11 ∷ (replicate 14 0 ++ (0x03 ∷ 0xC0 ∷ 0x00
-    ∷ 0x04 ∷ 0x00 ∷ 0x0B ∷ 0xFF ∷ 0x3F ∷ 0xE0 ∷ (replicate 6 0 ++ (0x00 ∷ 0x00 ∷ [])))))
+    ∷ example (whole listedRun) listedBytes
     ∷ []
 
 -- each row's code, computed from the definitions, is the one that is printed
 pub examples-hold : map (λ e. codeOf (e .subject)) examples ≡ map (λ e. e .printed) examples
-unfolding examples codeOf digitsOf numberOf eights pack rows code stepsFrom stepBits positionBits codedPositions zerosAt leadZeros trailZeros sumOf find best ratioForm written coded codedFrom field recordOf
+unfolding examples codeOf digitsOf numberOf eights pack rows code stepsFrom stepBits positionBits codedPositions zerosAt leadZeros trailZeros sumOf find best ratioForm written coded codedFrom fieldBytes laid recordOf
 examples-hold = refl

@@ -1,3 +1,4 @@
+pub mod Fields
 pub mod Runs
 pub mod Writing
 pub mod Reading

@@ -1,22 +1,23 @@
 -- Document 01, "The record" and "Numbers that come back": reading a record, strictly and openly.
---   tagAt s p         the tag of the field at the offset p of the bytes s
---   lengthAt s p      its stated length
---   bodyAt s p        its body
---   nextAt s p        the offset past it
---   second s .. end s the offsets of the later fields, and of the record's end
---   rateIn, countIn   the numbers in the first two fields
---   readTests k e s m n   the tests of reading in their order, with the reading k of field 4, the expected rate e (0 for none), and room
---                         for m positions and n ratios
---   readWith k e s ts vs  the whole answer, with outputs ts and vs: number, place, rate, count, bytes used, and both outputs afterwards
---   readStrict, readOpen  the two readings of a record
--- Strict and open reading, in standard terms canonical and lenient decoding, differ in the reading of field 4 only: strictRatios or
--- openRatios.
+--   rateAt, countAt s, positionsAt s, ratiosAt s   the offset of each field, by what it holds
+--   endAt s                the offset past the record
+--   rateIn, countIn        the numbers in the fields of the rate and of the count
+--   positionsIn s          the positions that the positions' field is the coding of, or nothing
+--   ratiosIn k s           the ratios that the reading k of the ratios' field gives, or nothing
+--   frontTests e s         the tests of rate and count, with the expected rate e (0 for none)
+--   codedTests s tags k x p  the tests of a field of coded numbers at p, whose body the reading k takes, or else the number x
+--   roomTests s m n        the test of room for m positions and n ratios
+--   readTests k e s m n    the tests of reading in their order, with the reading k of the ratios' field
+--   readWith k e s ts vs   the whole answer, with outputs ts and vs: number, place, rate, count, bytes used, and both outputs afterwards
+--   readStrict, readOpen   the two readings of a record
+-- Strict and open reading, in standard terms canonical and lenient decoding, differ in the reading of the ratios' field only: strictRatios
+-- or openRatios.
 use mathlib.Core.Bool.{Bool, true, false, not, cond}
 use mathlib.Core.List.{List, [], _∷_, _++_}
 use mathlib.Core.Option.{Option, none, some}
-use Prim.Native.Nat.{ℕ, _+_}
+use Prim.Native.Nat.{ℕ}
 use lib.Dec.{ltb, eqb}
-use lib.ListN.{length, getD, take, drop}
+use lib.ListN.{length}
 use Rattle.lists.specs.Compare.{both}
 use Rattle.bits.specs.Digits.{numberOf}
 use Rattle.refusals.specs.declared.Refusal.{Refusal}
@@ -28,55 +29,46 @@ use Rattle.position_format.specs.Rows.{rows}
 use Rattle.position_format.specs.Positions.{readPositions}
 use Rattle.record_format.specs.declared.ReadAnswer.{ReadAnswer}
 use Rattle.ratio_format.specs.Bodies.{openRatios, strictRatios}
-use Rattle.record_format.specs.Runs.{headSize}
+use Rattle.record_format.specs.Fields.{bodyAt, nextAt, fieldTests}
+use Rattle.record_format.specs.Runs.{rateTag, countTag, positionsTag, ratiosTag, rateSize, countSize}
 
--- the tag of the field at the offset p
-unfoldable pub tagAt : List ℕ → ℕ → ℕ
-tagAt s p = getD s p 0
+-- ---- where the fields stand, and what they hold
 
--- the length that it states
-unfoldable pub lengthAt : List ℕ → ℕ → ℕ
-lengthAt s p = numberOf 256 (take 2 (drop (p + 1) s))
+-- the rate's field stands at the front
+abbrev pub rateAt : ℕ
+rateAt = 0
 
--- its body
-unfoldable pub bodyAt : List ℕ → ℕ → List ℕ
-bodyAt s p = take (lengthAt s p) (drop (p + headSize) s)
+-- the count's past it
+abbrev pub countAt : List ℕ → ℕ
+countAt s = nextAt s rateAt
 
--- the offset past it
-unfoldable pub nextAt : List ℕ → ℕ → ℕ
-nextAt s p = p + headSize + lengthAt s p
+-- the positions' past that
+abbrev pub positionsAt : List ℕ → ℕ
+positionsAt s = nextAt s (countAt s)
 
--- the first field stands at 0, the second past it
-abbrev pub second : List ℕ → ℕ
-second s = nextAt s 0
-
--- the offset of the third
-abbrev pub third : List ℕ → ℕ
-third s = nextAt s (second s)
-
--- the offset of the fourth
-abbrev pub fourth : List ℕ → ℕ
-fourth s = nextAt s (third s)
+-- and then the ratios'
+abbrev pub ratiosAt : List ℕ → ℕ
+ratiosAt s = nextAt s (positionsAt s)
 
 -- the offset past the record
-abbrev pub end : List ℕ → ℕ
-end s = nextAt s (fourth s)
+abbrev pub endAt : List ℕ → ℕ
+endAt s = nextAt s (ratiosAt s)
 
--- the rate in the first field
+-- the rate
 abbrev pub rateIn : List ℕ → ℕ
-rateIn s = numberOf 256 (bodyAt s 0)
+rateIn s = numberOf 256 (bodyAt s rateAt)
 
--- the count in the second
+-- the count
 abbrev pub countIn : List ℕ → ℕ
-countIn s = numberOf 256 (bodyAt s (second s))
+countIn s = numberOf 256 (bodyAt s (countAt s))
 
--- the positions that field 3 is the coding of, or nothing
+-- the positions, or nothing
 abbrev pub positionsIn : List ℕ → Option (List ℕ)
-positionsIn s = readPositions rows (countIn s) (bodyAt s (third s))
+positionsIn s = readPositions rows (countIn s) (bodyAt s (positionsAt s))
 
--- the ratios that the reading k of field 4 gives, or nothing
+-- the ratios by the reading k, or nothing
 abbrev pub ratiosIn : (ℕ → List ℕ → Option (List ℕ)) → List ℕ → Option (List ℕ)
-ratiosIn k s = k (countIn s) (bodyAt s (fourth s))
+ratiosIn k s = k (countIn s) (bodyAt s (ratiosAt s))
 
 -- whether there is no list
 abbrev pub missing : Option (List ℕ) → Bool
@@ -88,57 +80,51 @@ abbrev pub listOf : Option (List ℕ) → List ℕ
 listOf none = []
 listOf (some l) = l
 
--- a field's whole head, then its tag
-abbrev pub headTests : List ℕ → ℕ → ℕ → List Test
-headTests s tag p = test (ltb (length s) (p + headSize)) 10 p ∷ test (not (eqb (tagAt s p) tag)) 11 p ∷ []
+-- ---- the tests, field by field
 
--- the stated length of fields 1 and 2
-abbrev pub lengthTest : List ℕ → ℕ → ℕ → Test
-lengthTest s n p = test (not (eqb (lengthAt s p) n)) 12 p
+-- whether a rate was expected, which is not 0, and differs
+abbrev pub otherRate : ℕ → ℕ → Bool
+otherRate e r = both (not (eqb e 0)) (not (eqb e r))
 
--- a field's whole body
-abbrev pub bodyTest : List ℕ → ℕ → Test
-bodyTest s p = test (ltb (length s) (nextAt s p)) 10 p
+-- the rate's field, and then its contents by number: 13, 14
+abbrev pub rateTests : ℕ → List ℕ → List Test
+rateTests e s =
+    fieldTests s (rateTag ∷ []) (some rateSize) rateAt
+    ++ (test (not (isRate (rateIn s))) 13 rateAt ∷ test (otherRate e (rateIn s)) 14 rateAt ∷ [])
 
--- a field whose length is free: whole head, tag, whole body
-abbrev pub wholeTests : List ℕ → ℕ → ℕ → List Test
-wholeTests s tag p = headTests s tag p ++ (bodyTest s p ∷ [])
+-- the count's: 15
+abbrev pub countTests : List ℕ → List Test
+countTests s = fieldTests s (countTag ∷ []) (some countSize) (countAt s) ++ (test (ltb maxPoints (countIn s)) 15 (countAt s) ∷ [])
 
--- a field of n bytes: whole head, tag, length, whole body
-abbrev pub fixedTests : List ℕ → ℕ → ℕ → ℕ → List Test
-fixedTests s tag n p = headTests s tag p ++ (lengthTest s n p ∷ bodyTest s p ∷ [])
+-- rate and count
+abbrev pub frontTests : ℕ → List ℕ → List Test
+frontTests e s = rateTests e s ++ countTests s
 
--- the first field, and then its contents by number: 13, 14
-abbrev pub firstTests : ℕ → List ℕ → List Test
-firstTests e s =
-    fixedTests s 1 4 0
-    ++ (test (not (isRate (rateIn s))) 13 0
-    ∷ test (both (not (eqb e 0)) (not (eqb e (rateIn s)))) 14 0
-    ∷ [])
+-- whether an output has room for fewer than c numbers, where one has room for m and the other for n
+abbrev pub lacksRoom : ℕ → ℕ → ℕ → Bool
+lacksRoom m n c = cond (ltb m c) true (ltb n c)
 
--- the second: 15, 16
-abbrev pub secondTests : List ℕ → ℕ → ℕ → List Test
-secondTests s m n =
-    fixedTests s 2 2 (second s)
-    ++ (test (ltb maxPoints (countIn s)) 15 (second s)
-    ∷ test (cond (ltb m (countIn s)) true (ltb n (countIn s))) 16 (second s)
-    ∷ [])
+-- the room that is lent: 16, at the count's field
+abbrev pub roomTests : List ℕ → ℕ → ℕ → List Test
+roomTests s m n = test (lacksRoom m n (countIn s)) 16 (countAt s) ∷ []
 
--- the third: 17
-abbrev pub thirdTests : List ℕ → List Test
-thirdTests s = wholeTests s 3 (third s) ++ (test (missing (positionsIn s)) 17 (third s) ∷ [])
+-- a field of coded numbers at p, whose body the reading k takes: the number x where it takes nothing
+abbrev pub codedTests : List ℕ → List ℕ → (List ℕ → Option (List ℕ)) → ℕ → ℕ → List Test
+codedTests s tags k x p = fieldTests s tags none p ++ (test (missing (k (bodyAt s p))) x p ∷ [])
 
--- the fourth: 18
-abbrev pub fourthTests : (ℕ → List ℕ → Option (List ℕ)) → List ℕ → List Test
-fourthTests k s = wholeTests s 4 (fourth s) ++ (test (missing (ratiosIn k s)) 18 (fourth s) ∷ [])
+-- the positions' field: 17
+abbrev pub positionsTests : List ℕ → List Test
+positionsTests s = codedTests s (positionsTag ∷ []) (readPositions rows (countIn s)) 17 (positionsAt s)
 
--- the first two fields
-abbrev pub frontTests : ℕ → List ℕ → ℕ → ℕ → List Test
-frontTests e s m n = firstTests e s ++ secondTests s m n
+-- the ratios': 18
+abbrev pub ratiosTests : (ℕ → List ℕ → Option (List ℕ)) → List ℕ → List Test
+ratiosTests k s = codedTests s (ratiosTag ∷ []) (k (countIn s)) 18 (ratiosAt s)
 
 -- the tests of reading: the fields in order
 abbrev pub readTests : (ℕ → List ℕ → Option (List ℕ)) → ℕ → List ℕ → ℕ → ℕ → List Test
-readTests k e s m n = frontTests e s m n ++ (thirdTests s ++ fourthTests k s)
+readTests k e s m n = frontTests e s ++ (roomTests s m n ++ (positionsTests s ++ ratiosTests k s))
+
+-- ---- the answer
 
 -- the whole answer of a reading: what it returns, and the two outputs afterwards
 pub record Answer : Type 0 where
@@ -157,7 +143,7 @@ refusalAnswer f ts vs = record {
 -- of a record: its numbers, and its points at the front of the outputs
 abbrev pub recordAnswer : (ℕ → List ℕ → Option (List ℕ)) → List ℕ → List ℕ → List ℕ → Answer
 recordAnswer k s ts vs = record {
-  answer = record { number = 0; place = 0; rate = rateIn s; count = countIn s; used = end s };
+  answer = record { number = 0; place = 0; rate = rateIn s; count = countIn s; used = endAt s };
   positions = over (listOf (positionsIn s)) ts;
   ratios = over (listOf (ratiosIn k s)) vs;
 }
@@ -172,10 +158,10 @@ answerBy tests a ts vs =
 unfoldable pub readWith : (ℕ → List ℕ → Option (List ℕ)) → ℕ → List ℕ → List ℕ → List ℕ → Answer
 readWith k e s ts vs = answerBy (readTests k e s (length ts) (length vs)) (recordAnswer k s ts vs) ts vs
 
--- strict reading: field 4 must be the coding of its ratios
+-- strict reading: the ratios' field must be the coding of its ratios
 abbrev pub readStrict : ℕ → List ℕ → List ℕ → List ℕ → Answer
 readStrict e s ts vs = readWith strictRatios e s ts vs
 
--- open reading: field 4 is read by the open rule
+-- open reading: the ratios' field is read by the open rule
 abbrev pub readOpen : ℕ → List ℕ → List ℕ → List ℕ → Answer
 readOpen e s ts vs = readWith openRatios e s ts vs

@@ -1,16 +1,18 @@
 -- Document 01, "What a run record holds" and "The record".
 --   Run, run       a rate, positions and ratios. The standard term is a time series; its points are its samples, a sample position and the
 --                  ratio there, the 64 bits of an IEEE 754 double
---   headSize       how many bytes stand before a field's body
---   field t b      a field: the tag t, the length of the body b in two bytes, and b. The standard term is tag, length, value
---   recordOf r     the record of the run r: the four fields, each once, in this order
-use mathlib.Core.List.{List, _∷_, _++_}
+--   rateTag .. ratiosTag   the tags of the fields, by what they hold
+--   rateSize, countSize    how many bytes the rate and the count take
+--   fieldsOf r     the fields of the record of the run r: rate, count, coded positions, coded ratios, each once, in this order
+--   recordOf r     the record of the run r: its fields laid end to end
+use mathlib.Core.List.{List, [], _∷_}
 use Prim.Native.Nat.{ℕ}
 use lib.ListN.{length}
 use Rattle.bits.specs.Digits.{bytesOf}
 use Rattle.position_format.specs.Rows.{rows}
 use Rattle.position_format.specs.Positions.{codedPositions}
 use Rattle.ratio_format.specs.Bodies.{codedRatios}
+use Rattle.record_format.specs.Fields.{Field, fieldOf, laid}
 
 -- what is written and read
 pub record Run : Type 0 where
@@ -22,18 +24,39 @@ pub record Run : Type 0 where
 abbrev pub run : ℕ → List ℕ → List ℕ → Run
 run rate positions ratios = record { rate = rate; positions = positions; ratios = ratios }
 
--- how many bytes stand before a field's body
-abbrev pub headSize : ℕ
-headSize = 3
+-- the tag of the rate's field
+abbrev pub rateTag : ℕ
+rateTag = 1
 
--- a tag byte, a two-byte length, then the body
-unfoldable pub field : ℕ → List ℕ → List ℕ
-field tag body = tag ∷ (bytesOf 2 (length body) ++ body)
+-- of the count's
+abbrev pub countTag : ℕ
+countTag = 2
+
+-- of the positions'
+abbrev pub positionsTag : ℕ
+positionsTag = 3
+
+-- of the ratios'
+abbrev pub ratiosTag : ℕ
+ratiosTag = 4
+
+-- the bytes of a rate
+abbrev pub rateSize : ℕ
+rateSize = 4
+
+-- and of a count
+abbrev pub countSize : ℕ
+countSize = 2
 
 -- rate, count, coded positions, coded ratios
+abbrev pub fieldsOf : Run → List Field
+fieldsOf r =
+    fieldOf rateTag (bytesOf rateSize (r .rate))
+    ∷ fieldOf countTag (bytesOf countSize (length (r .positions)))
+    ∷ fieldOf positionsTag (codedPositions rows (r .positions))
+    ∷ fieldOf ratiosTag (codedRatios (r .ratios))
+    ∷ []
+
+-- the fields, end to end
 unfoldable pub recordOf : Run → List ℕ
-recordOf r =
-    field 1 (bytesOf 4 (r .rate))
-    ++ (field 2 (bytesOf 2 (length (r .positions)))
-    ++ (field 3 (codedPositions rows (r .positions))
-    ++ field 4 (codedRatios (r .ratios))))
+recordOf r = laid (fieldsOf r)

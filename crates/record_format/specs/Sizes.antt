@@ -1,14 +1,16 @@
 -- Document 01, "Numbers that bound it": the sizes of a record and of its bodies, as statements. Each is proved in proofs/Sizes.
---   Within          an accepted run's record has 18 to 55,321 bytes, its third body at most 18,439 and its fourth at most 36,864
---   NoPoints        the record of no points has 18 bytes
+--   Within          an accepted run's record has 18 to 55,321 bytes, its positions' body at most 18,439 and its ratios' at most 36,864
+--   NoPoints        the record of no points has 18 bytes, and at each rate of the list that run is accepted
 --   firstValues f n the values f 0, f 1, .., n of them
 --   longest         a run whose record has 55,321 bytes
 --   Reached         it is accepted, and its record has that length
+use mathlib.Core.Bool.{true}
 use mathlib.Core.List.{List, [], _∷_}
 use mathlib.Core.Path.{_≡_}
 use Prim.Native.Nat.{ℕ, zero, suc, _+_, _*_, _%_, _^_, _≤_}
 use lib.ListN.{length}
 use Rattle.limits.specs.Points.{maxPoints}
+use Rattle.limits.specs.Rates.{isRate}
 use Rattle.position_format.specs.Rows.{rows}
 use Rattle.position_format.specs.Positions.{codedPositions}
 use Rattle.ratio_format.specs.Bodies.{codedRatios}
@@ -23,9 +25,9 @@ Within = (r : Run) → Accepted r
     × (length (codedPositions rows (r .positions)) ≤ 18439)
     × (length (codedRatios (r .ratios)) ≤ 36864)
 
--- no points, at any rate: the lower bound
+-- no points: the lower bound is reached
 abbrev pub NoPoints : Type 0
-NoPoints = (rate : ℕ) → length (recordOf (run rate [] [])) ≡ 18
+NoPoints = (rate : ℕ) → (length (recordOf (run rate [] [])) ≡ 18) × (isRate rate ≡ true → Accepted (run rate [] []))
 
 -- n values of f, from f 0 on
 unfoldable pub firstValues : {A : Type 0} → (ℕ → A) → ℕ → List A

@@ -1,4 +1,4 @@
-// The record of a run: the types that its calls answer, definitions and laws.
+// The record of a run: the types that its calls answer, the numbers of its layout, definitions and laws.
 
 // The answer of writing: number and place of the refusal, or 0 and 0 with the record's length.
 #[repr(C)]
@@ -17,3 +17,20 @@ pub struct ReadAnswer {
     pub count: u32,
     pub used: u64,
 }
+
+// The tags of the fields, by what they hold.
+pub const RATE_TAG: u8 = 1;
+
+pub const COUNT_TAG: u8 = 2;
+
+pub const POSITIONS_TAG: u8 = 3;
+
+pub const RATIOS_TAG: u8 = 4;
+
+// The bytes before a field's body: its tag, and its length in two bytes.
+pub const HEAD_SIZE: usize = 3;
+
+// The bytes of a rate and of a count.
+pub const RATE_SIZE: usize = 4;
+
+pub const COUNT_SIZE: usize = 2;

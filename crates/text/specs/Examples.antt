@@ -17,6 +17,20 @@ pub record Example : Type 0 where
 abbrev example : List ℕ → List ℕ → Example
 example l p = record { text = l; printed = p }
 
+-- the output in full, of the run that document 01 lists
+abbrev pub listedText : List ℕ
+listedText =
+    114 ∷ 97 ∷ 116 ∷ 101 ∷ 32 ∷ 57 ∷ 54 ∷ 48 ∷ 48 ∷ 48 ∷ 10
+    ∷ 99 ∷ 111 ∷ 117 ∷ 110 ∷ 116 ∷ 32 ∷ 51 ∷ 10
+    ∷ 115 ∷ 112 ∷ 97 ∷ 110 ∷ 32 ∷ 50 ∷ 48 ∷ 10
+    ∷ 48 ∷ 32 ∷ 51 ∷ 102 ∷ 101 ∷ 48 ∷ 48 ∷ 48 ∷ 48 ∷ 48 ∷ 48 ∷ 48 ∷ 48 ∷ 48 ∷ 48 ∷ 48 ∷ 48 ∷ 48 ∷ 10
+    ∷ 57 ∷ 54 ∷ 48 ∷ 32 ∷ 51 ∷ 102 ∷ 101 ∷ 48 ∷ 48 ∷ 48 ∷ 48 ∷ 48 ∷ 48 ∷ 48 ∷ 48 ∷ 48 ∷ 48 ∷ 48 ∷ 48 ∷ 48 ∷ 10
+    ∷ 49 ∷ 57 ∷ 50 ∷ 48 ∷ 32 ∷ 51 ∷ 102 ∷ 101 ∷ 48 ∷ 48 ∷ 48 ∷ 48 ∷ 48 ∷ 48 ∷ 48 ∷ 48 ∷ 48 ∷ 48 ∷ 48 ∷ 48 ∷ 48 ∷ 10 ∷ []
+
+-- `refused 10 at 0`
+abbrev pub refusedText : List ℕ
+refusedText = 114 ∷ 101 ∷ 102 ∷ 117 ∷ 115 ∷ 101 ∷ 100 ∷ 32 ∷ 49 ∷ 48 ∷ 32 ∷ 97 ∷ 116 ∷ 32 ∷ 48 ∷ 10 ∷ []
+
 -- `rate 96000`, `count 3`, `span 20`, `960 3fe0000000000000`, `refused 10 at 0`; a negative span, `span -43`; and the output in full
 pub examples : List Example
 examples =
@@ -26,15 +40,9 @@ examples =
     ∷ example
     (pointLine 960 0x3FE0000000000000)
     (57 ∷ 54 ∷ 48 ∷ 32 ∷ 51 ∷ 102 ∷ 101 ∷ 48 ∷ 48 ∷ 48 ∷ 48 ∷ 48 ∷ 48 ∷ 48 ∷ 48 ∷ 48 ∷ 48 ∷ 48 ∷ 48 ∷ 48 ∷ 10 ∷ [])
-    ∷ example (refusedLine 10 0) (114 ∷ 101 ∷ 102 ∷ 117 ∷ 115 ∷ 101 ∷ 100 ∷ 32 ∷ 49 ∷ 48 ∷ 32 ∷ 97 ∷ 116 ∷ 32 ∷ 48 ∷ 10 ∷ [])
+    ∷ example (refusedLine 10 0) refusedText
     ∷ example (spanLine (negsuc 42)) (115 ∷ 112 ∷ 97 ∷ 110 ∷ 32 ∷ 45 ∷ 52 ∷ 51 ∷ 10 ∷ [])
-    ∷ example (listing 96000 (pos 20) (0 ∷ 960 ∷ 1920 ∷ []) (replicate 3 0x3FE0000000000000))
-    (114 ∷ 97 ∷ 116 ∷ 101 ∷ 32 ∷ 57 ∷ 54 ∷ 48 ∷ 48 ∷ 48 ∷ 10
-    ∷ 99 ∷ 111 ∷ 117 ∷ 110 ∷ 116 ∷ 32 ∷ 51 ∷ 10
-    ∷ 115 ∷ 112 ∷ 97 ∷ 110 ∷ 32 ∷ 50 ∷ 48 ∷ 10
-    ∷ 48 ∷ 32 ∷ 51 ∷ 102 ∷ 101 ∷ 48 ∷ 48 ∷ 48 ∷ 48 ∷ 48 ∷ 48 ∷ 48 ∷ 48 ∷ 48 ∷ 48 ∷ 48 ∷ 48 ∷ 48 ∷ 10
-    ∷ 57 ∷ 54 ∷ 48 ∷ 32 ∷ 51 ∷ 102 ∷ 101 ∷ 48 ∷ 48 ∷ 48 ∷ 48 ∷ 48 ∷ 48 ∷ 48 ∷ 48 ∷ 48 ∷ 48 ∷ 48 ∷ 48 ∷ 48 ∷ 10
-    ∷ 49 ∷ 57 ∷ 50 ∷ 48 ∷ 32 ∷ 51 ∷ 102 ∷ 101 ∷ 48 ∷ 48 ∷ 48 ∷ 48 ∷ 48 ∷ 48 ∷ 48 ∷ 48 ∷ 48 ∷ 48 ∷ 48 ∷ 48 ∷ 48 ∷ 10 ∷ [])
+    ∷ example (listing 96000 (pos 20) (0 ∷ 960 ∷ 1920 ∷ []) (replicate 3 0x3FE0000000000000)) listedText
     ∷ []
 
 -- each text, computed from the definitions, is the one that is printed

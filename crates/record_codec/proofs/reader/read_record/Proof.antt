@@ -1,19 +1,72 @@
-use mathlib.Core.Path.{sym, ap, _∙_, subst}
+-- `read_record` meets its contract: a law of readings answers each return.
+use mathlib.Core.Bool.{Bool, false}
+use mathlib.Core.List.{List}
+use mathlib.Core.Path.{_≡_, refl, sym, _∙_}
 use Prim.Native.Nat.{ℕ, _≤_}
+use native.Mathlib.Omega.{arith}
 use borrow.Author.Needs.{needs}
 use lib.ListN.{length}
-use Rattle.refusals.specs.declared.Refusal.{Refusal}
-use Rattle.limits.specs.Points.{maxPoints}
-use Rattle.record_codec.specs.Fields.{ratiosBy}
-use Rattle.record_codec.proofs.Reading.{answered-as, front-refused, second-refused, past-second}
+use Rattle.record_format.specs.Reading.{lacksRoom}
+use Rattle.record_codec.proofs.Fronts.{place-near}
+use Rattle.record_codec.proofs.Readings.{answered-as, read-front, read-lacks, room-positions, room-ratios, read-positions, positions-inside, positions-near, read-ratios, read-found}
 use Rattle.record_codec.proofs.reader.read_record.Statement.{statement}
 use Rattle.record_codec.proofs.reader.read_record.Tie as tie
 
-abbrev number : Refusal → ℕ
-number f = f .number
+-- ---- places: the front, the room, the positions and the ratios, as later places see them
 
-first-field-requires : tie.Need-first-field-requires
-first-field-requires c κs = search needs
+abbrev entry : tie.After-read-front → tie.Start
+entry k = k .before .before .before .before
+
+abbrev front : tie.Else1 → tie.After-read-front
+front k = k .before .before
+
+abbrev room : tie.After-read-coded → tie.Else2
+room k = k .before .before
+
+abbrev positions : tie.After-refused2 → tie.After-read-coded
+positions k = k .before .before .before
+
+abbrev later : tie.After-read-coded2 → tie.Else3
+later k = k .before .before
+
+abbrev ratios : tie.After-refused3 → tie.After-read-coded2
+ratios k = k .before .before .before
+
+-- the call that clears the outputs, as each return of a refusal sees it
+abbrev cleared : tie.After-slice-known4 → tie.After-refuse-read
+cleared k = k .before .before .before .before
+
+abbrev cleared2 : tie.After-slice-known6 → tie.After-refuse-read2
+cleared2 k = k .before .before .before .before
+
+abbrev cleared3 : tie.After-slice-known9 → tie.After-refuse-read3
+cleared3 k = k .before .before .before .before
+
+abbrev cleared4 : tie.After-slice-known12 → tie.After-refuse-read4
+cleared4 k = k .before .before .before .before
+
+-- ---- what holds past the test of room
+
+module _ (k : tie.Else2) where
+  abbrev lacked : tie.After-lacks
+  lacked = k .before
+
+  abbrev fronted : tie.After-read-front
+  fronted = front (lacked .before)
+
+  abbrev start : tie.Start
+  start = entry fronted
+
+  good-front : fronted .read-front .result .refusal .number ≡ 0
+  good-front = lacked .before .if1 .left
+
+  enough : lacksRoom (length (start .args .positions .now)) (length (start .args .ratios .now)) (fronted .read-front .result .count) ≡ false
+  enough = sym (lacked .lacks .ensures) ∙ k .if2 .left
+
+-- ---- the needs
+
+read-front-requires : tie.Need-read-front-requires
+read-front-requires c κs = search needs
 
 refuse-read-requires : tie.Need-refuse-read-requires
 refuse-read-requires c κs = search needs
@@ -26,13 +79,21 @@ same-length-2 c = search needs
 
 returns : tie.Need-returns
 returns c =
-    answered-as (front-refused (ratiosBy (c .before .before .before .before .before .before .before .before .before .before .before .before .before .args .openly)) (c .before .before .before .before .before .before .before .before .before .before .before .before .before .args .expected) (c .before .before .before .before .before .before .before .before .before .before .before .before .before .args .input .now) (c .before .before .before .before .before .before .before .before .before .before .before .before .before .args .positions .now) (c .before .before .before .before .before .before .before .before .before .before .before .before .before .args .ratios .now) _ (c .before .before .before .before .before .before .before .before .before .first-field .ensures .refuses) (c .before .before .before .before .before .before .before .if1 .taken)) (c .before .before .before .before .refuse-read .ensures)
+    let i = cleared c .before .before .before in
+    let k = i .before .before in
+    let a = entry k .args in
+    answered-as
+    (read-front (a .openly) (a .expected) (a .input .now) (a .positions .now) (a .ratios .now) (k .read-front .result) (k .read-front .ensures) (i .if1 .taken))
+    (cleared c .refuse-read .ensures)
 
-second-field-requires : tie.Need-second-field-requires
-second-field-requires c κs =
-    let f = c .before .before .first-field .ensures in
-    let z = c .if1 .left in
-    (f .inside z, f .next z)
+lacks-requires : tie.Need-lacks-requires
+lacks-requires c κs = search needs
+
+cast-t24 : tie.Need-cast-t24
+cast-t24 c =
+    let l = c .before .before in
+    let near = place-near (front (l .before) .read-front .ensures) (l .before .if1 .left) in
+    omega arith
 
 refuse-read-requires-2 : tie.Need-refuse-read-requires-2
 refuse-read-requires-2 c κs = search needs
@@ -45,24 +106,30 @@ same-length-4 c = search needs
 
 returns-2 : tie.Need-returns-2
 returns-2 c =
-    answered-as (second-refused (ratiosBy (c .before .before .before .before .before .before .before .before .before .before .before .before .before .before .before .before .args .openly)) (c .before .before .before .before .before .before .before .before .before .before .before .before .before .before .before .before .args .expected) (c .before .before .before .before .before .before .before .before .before .before .before .before .before .before .before .before .args .input .now) (c .before .before .before .before .before .before .before .before .before .before .before .before .before .before .before .before .args .positions .now) (c .before .before .before .before .before .before .before .before .before .before .before .before .before .before .before .before .args .ratios .now) (sym (ap number (c .before .before .before .before .before .before .before .before .before .before .before .before .first-field .ensures .refuses)) ∙ c .before .before .before .before .before .before .before .before .before .before .if1 .left) _ (c .before .before .before .before .before .before .before .before .before .second-field .ensures .refuses) (c .before .before .before .before .before .before .before .if2 .taken))
-    (c .before .before .before .before .refuse-read2 .ensures)
+    let i = cleared2 c .before .before .before .before in
+    let l = i .before in
+    let k = front (l .before) in
+    let a = entry k .args in
+    answered-as
+    (read-lacks (a .openly) (a .expected) (a .input .now) (a .positions .now) (a .ratios .now) (k .read-front .result) (k .read-front .ensures) (l .before .if1 .left)
+    (sym (l .lacks .ensures) ∙ i .if2 .taken))
+    (cleared2 c .refuse-read2 .ensures)
 
-read-third-requires : tie.Need-read-third-requires
-read-third-requires c κs =
-    let f = c .before .before .before .before .before .before .before .first-field .ensures in
-    let y = c .before .before .before .before .before .if1 .left in
-    let g = c .before .before .before .before .second-field .ensures in
-    let z = c .before .before .if2 .left in (
-      record { place = g .next z; inside = g .inside z },
-      record {
-        rate-is = f .rate y;
-        count-is = g .count z;
-        few = subst (λ (n : ℕ). n ≤ maxPoints) (sym (g .count z)) (g .few z);
-        points = subst (λ (n : ℕ). n ≤ length (c .before .before .before .before .before .before .before .before .before .before .before .args .positions .now)) (sym (g .count z)) (g .points z);
-        values = subst (λ (n : ℕ). n ≤ length (c .before .before .before .before .before .before .before .before .before .before .before .args .ratios .now)) (sym (g .count z)) (g .values z);
-      },
-    )
+read-coded-requires : tie.Need-read-coded-requires
+read-coded-requires c κs =
+    let k = c .before in
+    let g = good-front k in
+    let h = fronted k .read-front .ensures in
+    let next = h .next g in
+    let inside = h .inside g in
+    let near = h .near g in
+    let count = h .count g in
+    let few = h .few g in
+    let a = start k .args in
+    (omega arith, omega arith, room-positions (a .openly) (a .expected) (a .input .now) (a .positions .now) (a .ratios .now) _ h g (enough k), omega arith)
+
+refuse-read-requires-3 : tie.Need-refuse-read-requires-3
+refuse-read-requires-3 c κs = search needs
 
 same-length-5 : tie.Need-same-length-5
 same-length-5 c = search needs
@@ -72,25 +139,105 @@ same-length-6 c = search needs
 
 returns-3 : tie.Need-returns-3
 returns-3 c =
+    let i = cleared3 c .before .before .before in
+    let p = positions (i .before) in
+    let r = room p in
+    let f = fronted r in
+    let a = start r .args in
     answered-as
-    (past-second (ratiosBy (c .before .before .before .before .before .before .before .before .before .before .before .before .before .before .before .before .args .openly)) (c .before .before .before .before .before .before .before .before .before .before .before .before .before .before .before .before .args .expected) (c .before .before .before .before .before .before .before .before .before .before .before .before .before .before .before .before .args .input .now) (c .before .before .before .before .before .before .before .before .before .before .before .before .before .before .before .before .args .positions .now) (c .before .before .before .before .before .before .before .before .before .before .before .before .before .before .before .before .args .ratios .now) (sym (ap number (c .before .before .before .before .before .before .before .before .before .before .before .before .first-field .ensures .refuses)) ∙ c .before .before .before .before .before .before .before .before .before .before .if1 .left) (sym (ap number (c .before .before .before .before .before .before .before .before .before .second-field .ensures .refuses)) ∙ c .before .before .before .before .before .before .before .if2 .left))
-    (c .before .before .before .before .read-third .ensures)
+    (read-positions (a .openly) (a .expected) (a .input .now) (a .positions .now) (a .ratios .now) (f .read-front .result) (f .read-front .ensures) (good-front r) (enough r) (p .read-coded .result) _ (p .read-coded .ensures) (i .if3 .taken) (p .read-coded .kept .1 .1 .1 .1 .1 .0))
+    (cleared3 c .refuse-read3 .ensures)
+
+read-coded-requires-2 : tie.Need-read-coded-requires-2
+read-coded-requires-2 c κs =
+    let i = c .before in
+    let p = positions (i .before) in
+    let r = room p in
+    let f = fronted r in
+    let a = start r .args in
+    let g = good-front r in
+    let next = f .read-front .ensures .next g in
+    let near = f .read-front .ensures .near g in
+    let count = f .read-front .ensures .count g in
+    let few = f .read-front .ensures .few g in
+    let inside = positions-inside (a .openly) (a .expected) (a .input .now) (a .positions .now) (a .ratios .now) (f .read-front .result) (f .read-front .ensures) (good-front r) (enough r) (p .read-coded .result) _ (p .read-coded .ensures) (i .if3 .left) in
+    let close = positions-near (a .openly) (a .expected) (a .input .now) (a .positions .now) (a .ratios .now) (f .read-front .result) (f .read-front .ensures) (good-front r) (enough r) (p .read-coded .result) _ (p .read-coded .ensures) (i .if3 .left) in
+    (omega arith, omega arith, room-ratios (a .openly) (a .expected) (a .input .now) (a .positions .now) (a .ratios .now) _ (f .read-front .ensures) g (enough r), omega arith)
+
+refuse-read-requires-4 : tie.Need-refuse-read-requires-4
+refuse-read-requires-4 c κs = search needs
+
+same-length-7 : tie.Need-same-length-7
+same-length-7 c = search needs
+
+same-length-8 : tie.Need-same-length-8
+same-length-8 c = search needs
+
+returns-4 : tie.Need-returns-4
+returns-4 c =
+    let j = cleared4 c .before .before .before in
+    let q = ratios (j .before) in
+    let i = later q in
+    let p = positions (i .before) in
+    let r = room p in
+    let f = fronted r in
+    let a = start r .args in
+    answered-as
+    (read-ratios (a .openly) (a .expected) (a .input .now) (a .positions .now) (a .ratios .now) (f .read-front .result) (f .read-front .ensures) (good-front r) (enough r) (p .read-coded .result) _ (p .read-coded .ensures) (i .if3 .left)
+    (q .read-coded2 .result) _ (q .read-coded2 .ensures) (j .if4 .taken) (p .read-coded .kept .1 .1 .1 .1 .1 .0) (q .read-coded2 .kept .1 .1 .1 .1 .1 .0))
+    (cleared4 c .refuse-read4 .ensures)
+
+cast-t43 : tie.Need-cast-t43
+cast-t43 c =
+    let q = ratios (c .before) in
+    let r = room (positions (later q .before)) in
+    let count = fronted r .read-front .ensures .count (good-front r) in
+    let few = fronted r .read-front .ensures .few (good-front r) in
+    omega arith
+
+same-length-9 : tie.Need-same-length-9
+same-length-9 c = search needs
+
+same-length-10 : tie.Need-same-length-10
+same-length-10 c = search needs
+
+returns-5 : tie.Need-returns-5
+returns-5 c =
+    let q = ratios (c .before) in
+    let i = later q in
+    let p = positions (i .before) in
+    let r = room p in
+    let f = fronted r in
+    let a = start r .args in
+    read-found (a .openly) (a .expected) (a .input .now) (a .positions .now) (a .ratios .now) (f .read-front .result) (f .read-front .ensures) (good-front r) (enough r) (p .read-coded .result) _ (p .read-coded .ensures) (i .if3 .left)
+    (q .read-coded2 .result) _ (q .read-coded2 .ensures) (c .if4 .left)
 
 pub read-record-spec : {M : Type 1} → statement M
 read-record-spec =
     tie.close
     (tie.spec
-    first-field-requires
+    read-front-requires
     refuse-read-requires
     same-length
     same-length-2
     returns
-    second-field-requires
+    lacks-requires
+    cast-t24
     refuse-read-requires-2
     same-length-3
     same-length-4
     returns-2
-    read-third-requires
+    read-coded-requires
+    refuse-read-requires-3
     same-length-5
     same-length-6
-    returns-3)
+    returns-3
+    read-coded-requires-2
+    refuse-read-requires-4
+    same-length-7
+    same-length-8
+    returns-4
+    cast-t43
+    same-length-9
+    same-length-10
+    returns-5)

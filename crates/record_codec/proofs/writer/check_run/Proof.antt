@@ -1,24 +1,57 @@
-use mathlib.Core.Path.{sym, _∙_, subst}
+-- `check_run` meets its contract: a law of writing answers the test at which it stops.
+use mathlib.Core.Bool.{true}
+use mathlib.Core.Path.{_≡_, sym, _∙_, subst}
 use Prim.Native.Nat.{ℕ, _≤_, _<_}
 use borrow.Author.Needs.{needs}
 use borrow.Author.Tests.{not-true, not-false}
 use lib.ListN.{length}
-use Rattle.record_format.specs.Runs.{run}
+use Rattle.limits.specs.Points.{firstHigh}
+use Rattle.limits.specs.Rates.{isRate}
+use Rattle.record_format.specs.Runs.{Run, run}
 use Rattle.record_format.proofs.Writing.{unlisted, unpaired, many, high, far, accepted}
 use Rattle.record_codec.proofs.writer.check_run.Statement.{statement}
 use Rattle.record_codec.proofs.writer.check_run.Tie as tie
+
+-- ---- places: the entry, and each test that was passed
+
+abbrev entry : tie.After-is-rate → tie.Start
+entry k = k .before .before .before
+
+abbrev rated : tie.Else2 → tie.After-is-rate
+rated k = k .before .before
+
+abbrev counted : tie.After-first-high → tie.Else3
+counted k = k .before
+
+abbrev low : tie.After-first-outside → tie.Else4
+low k = k .before
+
+-- ---- the run, and what the passed tests say of it
+
+abbrev given-run : tie.After-is-rate → Run
+given-run k = run (entry k .args .rate) (entry k .args .positions .now) (entry k .args .ratios .now)
+
+listed : (k : tie.Else1) → isRate (entry (k .before) .args .rate) ≡ true
+listed k = sym (k .before .is-rate .ensures) ∙ not-false _ (k .if1 .left)
+
+none-high : (k : tie.Else4) → length (entry (rated (counted (k .before) .before)) .args .positions .now) ≤ firstHigh (entry (rated (counted (k .before) .before)) .args .positions .now)
+none-high k = subst (λ (n : ℕ). length (entry (rated (counted (k .before) .before)) .args .positions .now) ≤ n) (k .before .first-high .ensures) (k .if4 .left)
+
+-- ---- the needs
 
 is-rate-requires : tie.Need-is-rate-requires
 is-rate-requires c κs = search needs
 
 returns : tie.Need-returns
-returns c = unlisted (run (c .before .before .before .before .args .rate) (c .before .before .before .before .args .positions .now) (c .before .before .before .before .args .ratios .now)) (sym (c .before .is-rate .ensures) ∙ not-true _ (c .if1 .taken))
+returns c = unlisted (given-run (c .before)) (sym (c .before .is-rate .ensures) ∙ not-true _ (c .if1 .taken))
 
 returns-2 : tie.Need-returns-2
-returns-2 c = unpaired (run (c .before .before .before .before .before .args .rate) (c .before .before .before .before .before .args .positions .now) (c .before .before .before .before .before .args .ratios .now)) (sym (c .before .before .is-rate .ensures) ∙ not-false _ (c .before .if1 .left)) (c .if2 .taken)
+returns-2 c = unpaired (given-run (c .before .before)) (listed (c .before)) (c .if2 .taken)
 
 returns-3 : tie.Need-returns-3
-returns-3 c = many (run (c .before .before .before .before .before .before .args .rate) (c .before .before .before .before .before .before .args .positions .now) (c .before .before .before .before .before .before .args .ratios .now)) (sym (c .before .before .before .is-rate .ensures) ∙ not-false _ (c .before .before .if1 .left)) (c .before .if2 .left) (c .if3 .taken)
+returns-3 c =
+    let p = c .before in
+    many (given-run (rated p)) (listed (p .before)) (p .if2 .left) (c .if3 .taken)
 
 first-high-requires : tie.Need-first-high-requires
 first-high-requires c κs = search needs
@@ -28,8 +61,11 @@ cast-t10 c = search needs
 
 returns-4 : tie.Need-returns-4
 returns-4 c =
-    rw (c .before .first-high .ensures)
-    (high (run (c .before .before .before .before .before .before .before .before .args .rate) (c .before .before .before .before .before .before .before .before .args .positions .now) (c .before .before .before .before .before .before .before .before .args .ratios .now)) (sym (c .before .before .before .before .before .is-rate .ensures) ∙ not-false _ (c .before .before .before .before .if1 .left)) (c .before .before .before .if2 .left) (c .before .before .if3 .left) (subst (λ (k : ℕ). k < length (c .before .before .before .before .before .before .before .before .args .positions .now)) (c .before .first-high .ensures) (c .if4 .taken)))
+    let h = c .before in
+    let p = counted h .before in
+    let r = given-run (rated p) in
+    rw (h .first-high .ensures)
+    (high r (listed (p .before)) (p .if2 .left) (counted h .if3 .left) (subst (λ (n : ℕ). n < length (r .positions)) (h .first-high .ensures) (c .if4 .taken)))
 
 first-outside-requires : tie.Need-first-outside-requires
 first-outside-requires c κs = search needs
@@ -39,13 +75,20 @@ cast-t11 c = search needs
 
 returns-5 : tie.Need-returns-5
 returns-5 c =
-    rw (c .before .first-outside .ensures)
-    (far (run (c .before .before .before .before .before .before .before .before .before .before .args .rate) (c .before .before .before .before .before .before .before .before .before .before .args .positions .now) (c .before .before .before .before .before .before .before .before .before .before .args .ratios .now)) (sym (c .before .before .before .before .before .before .before .is-rate .ensures) ∙ not-false _ (c .before .before .before .before .before .before .if1 .left)) (c .before .before .before .before .before .if2 .left) (c .before .before .before .before .if3 .left) (subst (λ (k : ℕ). length (c .before .before .before .before .before .before .before .before .before .before .args .positions .now) ≤ k) (c .before .before .before .first-high .ensures) (c .before .before .if4 .left)) (subst (λ (k : ℕ). k < length (c .before .before .before .before .before .before .before .before .before .before .args .positions .now)) (c .before .first-outside .ensures) (c .if5 .taken)))
+    let o = c .before in
+    let h = low o .before in
+    let p = counted h .before in
+    let r = given-run (rated p) in
+    rw (o .first-outside .ensures)
+    (far r (listed (p .before)) (p .if2 .left) (counted h .if3 .left) (none-high (low o)) (subst (λ (n : ℕ). n < length (r .positions)) (o .first-outside .ensures) (c .if5 .taken)))
 
 returns-6 : tie.Need-returns-6
 returns-6 c =
-    accepted (run (c .before .before .before .before .before .before .before .before .before .before .args .rate) (c .before .before .before .before .before .before .before .before .before .before .args .positions .now) (c .before .before .before .before .before .before .before .before .before .before .args .ratios .now)) (sym (c .before .before .before .before .before .before .before .is-rate .ensures) ∙ not-false _ (c .before .before .before .before .before .before .if1 .left)) (c .before .before .before .before .before .if2 .left) (c .before .before .before .before .if3 .left) (subst (λ (k : ℕ). length (c .before .before .before .before .before .before .before .before .before .before .args .positions .now) ≤ k) (c .before .before .before .first-high .ensures) (c .before .before .if4 .left))
-    (subst (λ (k : ℕ). length (c .before .before .before .before .before .before .before .before .before .before .args .positions .now) ≤ k) (c .before .first-outside .ensures) (c .if5 .left))
+    let o = c .before in
+    let h = low o .before in
+    let p = counted h .before in
+    let r = given-run (rated p) in
+    accepted r (listed (p .before)) (p .if2 .left) (counted h .if3 .left) (none-high (low o)) (subst (λ (n : ℕ). length (r .positions) ≤ n) (o .first-outside .ensures) (c .if5 .left))
 
 pub check-run-spec : {M : Type 1} → statement M
 check-run-spec =

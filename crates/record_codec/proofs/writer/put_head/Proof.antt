@@ -1,8 +1,9 @@
+-- `put_head` meets its contract: the tag, and then the length.
 use mathlib.Core.Path.{_∙_}
 use borrow.Author.Needs.{needs}
 use lib.ListN.{length-set}
 use Rattle.bits.specs.Digits.{bytesOf}
-use Rattle.record_codec.proofs.Placing.{head-on}
+use Rattle.record_codec.proofs.Writings.{head-on}
 use Rattle.record_codec.proofs.writer.put_head.Statement.{statement}
 use Rattle.record_codec.proofs.writer.put_head.Tie as tie
 
@@ -17,7 +18,8 @@ same-length c = c .before .before .put-bytes .kept .0 ∙ simp length-set
 
 returns : tie.Need-returns
 returns c =
-    let k = c .before .before .before .before .before in
+    let written = c .before .before in
+    let k = written .before .before .before in
     c .before .before .put-bytes .ensures ∙ head-on (k .args .out .now) (bytesOf 2 (k .args .n)) (k .args .tag) (k .pre)
 
 pub put-head-spec : {M : Type 1} → statement M

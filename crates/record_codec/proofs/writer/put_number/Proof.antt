@@ -1,7 +1,15 @@
+-- `put_number` meets its contract: the head, and then the body past it.
 use borrow.Author.Needs.{needs}
-use Rattle.record_codec.proofs.Placing.{number-none, number-done, number-on}
+use Rattle.record_codec.proofs.Writings.{number-none, number-done, number-on}
 use Rattle.record_codec.proofs.writer.put_number.Statement.{statement}
 use Rattle.record_codec.proofs.writer.put_number.Tie as tie
+
+-- the head and the test of room, as later places see them
+abbrev headed : tie.After-put-bytes → tie.After-put-head
+headed k = k .before .before .before .before
+
+abbrev roomy : tie.After-put-head → tie.Else1
+roomy k = k .before .before
 
 add-if1 : tie.Need-add-if1
 add-if1 c = search needs
@@ -25,9 +33,11 @@ same-length c = search needs
 
 returns-2 : tie.Need-returns-2
 returns-2 c =
-    let a = c .before .before .before .before .before .before .before .before .before .before .args in
-    number-done (a .out .now) _ (a .tag) (a .n) (a .x) (c .before .before .before .before .before .before .before .before .if1 .left)
-    (number-on (a .out .now) _ _ (a .tag) (a .n) (a .x) (c .before .before .before .before .before .before .put-head .ensures) (c .before .before .put-bytes .ensures))
+    let h = headed (c .before .before) in
+    let k = roomy h in
+    let a = k .before .before .args in
+    number-done (a .out .now) _ (a .tag) (a .n) (a .x) (k .if1 .left)
+    (number-on (a .out .now) _ _ (a .tag) (a .n) (a .x) (h .put-head .ensures) (c .before .before .put-bytes .ensures))
 
 pub put-number-spec : {M : Type 1} → statement M
 put-number-spec =

@@ -1,0 +1,32 @@
+-- What the program prints of document 01's example, and of no input.
+use mathlib.Core.Path.{_≡_, refl, sym, ap, _∙_}
+use mathlib.Core.List.{[], append-nil}
+use Rattle.lists.specs.Lists.{member, firstIndex}
+use Rattle.bits.specs.Digits.{digitsOf}
+use Rattle.limits.specs.Rates.{rates, isRate}
+use Rattle.refusals.specs.Tests.{firstOf}
+use Rattle.record_format.specs.Examples.{listedRun}
+use Rattle.record_format.specs.Reading.{readWith}
+use Rattle.record_format.specs.Runs.{recordOf}
+use Rattle.record_format.proofs.Examples.{listed-record, listed-accepted}
+use Rattle.span.specs.Spans.{spanned}
+use Rattle.text.specs.Examples.{listedText, refusedText}
+use Rattle.text.specs.Numbers.{trimmed, decimal, hex16, signed}
+use Rattle.text.specs.Lines.{rateLine, countLine, spanLine, pointLine, refusedLine, pointLines, listing}
+use Rattle.listing.specs.Printed.{textOf, printed}
+use Rattle.listing.specs.Claims.{listingOf, PrintsListed}
+use Rattle.listing.proofs.Claims.{prints-run}
+
+-- the run's listing is the text
+text-is : listingOf listedRun ≡ listedText
+unfolding spanned firstOf isRate rates member firstIndex digitsOf trimmed decimal hex16 signed rateLine countLine spanLine pointLine pointLines listing
+text-is = refl
+
+-- no input ends inside the first field
+refused-is : printed [] ≡ refusedText
+unfolding readWith firstOf textOf digitsOf trimmed decimal refusedLine
+refused-is = refl
+
+pub prints-listed : PrintsListed
+prints-listed =
+    (ap printed (sym (append-nil (recordOf listedRun) ∙ listed-record)) ∙ prints-run listedRun listed-accepted [] ∙ text-is, refused-is)

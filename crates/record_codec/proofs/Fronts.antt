@@ -1,0 +1,177 @@
+-- Laws of the front of a record as it is read: what each outcome leaves to be said of a number, of the rate, of the count, and of both.
+use mathlib.Core.Path.{_≡_, refl, sym, ap, _∙_, subst}
+use mathlib.Core.Bool.{true, false, not}
+use mathlib.Core.List.{List, [], _∷_, _++_}
+use mathlib.Core.Option.{some}
+use Prim.Native.Nat.{ℕ, _+_, _*_, _^_, _≤_, _<_}
+use native.Mathlib.Omega.{arith}
+use borrow.Author.Tests.{ltb-false, le-ltb, lt-ltb}
+use lib.Dec.{ltb, lit<}
+use lib.ListN.{length, take, drop}
+use Rattle.bits.specs.Digits.{numberOf}
+use Rattle.bits.proofs.Digits.{pow-above}
+use Rattle.limits.specs.Points.{maxPoints}
+use Rattle.limits.specs.Rates.{isRate}
+use Rattle.refusals.specs.declared.Refusal.{Refusal}
+use Rattle.refusals.specs.Tests.{Test, test, firstOf, noRefusal}
+use Rattle.refusals.proofs.Tests.{numbered, first-here, first-skip, first-clear, first-end, first-append-none, first-append-some}
+use Rattle.record_format.specs.Fields.{bodyAt, nextAt, fieldTests}
+use Rattle.record_format.specs.Runs.{rateTag, countTag, rateSize, countSize}
+use Rattle.record_format.specs.Reading.{rateAt, countAt, rateIn, countIn, otherRate, rateTests, countTests, frontTests}
+use Rattle.record_format.proofs.Reading.{refusal, field-clear}
+use Rattle.record_codec.specs.declared.field.Field.{Field}
+use Rattle.record_codec.specs.declared.front.Number.{Number}
+use Rattle.record_codec.specs.declared.front.Front.{Front}
+use Rattle.record_codec.specs.Fields.{longestField, PartRead, FieldRead, NumberRead, FrontRead}
+use Rattle.record_codec.proofs.Fields.{part-refused, part-first, part-then, part-both, field-numbered, number-is}
+
+-- ---- a number
+
+-- of a refused one nothing else is said
+none-read : (n : ℕ) (tests : List Test) (s : List ℕ) (p : ℕ) (f : Refusal) (e : ℕ) → (f .number ≡ 0 → ⊥) → PartRead tests s p f e → NumberRead n tests s p (record { refusal = f; value = 0; end = e })
+none-read n tests s p f e d h = record { part = h; value = λ z. absurd (d z); small = pow-above (lit< tt) n }
+
+module _ (s : List ℕ) (tag n p : ℕ) (f : Field) (h : FieldRead (fieldTests s (tag ∷ []) (some n) p) s p f) where
+  pub number-refused : (f .refusal .number ≡ 0 → ⊥) → NumberRead n (fieldTests s (tag ∷ []) (some n) p) s p (record { refusal = f .refusal; value = 0; end = 0 })
+  number-refused d = none-read n _ s p (f .refusal) 0 d (part-refused _ s p (f .refusal) 0 d (h .part .refuses))
+
+  pub number-found : f .refusal .number ≡ 0 → (x : ℕ) → x ≡ numberOf 256 (take n (drop (f .from) s)) → x < 256 ^ n
+      → NumberRead n (fieldTests s (tag ∷ []) (some n) p) s p (record { refusal = f .refusal; value = x; end = f .to })
+  number-found z x e l = record { part = h .part; value = λ _. number-is s tag n p f h z x e; small = l }
+
+-- ---- a number, and then the tests of its contents
+
+module _ (s : List ℕ) (tag n p : ℕ) (ts : List Test) (f : Number) (h : NumberRead n (fieldTests s (tag ∷ []) (some n) p) s p f) where
+  abbrev fs : List Test
+  fs = fieldTests s (tag ∷ []) (some n) p
+
+  pub contents-first : (f .refusal .number ≡ 0 → ⊥) → NumberRead n (fs ++ ts) s p f
+  contents-first d = record {
+    part = part-first fs ts s p (f .refusal) (f .end) (field-numbered s (tag ∷ []) (some n) p) (h .part) d;
+    value = λ z. absurd (d z);
+    small = h .small;
+  }
+
+  module _ (clear : f .refusal .number ≡ 0) where
+    -- refused by one of them, with the number x
+    pub contents-refused : (r : Number) (x : ℕ) → r ≡ record { refusal = refusal x p; value = 0; end = 0 } → (x ≡ 0 → ⊥) → refusal x p ≡ firstOf ts → NumberRead n (fs ++ ts) s p r
+    contents-refused r x e d q =
+        subst (NumberRead n (fs ++ ts) s p) (sym e)
+        (none-read n (fs ++ ts) s p (refusal x p) 0 d
+        (part-then fs ts s p (f .refusal) (f .end) (field-numbered s (tag ∷ []) (some n) p) (h .part) clear (refusal x p) 0 q d))
+
+    pub contents-good : firstOf ts ≡ noRefusal → NumberRead n (fs ++ ts) s p f
+    contents-good q = record {
+      part = part-both fs ts s p (f .refusal) (f .end) (field-numbered s (tag ∷ []) (some n) p) (h .part) clear q;
+      value = h .value;
+      small = h .small;
+    }
+
+-- ---- the rate
+
+module _ (e : ℕ) (s : List ℕ) (f : Number) (h : NumberRead rateSize (fieldTests s (rateTag ∷ []) (some rateSize) rateAt) s rateAt f) where
+  abbrev rate-contents : ℕ → List Test
+  rate-contents x = test (not (isRate x)) 13 rateAt ∷ test (otherRate e x) 14 rateAt ∷ []
+
+  pub rate-first : (f .refusal .number ≡ 0 → ⊥) → NumberRead rateSize (rateTests e s) s rateAt f
+  rate-first d = contents-first s rateTag rateSize rateAt (rate-contents (rateIn s)) f h d
+
+  module _ (clear : f .refusal .number ≡ 0) where
+    as-read : firstOf (rate-contents (rateIn s)) ≡ firstOf (rate-contents (f .value))
+    as-read = ap (λ (x : ℕ). firstOf (rate-contents x)) (sym (h .value clear))
+
+    pub rate-unlisted : (r : Number) → r ≡ record { refusal = refusal 13 rateAt; value = 0; end = 0 } → isRate (f .value) ≡ false → NumberRead rateSize (rateTests e s) s rateAt r
+    rate-unlisted r q b =
+        contents-refused s rateTag rateSize rateAt (rate-contents (rateIn s)) f h clear r 13 q (λ z. omega arith) (sym (as-read ∙ first-here _ _ (ap not b)))
+
+    module _ (listed : isRate (f .value) ≡ true) where
+      pub rate-other : (r : Number) → r ≡ record { refusal = refusal 14 rateAt; value = 0; end = 0 } → otherRate e (f .value) ≡ true → NumberRead rateSize (rateTests e s) s rateAt r
+      rate-other r q b =
+          contents-refused s rateTag rateSize rateAt (rate-contents (rateIn s)) f h clear r 14 q (λ z. omega arith)
+          (sym (as-read ∙ first-skip _ _ (ap not listed) ∙ first-here _ _ b))
+
+      pub rate-good : otherRate e (f .value) ≡ false → NumberRead rateSize (rateTests e s) s rateAt f
+      rate-good b =
+          contents-good s rateTag rateSize rateAt (rate-contents (rateIn s)) f h clear
+          (as-read ∙ first-skip _ _ (ap not listed) ∙ first-skip _ _ b ∙ first-end)
+
+-- ---- the count, at the offset p
+
+-- the test of a count c at the offset q
+abbrev many : ℕ → ℕ → List Test
+many q c = test (ltb maxPoints c) 15 q ∷ []
+
+module _ (s : List ℕ) (p : ℕ) (at : p ≡ countAt s) (f : Number) (h : NumberRead countSize (fieldTests s (countTag ∷ []) (some countSize) p) s p f) where
+  tests-at : fieldTests s (countTag ∷ []) (some countSize) p ++ many p (numberOf 256 (bodyAt s p)) ≡ countTests s
+  tests-at = ap (λ (q : ℕ). fieldTests s (countTag ∷ []) (some countSize) q ++ many q (numberOf 256 (bodyAt s q))) at
+
+  moved : (r : Number) → NumberRead countSize (fieldTests s (countTag ∷ []) (some countSize) p ++ many p (numberOf 256 (bodyAt s p))) s p r → NumberRead countSize (countTests s) s p r
+  moved r k = subst (λ (l : List Test). NumberRead countSize l s p r) tests-at k
+
+  pub count-first : (f .refusal .number ≡ 0 → ⊥) → NumberRead countSize (countTests s) s p f
+  count-first d = moved f (contents-first s countTag countSize p _ f h d)
+
+  module _ (clear : f .refusal .number ≡ 0) where
+    counted : firstOf (many p (numberOf 256 (bodyAt s p))) ≡ firstOf (many p (f .value))
+    counted = ap (λ (c : ℕ). firstOf (many p c)) (sym (h .value clear))
+
+    pub count-many : (r : Number) → r ≡ record { refusal = refusal 15 p; value = 0; end = 0 } → maxPoints < f .value → NumberRead countSize (countTests s) s p r
+    count-many r q l =
+        moved r (contents-refused s countTag countSize p _ f h clear r 15 q (λ z. omega arith) (sym (counted ∙ first-here _ _ (lt-ltb _ _ l))))
+
+    pub count-good : f .value ≤ maxPoints → NumberRead countSize (countTests s) s p f
+    count-good l = moved f (contents-good s countTag countSize p _ f h clear (counted ∙ first-skip _ _ (le-ltb _ _ l) ∙ first-end))
+
+-- ---- both
+
+-- of a refused front nothing else is said
+front-none : (e : ℕ) (s : List ℕ) (g : Refusal) → (g .number ≡ 0 → ⊥) → g ≡ firstOf (frontTests e s) → FrontRead e s (record { refusal = g; rate = 0; count = 0; place = 0; end = 0 })
+front-none e s g d q = record {
+  refuses = q;
+  rate = λ z. absurd (d z);
+  count = λ z. absurd (d z);
+  few = λ z. absurd (d z);
+  place = λ z. absurd (d z);
+  next = λ z. absurd (d z);
+  inside = λ z. absurd (d z);
+  near = λ z. absurd (d z);
+}
+
+module _ (e : ℕ) (s : List ℕ) (f : Number) (h : NumberRead rateSize (rateTests e s) s rateAt f) where
+  pub front-rate : (r : Front) → r ≡ record { refusal = f .refusal; rate = 0; count = 0; place = 0; end = 0 } → (f .refusal .number ≡ 0 → ⊥) → FrontRead e s r
+  front-rate r q d =
+      subst (FrontRead e s) (sym q)
+      (front-none e s (f .refusal) d (h .part .refuses ∙ sym (first-append-some (rateTests e s) (countTests s) (λ z. d (ap (λ (g : Refusal). g .number) (h .part .refuses) ∙ z)))))
+
+  module _ (clear : f .refusal .number ≡ 0) (g : Number) (k : NumberRead countSize (countTests s) s (f .end) g) where
+    past-rate : firstOf (frontTests e s) ≡ firstOf (countTests s)
+    past-rate = first-append-none (rateTests e s) (countTests s) refl (sym (ap (λ (x : Refusal). x .number) (h .part .refuses)) ∙ clear)
+
+    pub front-count : (r : Front) → r ≡ record { refusal = g .refusal; rate = 0; count = 0; place = 0; end = 0 } → (g .refusal .number ≡ 0 → ⊥) → FrontRead e s r
+    front-count r q d = subst (FrontRead e s) (sym q) (front-none e s (g .refusal) d (k .part .refuses ∙ sym past-rate))
+
+    few-in : g .refusal .number ≡ 0 → countIn s ≤ maxPoints
+    few-in z =
+        let c = field-clear s (countTag ∷ []) (some countSize) (countAt s) (many (countAt s) (countIn s)) (sym (ap (λ (x : Refusal). x .number) (k .part .refuses)) ∙ z) in
+        ltb-false maxPoints (countIn s) (first-clear _ _ (lit< tt) (c .1) .0)
+
+    pub front-found : g .refusal .number ≡ 0 → FrontRead e s (record { refusal = g .refusal; rate = f .value; count = g .value; place = f .end; end = g .end })
+    front-found z =
+        let at : f .end ≡ countAt s = h .part .next clear in
+        let counted : g .value ≡ countIn s = k .value z ∙ ap (λ (q : ℕ). numberOf 256 (bodyAt s q)) at in
+        let next : nextAt s (f .end) ≡ nextAt s (countAt s) = ap (nextAt s) at in
+        record {
+          refuses = k .part .refuses ∙ sym past-rate;
+          rate = λ _. h .value clear;
+          count = λ _. counted;
+          few = few-in;
+          place = λ _. at;
+          next = λ _. k .part .next z ∙ next;
+          inside = λ _. subst (λ (q : ℕ). q ≤ length s) next (k .part .inside z);
+          near = λ _. omega (arith, h .part .near clear, k .part .near z, next, at);
+        }
+
+-- the count's field begins before it ends
+pub place-near : {e : ℕ} {s : List ℕ} {f : Front} → FrontRead e s f → f .refusal .number ≡ 0 → f .place ≤ 2 * longestField
+unfolding nextAt
+place-near h z = omega (arith, h .place z, h .near z)

@@ -1,0 +1,142 @@
+-- Laws of a record as it is read: the whole answer, by how its front, the room, its positions and its ratios turn out.
+use mathlib.Core.Path.{_≡_, refl, sym, ap, ap₂, _∙_, subst}
+use mathlib.Core.Bool.{Bool, true, false, cond}
+use mathlib.Core.List.{List, [], _∷_, _++_}
+use Prim.Native.Nat.{ℕ, _+_, _≤_}
+use native.Mathlib.Omega.{arith}
+use borrow.Author.Tests.{ltb-false}
+use lib.Dec.{ltb}
+use lib.ListN.{length, replicate}
+use Rattle.refusals.specs.declared.Refusal.{Refusal}
+use Rattle.refusals.specs.Tests.{Test, test, firstOf, refused}
+use Rattle.refusals.proofs.Tests.{numbered, first-here, first-skip, first-end, first-none, first-append-none, first-append-some}
+use Rattle.outputs.specs.Outputs.{over}
+use Rattle.position_format.specs.Rows.{rows}
+use Rattle.position_format.specs.Positions.{readPositions}
+use Rattle.record_format.specs.Fields.{bodyAt, nextAt}
+use Rattle.record_format.specs.declared.ReadAnswer.{ReadAnswer}
+use Rattle.record_format.specs.Reading.{Answer, refusalAnswer, recordAnswer, answerBy, readWith, readTests, lacksRoom, countAt, positionsAt, ratiosAt, endAt, rateIn, countIn, positionsIn, ratiosIn, listOf, frontTests, roomTests, positionsTests, ratiosTests}
+use Rattle.record_format.proofs.Reading.{refusal, answer-refused, answer-good}
+use Rattle.record_codec.specs.declared.front.Front.{Front}
+use Rattle.record_codec.specs.declared.coding.Coding.the-variants.{Positions, Ratios}
+use Rattle.record_codec.specs.declared.coding.Part.{Part}
+use Rattle.record_codec.specs.Fields.{longestField, PartRead, FrontRead, CodedRead, ratiosBy, bodyTests, Answered}
+
+-- an answer that is known to be another
+pub answered-as : {a b : Answer} {r : ReadAnswer} {p q : List ℕ} → b ≡ a → Answered b r p q → Answered a r p q
+answered-as {a} {b} {r} {p} {q} e h = subst (λ (x : Answer). Answered x r p q) e h
+
+-- zeros, by the length alone
+refusal-as : (f : Refusal) (ts us vs ws : List ℕ) → length us ≡ length ts → length ws ≡ length vs → refusalAnswer f us ws ≡ refusalAnswer f ts vs
+refusal-as f ts us vs ws a b =
+    ap₂
+    (λ (m n : ℕ).
+    record {
+      answer = record { number = f .number; place = f .place; rate = 0; count = 0; used = 0 };
+      positions = replicate m 0;
+      ratios = replicate n 0;
+    })
+    a b
+
+-- a part that is not refused
+quiet : {tests : List Test} {s : List ℕ} {p : ℕ} {f : Refusal} {end : ℕ} → PartRead tests s p f end → f .number ≡ 0 → firstOf tests .number ≡ 0
+quiet h z = sym (ap (λ (g : Refusal). g .number) (h .refuses)) ∙ z
+
+-- there is room
+room-none : (a b : Bool) → cond a true b ≡ false → (a ≡ false) × (b ≡ false)
+room-none true b e = (cc, cc)
+room-none false b e = (refl, e)
+
+module _ (openly : Bool) (e : ℕ) (s ts vs : List ℕ) where
+  abbrev tests : List Test
+  tests = readTests (ratiosBy openly) e s (length ts) (length vs)
+
+  abbrev answer : Answer
+  answer = readWith (ratiosBy openly) e s ts vs
+
+  -- a refusal that the tests give, with outputs of the same lengths
+  refuses : (f : Refusal) → f ≡ firstOf tests → (f .number ≡ 0 → ⊥) → (us ws : List ℕ) → length us ≡ length ts → length ws ≡ length vs → refusalAnswer f us ws ≡ answer
+  unfolding readWith
+  refuses f q d us ws a b = refusal-as f ts us vs ws a b ∙ sym (answer-refused (recordAnswer (ratiosBy openly) s ts vs) ts vs tests f q d)
+
+  module _ (f : Front) (h : FrontRead e s f) where
+    pub read-front : (f .refusal .number ≡ 0 → ⊥) → refusalAnswer (f .refusal) ts vs ≡ answer
+    read-front d =
+        refuses (f .refusal) (h .refuses ∙ sym (first-append-some (frontTests e s) _ (λ z. d (ap (λ (g : Refusal). g .number) (h .refuses) ∙ z)))) d ts vs refl refl
+
+    module _ (clear : f .refusal .number ≡ 0) where
+      past-front : firstOf tests ≡ firstOf (roomTests s (length ts) (length vs) ++ (positionsTests s ++ ratiosTests (ratiosBy openly) s))
+      past-front = first-append-none (frontTests e s) _ refl (sym (ap (λ (g : Refusal). g .number) (h .refuses)) ∙ clear)
+
+      room-test : firstOf (roomTests s (length ts) (length vs) ++ (positionsTests s ++ ratiosTests (ratiosBy openly) s))
+          ≡ firstOf (test (lacksRoom (length ts) (length vs) (f .count)) 16 (f .place) ∷ (positionsTests s ++ ratiosTests (ratiosBy openly) s))
+      room-test =
+          ap₂ (λ (c p : ℕ). firstOf (test (lacksRoom (length ts) (length vs) c) 16 p ∷ (positionsTests s ++ ratiosTests (ratiosBy openly) s)))
+          (sym (h .count clear)) (sym (h .place clear))
+
+      pub read-lacks : lacksRoom (length ts) (length vs) (f .count) ≡ true → refusalAnswer (refusal 16 (f .place)) ts vs ≡ answer
+      read-lacks l = refuses (refusal 16 (f .place)) (sym (past-front ∙ room-test ∙ first-here _ _ l)) (λ z. omega arith) ts vs refl refl
+
+      module _ (room : lacksRoom (length ts) (length vs) (f .count) ≡ false) where
+        pub room-positions : f .count ≤ length ts
+        room-positions = ltb-false _ _ (room-none (ltb (length ts) (f .count)) (ltb (length vs) (f .count)) room .0)
+
+        pub room-ratios : f .count ≤ length vs
+        room-ratios = ltb-false _ _ (room-none (ltb (length ts) (f .count)) (ltb (length vs) (f .count)) room .1)
+
+        past-room : firstOf tests ≡ firstOf (positionsTests s ++ ratiosTests (ratiosBy openly) s)
+        past-room = past-front ∙ room-test ∙ first-skip _ _ room
+
+        module _ (g : Part) (us : List ℕ) (i : CodedRead Positions false (f .count) s (f .end) g ts us) where
+          positions-same : bodyTests Positions false (f .count) s (f .end) ≡ positionsTests s
+          positions-same = ap₂ (λ (c p : ℕ). bodyTests Positions false c s p) (h .count clear) (h .next clear)
+
+          positions-part : PartRead (positionsTests s) s (f .end) (g .refusal) (g .end)
+          positions-part = subst (λ (l : List Test). PartRead l s (f .end) (g .refusal) (g .end)) positions-same (i .part)
+
+          pub read-positions : (g .refusal .number ≡ 0 → ⊥) → length us ≡ length ts → refusalAnswer (g .refusal) us vs ≡ answer
+          read-positions d l =
+              refuses (g .refusal)
+              (positions-part .refuses
+              ∙ sym (past-room ∙ first-append-some (positionsTests s) _ (λ z. d (ap (λ (x : Refusal). x .number) (positions-part .refuses) ∙ z))))
+              d us vs l refl
+
+          module _ (good : g .refusal .number ≡ 0) where
+            ratios-at : g .end ≡ ratiosAt s
+            ratios-at = i .part .next good ∙ ap (nextAt s) (h .next clear)
+
+            pub positions-inside : g .end ≤ length s
+            positions-inside = omega (arith, i .part .next good, i .part .inside good)
+
+            pub positions-near : g .end ≤ f .end + longestField
+            positions-near = omega (arith, i .part .next good, i .part .near good)
+
+            past-positions : firstOf tests ≡ firstOf (ratiosTests (ratiosBy openly) s)
+            past-positions = past-room ∙ first-append-none (positionsTests s) _ refl (quiet positions-part good)
+
+            module _ (k : Part) (ws : List ℕ) (j : CodedRead Ratios openly (f .count) s (g .end) k vs ws) where
+              ratios-same : bodyTests Ratios openly (f .count) s (g .end) ≡ ratiosTests (ratiosBy openly) s
+              ratios-same = ap₂ (λ (c p : ℕ). bodyTests Ratios openly c s p) (h .count clear) ratios-at
+
+              ratios-part : PartRead (ratiosTests (ratiosBy openly) s) s (g .end) (k .refusal) (k .end)
+              ratios-part = subst (λ (l : List Test). PartRead l s (g .end) (k .refusal) (k .end)) ratios-same (j .part)
+
+              pub read-ratios : (k .refusal .number ≡ 0 → ⊥) → length us ≡ length ts → length ws ≡ length vs → refusalAnswer (k .refusal) us ws ≡ answer
+              read-ratios d l m = refuses (k .refusal) (ratios-part .refuses ∙ sym past-positions) d us ws l m
+
+              module _ (whole : k .refusal .number ≡ 0) where
+                pub read-found : Answered answer (record { number = 0; place = 0; rate = f .rate; count = f .count; used = k .end }) us ws
+                unfolding readWith
+                read-found =
+                    let a = h .rate clear in
+                    let b = h .count clear in
+                    let c : k .end ≡ endAt s = j .part .next whole ∙ ap (nextAt s) ratios-at in
+                    let p : us ≡ over (listOf (positionsIn s)) ts =
+                    i .filled good ∙ ap₂ (λ (n q : ℕ). over (listOf (readPositions rows n (bodyAt s q))) ts) b (h .next clear) in
+                    let q : ws ≡ over (listOf (ratiosIn (ratiosBy openly) s)) vs =
+                    j .filled whole ∙ ap₂ (λ (n r : ℕ). over (listOf (ratiosBy openly n (bodyAt s r))) vs) b ratios-at in
+                    let own : recordAnswer (ratiosBy openly) s ts vs ≡ answer =
+                    sym
+                    (answer-good (recordAnswer (ratiosBy openly) s ts vs) ts vs tests
+                    (past-positions ∙ first-none (ratiosTests (ratiosBy openly) s) refl (quiet ratios-part whole) ∙ sym first-end)) in
+                    answered-as own (cc, p, q)

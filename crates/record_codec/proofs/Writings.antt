@@ -1,0 +1,152 @@
+-- Laws of a record as it is written: a head, a field, and one field after another, put at the front of an output.
+use mathlib.Core.Path.{_≡_, refl, sym, ap, ap₂, _∙_, subst}
+use mathlib.Core.List.{List, [], _∷_, _++_, append-assoc}
+use Prim.Native.Nat.{ℕ, suc, _+_, _-_, _≤_, _<_}
+use native.Mathlib.Omega.{arith}
+use lib.ListN.{length, take, drop, set, length-append, length-drop}
+use lib.Seq.{take-at, drop-at, drop-drop, length-take-le}
+use borrow.Rule.Slice.PartMut.{putMid}
+use Rattle.bits.specs.Digits.{bytesOf}
+use Rattle.outputs.specs.Outputs.{over, overAt, Placed}
+use Rattle.bits.proofs.Digits.{length-digits}
+use Rattle.outputs.proofs.Parts.{rest-is, put-rest}
+use Rattle.outputs.specs.declared.Wrote.{Wrote}
+use Rattle.outputs.specs.declared.Wrote.the-variants.{Done, NoRoom}
+use Rattle.record_format.specs.Fields.{Field, fieldOf, headSize, fieldBytes, laid}
+use Rattle.record_format.proofs.Fields.{length-field, laid-append, laid-one}
+
+-- ---- a head, and a field of a number
+
+pub head-on : (o bs : List ℕ) (tag : ℕ) → headSize ≤ length o → overAt (set o 0 tag) 1 2 bs ≡ tag ∷ (bs ++ drop headSize o)
+head-on [] bs tag h = absurd (omega arith)
+head-on (x ∷ o) bs tag h = refl
+
+module _ (o p q : List ℕ) (tag n x : ℕ) (h : p ≡ tag ∷ (bytesOf 2 n ++ drop headSize o)) (g : q ≡ overAt p headSize n (bytesOf n x)) where
+  abbrev lead : List ℕ
+  lead = tag ∷ bytesOf 2 n
+
+  led : length lead ≡ headSize
+  led = ap suc (length-digits 256 2 n)
+
+  -- the body after the head
+  pub number-on : q ≡ over (fieldBytes (fieldOf tag (bytesOf n x))) o
+  unfolding fieldBytes
+  number-on =
+      let l : length (bytesOf n x) ≡ n = length-digits 256 n x in
+      let f : length (fieldBytes (fieldOf tag (bytesOf n x))) ≡ headSize + n = length-field (fieldOf tag (bytesOf n x)) ∙ ap (λ (k : ℕ). headSize + k) l in
+      g
+      ∙ ap₂ (λ (a b : List ℕ). a ++ (bytesOf n x ++ b))
+      (ap (take headSize) h ∙ take-at lead (drop headSize o) headSize led)
+      (ap (drop (headSize + n)) h ∙ sym (drop-drop n headSize (lead ++ drop headSize o)) ∙ ap (drop n) (drop-at lead (drop headSize o) headSize led) ∙ drop-drop n headSize o)
+      ∙ ap₂ (λ (k m : ℕ). tag ∷ (bytesOf 2 k ++ (bytesOf n x ++ drop m o))) (sym l) (sym f)
+      ∙ sym (append-assoc (tag ∷ bytesOf 2 (length (bytesOf n x))) (bytesOf n x) (drop (length (fieldBytes (fieldOf tag (bytesOf n x)))) o))
+
+-- how much room a field of a number takes
+pub number-none : (o : List ℕ) (tag n x : ℕ) → length o < n + headSize → length o < length (fieldBytes (fieldOf tag (bytesOf n x)))
+number-none o tag n x h = omega (arith, length-field (fieldOf tag (bytesOf n x)), length-digits 256 n x)
+
+pub number-done : (o q : List ℕ) (tag n x : ℕ) → n + headSize ≤ length o → q ≡ over (fieldBytes (fieldOf tag (bytesOf n x))) o → Placed (fieldBytes (fieldOf tag (bytesOf n x))) (Done (n + headSize)) o q
+number-done o q tag n x h e =
+    (omega (arith, length-field (fieldOf tag (bytesOf n x)), length-digits 256 n x), omega (arith, length-field (fieldOf tag (bytesOf n x)), length-digits 256 n x), e)
+
+-- ---- one part after another
+
+-- a body put past the head, by what its writer answers, and then the head
+module _ (tag : ℕ) (body o q : List ℕ) (w : Wrote) (h : headSize ≤ length o) (put : Placed body w (take (length o - headSize) (drop headSize o)) q) where
+  past-head : Placed body w (drop headSize o) q
+  past-head = subst (λ (l : List ℕ). Placed body w l q) (rest-is headSize o) put
+
+  pub field-none : w ≡ NoRoom → length o < length (fieldBytes (fieldOf tag body))
+  field-none e =
+      let g : Placed body NoRoom (drop headSize o) q = subst (λ (x : Wrote). Placed body x (drop headSize o) q) e past-head in
+      omega (arith, length-drop headSize o, length-field (fieldOf tag body))
+
+  module _ (n : ℕ) (e : w ≡ Done n) where
+    body-done : Placed body (Done n) (drop headSize o) q
+    body-done = subst (λ (x : Wrote). Placed body x (drop headSize o) q) e past-head
+
+    pub field-fits : n + headSize ≤ length o
+    field-fits = omega (arith, body-done .0, body-done .1, length-drop headSize o)
+
+    pub field-done : (r : List ℕ) (t : ℕ) → t ≡ tag → r ≡ t ∷ (bytesOf 2 n ++ drop headSize (putMid headSize (length o - headSize) o q)) → Placed (fieldBytes (fieldOf tag body)) (Done (n + headSize)) o r
+    unfolding fieldBytes
+    field-done r t tagged g =
+        let f : headSize + length body ≡ length (fieldBytes (fieldOf tag body)) = sym (length-field (fieldOf tag body)) in (
+          omega (arith, body-done .0, f),
+          omega (arith, field-fits, body-done .0, f),
+          g
+              ∙ ap (λ (x : ℕ). x ∷ (bytesOf 2 n ++ drop headSize (putMid headSize (length o - headSize) o q))) tagged
+              ∙ ap (λ (l : List ℕ). tag ∷ (bytesOf 2 n ++ l))
+              (ap (drop headSize) (put-rest headSize o q) ∙ drop-at (take headSize o) q headSize (length-take-le headSize o h) ∙ body-done .2 ∙ ap (λ (l : List ℕ). body ++ l) (drop-drop (length body) headSize o))
+              ∙ ap₂ (λ (k m : ℕ). tag ∷ (bytesOf 2 k ++ (body ++ drop m o))) (body-done .0) f
+              ∙ sym (append-assoc (tag ∷ bytesOf 2 (length body)) body (drop (length (fieldBytes (fieldOf tag body))) o)),
+        )
+
+-- ---- fields, and then one field more in the rest, by what its writer answers
+
+-- the first field
+pub first-done : (f : Field) (o p : List ℕ) (w : Wrote) (n : ℕ) → Placed (fieldBytes f) w o p → w ≡ Done n → Placed (laid (f ∷ [])) (Done n) o p
+first-done f o p w n put e = subst (λ (l : List ℕ). Placed l (Done n) o p) (sym (laid-one f)) (subst (λ (x : Wrote). Placed (fieldBytes f) x o p) e put)
+
+-- too long for a beginning is too long for all
+pub first-none : (f : Field) (gs : List Field) (o p : List ℕ) (w : Wrote) → Placed (fieldBytes f) w o p → w ≡ NoRoom → length o < length (laid (f ∷ gs))
+unfolding laid
+first-none f gs o p w put e =
+    let h : Placed (fieldBytes f) NoRoom o p = subst (λ (x : Wrote). Placed (fieldBytes f) x o p) e put in
+    omega (arith, length-append (fieldBytes f) (laid gs))
+
+module _ (fs : List Field) (f : Field) (o p : List ℕ) (n : ℕ) (done : Placed (laid fs) (Done n) o p) where
+  -- an output keeps its length
+  same : length p ≡ length o
+  same = ap length (done .2) ∙ length-append (laid fs) (drop (length (laid fs)) o) ∙ omega (arith, length-drop (length (laid fs)) o, done .1)
+
+  pub room-left : n ≤ length p
+  room-left = omega (arith, done .0, done .1, same)
+
+  rest-now : take (length p - n) (drop n p) ≡ drop n o
+  rest-now =
+      rest-is n p ∙ ap (drop n) (done .2) ∙ drop-at (laid fs) (drop (length (laid fs)) o) n (sym (done .0)) ∙ ap (λ (k : ℕ). drop k o) (sym (done .0))
+
+  module _ (q : List ℕ) (w : Wrote) (put : Placed (fieldBytes f) w (take (length p - n) (drop n p)) q) where
+    in-rest : Placed (fieldBytes f) w (drop n o) q
+    in-rest = subst (λ (l : List ℕ). Placed (fieldBytes f) w l q) rest-now put
+
+    pub more-none : (gs : List Field) → w ≡ NoRoom → length o < length (laid (fs ++ (f ∷ gs)))
+    more-none gs e =
+        let h : Placed (fieldBytes f) NoRoom (drop n o) q = subst (λ (x : Wrote). Placed (fieldBytes f) x (drop n o) q) e in-rest in
+        let l : length (laid (fs ++ (f ∷ gs))) ≡ length (laid fs) + (length (fieldBytes f) + length (laid gs)) =
+        ap length (laid-append fs (f ∷ gs) ∙ ap (λ (x : List ℕ). laid fs ++ x) (laid-append (f ∷ []) gs ∙ ap (λ (x : List ℕ). x ++ laid gs) (laid-one f)))
+        ∙ length-append (laid fs) (fieldBytes f ++ laid gs) ∙ ap (λ (k : ℕ). length (laid fs) + k) (length-append (fieldBytes f) (laid gs)) in
+        omega (arith, length-drop n o, done .0, room-left, same)
+
+    module _ (m : ℕ) (e : w ≡ Done m) where
+      then-done : Placed (fieldBytes f) (Done m) (drop n o) q
+      then-done = subst (λ (x : Wrote). Placed (fieldBytes f) x (drop n o) q) e in-rest
+
+      pub more-fits : n + m ≤ length o
+      more-fits = omega (arith, then-done .0, then-done .1, length-drop n o, room-left, same)
+
+      pub more-done : Placed (laid (fs ++ (f ∷ []))) (Done (n + m)) o (putMid n (length p - n) p q)
+      more-done =
+          let bytes : laid (fs ++ (f ∷ [])) ≡ laid fs ++ fieldBytes f = laid-append fs (f ∷ []) ∙ ap (λ (x : List ℕ). laid fs ++ x) (laid-one f) in
+          let h : n + length (fieldBytes f) ≡ length (laid fs ++ fieldBytes f) = omega (arith, length-append (laid fs) (fieldBytes f), done .0) in
+          let long = ap length bytes in (
+            omega (arith, then-done .0, h, long),
+            omega (arith, more-fits, then-done .0, h, long),
+            put-rest n p q
+                ∙ ap₂ (λ (a b : List ℕ). a ++ b) (ap (take n) (done .2) ∙ take-at (laid fs) (drop (length (laid fs)) o) n (sym (done .0)))
+                (then-done .2 ∙ ap (λ (l : List ℕ). fieldBytes f ++ l) (drop-drop (length (fieldBytes f)) n o))
+                ∙ sym (append-assoc (laid fs) (fieldBytes f) (drop (n + length (fieldBytes f)) o))
+                ∙ ap (λ (k : ℕ). (laid fs ++ fieldBytes f) ++ drop k o) h
+                ∙ ap (λ (l : List ℕ). over l o) (sym bytes),
+          )
+
+-- ---- what an answer of a writer says
+
+module _ (bs o p : List ℕ) (w : Wrote) (put : Placed bs w o p) where
+  pub short-of : w ≡ NoRoom → length o < length bs
+  short-of e = subst (λ (x : Wrote). Placed bs x o p) e put
+
+  module _ (n : ℕ) (e : w ≡ Done n) where
+    pub wrote-all : (n ≡ length bs) × (length bs ≤ length o) × (p ≡ over bs o)
+    wrote-all = subst (λ (x : Wrote). Placed bs x o p) e put

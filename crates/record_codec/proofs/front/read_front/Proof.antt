@@ -1,0 +1,73 @@
+-- `read_front` meets its contract, by what `read_rate` and `read_count` find.
+use Prim.Native.Nat.{_≤_}
+use native.Mathlib.Omega.{arith}
+use borrow.Author.Needs.{needs}
+use lib.ListN.{length}
+use Rattle.record_format.specs.Reading.{countAt}
+use Rattle.record_codec.proofs.Fronts.{front-rate, front-count, front-found}
+use Rattle.record_codec.proofs.front.read_front.Statement.{statement}
+use Rattle.record_codec.proofs.front.read_front.Tie as tie
+
+-- the entry, and the rate, as later places see them
+abbrev entry : tie.After-read-rate → tie.Start
+entry k = k .before .before
+
+abbrev rated : tie.Else1 → tie.After-read-rate
+rated k = k .before .before
+
+abbrev counted : tie.Else2 → tie.After-read-count
+counted k = k .before .before
+
+read-rate-requires : tie.Need-read-rate-requires
+read-rate-requires c κs = search needs
+
+no-front-requires : tie.Need-no-front-requires
+no-front-requires c κs = search needs
+
+returns : tie.Need-returns
+returns c =
+    let k = c .before .before .before in
+    front-rate (entry k .args .expected) (entry k .args .input .now) (k .read-rate .result) (k .read-rate .ensures) _ (c .no-front .ensures) (c .before .if1 .taken)
+
+read-count-requires : tie.Need-read-count-requires
+read-count-requires c κs =
+    let p = rated c .read-rate .ensures .part in
+    let next = p .next (c .if1 .left) in
+    let inside = p .inside (c .if1 .left) in
+    let near = p .near (c .if1 .left) in
+    (next, omega arith, omega arith)
+
+no-front-requires-2 : tie.Need-no-front-requires-2
+no-front-requires-2 c κs = search needs
+
+returns-2 : tie.Need-returns-2
+returns-2 c =
+    let n = c .before .before .before in
+    let g = n .before in
+    let k = rated g in
+    front-count (entry k .args .expected) (entry k .args .input .now) (k .read-rate .result) (k .read-rate .ensures) (g .if1 .left) (n .read-count .result) (n .read-count .ensures)
+    _ (c .no-front2 .ensures) (c .before .if2 .taken)
+
+cast-t11 : tie.Need-cast-t11
+cast-t11 c = search needs
+
+returns-3 : tie.Need-returns-3
+returns-3 c =
+    let n = counted (c .before) in
+    let g = n .before in
+    let k = rated g in
+    front-found (entry k .args .expected) (entry k .args .input .now) (k .read-rate .result) (k .read-rate .ensures) (g .if1 .left) (n .read-count .result) (n .read-count .ensures)
+    (c .before .if2 .left)
+
+pub read-front-spec : {M : Type 1} → statement M
+read-front-spec =
+    tie.close
+    (tie.spec
+    read-rate-requires
+    no-front-requires
+    returns
+    read-count-requires
+    no-front-requires-2
+    returns-2
+    cast-t11
+    returns-3)

@@ -1,0 +1,112 @@
+// Fields of coded numbers: the codings, each with its tag, its refusal, and its writer and reader of a body.
+ghost use mathlib.Core.Path.{_≡_};
+ghost use Prim.Native.Nat.{_≤_};
+ghost use lib.ListN.{length};
+ghost use Rattle.limits.specs.Points.{maxPoints};
+ghost use Rattle.outputs.specs.Outputs.{Placed, Filled};
+ghost use Rattle.record_codec.specs.Fields.{farthest, ratiosBy, tagOf, numberFor, codedBy, readBy, Codable, CodedRead};
+use super::field::Length;
+use super::field::read_field;
+use outputs::Wrote;
+use record_format::POSITIONS_TAG;
+use record_format::RATIOS_TAG;
+use refusals::Refusal;
+
+// How the numbers of a body are coded.
+pub enum Coding {
+    Positions,
+    Ratios,
+}
+
+// A part of a record: its refusal, or the offset past it.
+pub struct Part {
+    pub refusal: Refusal,
+    pub end: usize,
+}
+
+// The tag of its field.
+pub(crate) fn tag_of(coding: Coding) -> u8
+    ensures { λ r. ⌜ r ≡ tagOf coding ⌝ }
+{
+    match coding {
+        Coding::Positions => POSITIONS_TAG,
+        Coding::Ratios => RATIOS_TAG,
+    }
+}
+
+// The number of the refusal of a body that is none.
+fn number_for(coding: Coding) -> u32
+    ensures { λ r. ⌜ r ≡ numberFor coding ⌝ }
+{
+    match coding {
+        Coding::Positions => 17,
+        Coding::Ratios => 18,
+    }
+}
+
+// The body of the numbers, at the front of the output.
+pub(crate) fn put_body(coding: Coding, numbers: &[u64], out: &mut [u8]) -> Wrote
+    requires { ⌜ Codable coding (now numbers) ⌝ }
+    ensures { λ r. ⌜ Placed (codedBy coding (now (numbers .entry))) r (now (out .entry)) (now (out .exit)) ⌝ }
+{
+    match coding {
+        Coding::Positions => position_codec::put_positions(numbers, out),
+        Coding::Ratios => ratio_bodies::put_ratios(numbers, out),
+    }
+}
+
+// The ratios of a body, by the open rule or strictly.
+fn get_ratios(openly: bool, body: &[u8], count: usize, out: &mut [u64]) -> bool
+    requires { ⌜ count ≤ length (now out) ⌝ }
+    ensures { λ r. ⌜ Filled (ratiosBy openly count (now (body .entry))) r (now (out .entry)) (now (out .exit)) ⌝ }
+{
+    if openly {
+        ratio_bodies::get_open(body, count, out)
+    } else {
+        ratio_bodies::get_strict(body, count, out)
+    }
+}
+
+// The numbers of a body, ratios by the open rule or strictly.
+fn get_body(coding: Coding, openly: bool, body: &[u8], count: usize, out: &mut [u64]) -> bool
+    requires { ⌜ (count ≤ length (now out)) × (count ≤ maxPoints) ⌝ }
+    ensures { λ r. ⌜ Filled (readBy coding openly count (now (body .entry))) r (now (out .entry)) (now (out .exit)) ⌝ }
+{
+    match coding {
+        Coding::Positions => position_codec::get_positions(body, count, out),
+        Coding::Ratios => get_ratios(openly, body, count, out),
+    }
+}
+
+// The field of count coded numbers at an offset: its tests, and its numbers at the front of the output.
+pub(crate) fn read_coded(
+    coding: Coding,
+    openly: bool,
+    input: &[u8],
+    at: usize,
+    count: usize,
+    out: &mut [u64],
+) -> Part
+    requires { ⌜ (at ≤ length (now input)) × (at ≤ farthest) × (count ≤ length (now out)) × (count ≤ maxPoints) ⌝ }
+    ensures { λ r. ⌜ CodedRead coding openly count (now (input .entry)) at r (now (out .entry)) (now (out .exit)) ⌝ }
+{
+    let tags = [tag_of(coding)];
+    let field = read_field(input, at, &tags, Length::Any);
+    let refusal = field.refusal;
+    let number = refusal.number;
+    if number != 0 {
+        return Part { refusal, end: 0 };
+    }
+    let from = field.from;
+    let to = field.to;
+    if !get_body(coding, openly, &input[from..to], count, out) {
+        return Part {
+            refusal: Refusal {
+                number: number_for(coding),
+                place: at as u32,
+            },
+            end: 0,
+        };
+    }
+    Part { refusal, end: to }
+}

@@ -1,0 +1,174 @@
+-- Laws of reading: the tests of a field by how it turns out, the answer by the tests that are left to make, and that bytes after the record
+-- change nothing.
+use mathlib.Core.Path.{_≡_, refl, sym, ap, ap₂, _∙_, subst}
+use mathlib.Core.Bool.{Bool, true, false, not, cond}
+use mathlib.Core.List.{List, [], _∷_, _++_, append-assoc}
+use mathlib.Core.Option.{Option, none, some}
+use Prim.Native.Nat.{ℕ, zero, suc, _+_, _≤_, _<_}
+use native.Mathlib.Omega.{arith}
+use borrow.Author.Tests.{eqb-true, eq-eqb, ne-eqb, ltb-false, le-ltb, lt-ltb, not-false}
+use lib.Dec.{ltb, eqb, lit<, eqb·suc-zero}
+use lib.ListN.{length, drop, length-append}
+use Rattle.lists.specs.Below.{Below}
+use Rattle.lists.specs.Lists.{member}
+use Rattle.bits.specs.Digits.{bytesOf, digitsOf, numberOf}
+use Rattle.bits.proofs.Digits.{digits-number}
+use Rattle.refusals.specs.declared.Refusal.{Refusal}
+use Rattle.refusals.specs.Tests.{Test, test, firstOf, refused}
+use Rattle.refusals.proofs.Tests.{numbered, first-here, first-skip, first-clear, first-end, first-append-none, first-append-some}
+use Rattle.record_format.specs.Fields.{Field, fieldOf, headSize, fieldBytes, tagAt, lengthAt, bodyAt, nextAt, lengthTests, fieldTests}
+use Rattle.record_format.specs.Reading.{Answer, refusalAnswer, answerBy, missing}
+use Rattle.record_format.proofs.Fields.{Stands, length-body, field-here, below-body, tag-same, length-same, next-same, head-within}
+
+-- a refusal by its number and place
+abbrev pub refusal : ℕ → ℕ → Refusal
+refusal n p = record { number = n; place = p }
+
+-- ---- the tests of a field, by how it turns out
+
+-- the stated length is the one that is asked for, if one is
+abbrev pub Stated : Option ℕ → ℕ → Type 0
+Stated none l = Unit {0}
+Stated (some n) l = l ≡ n
+
+module _ (s tags : List ℕ) (n : Option ℕ) (p : ℕ) (ts : List Test) where
+  -- the head is not whole
+  pub head-short : length s < p + headSize → refusal 10 p ≡ firstOf (fieldTests s tags n p ++ ts)
+  head-short h = sym (first-here _ _ (lt-ltb (length s) (p + headSize) h))
+
+  module _ (head : p + headSize ≤ length s) where
+    past-head : firstOf (fieldTests s tags n p ++ ts)
+        ≡ firstOf (test (not (member (tagAt s p) tags)) 11 p ∷ ((lengthTests s n p ++ (test (ltb (length s) (nextAt s p)) 10 p ∷ [])) ++ ts))
+    past-head = first-skip _ _ (le-ltb (length s) (p + headSize) head)
+
+    -- the tag is another
+    pub tag-other : member (tagAt s p) tags ≡ false → refusal 11 p ≡ firstOf (fieldTests s tags n p ++ ts)
+    tag-other e = sym (past-head ∙ first-here _ _ (ap not e))
+
+    module _ (tagged : member (tagAt s p) tags ≡ true) where
+      past-tag : firstOf (fieldTests s tags n p ++ ts) ≡ firstOf ((lengthTests s n p ++ (test (ltb (length s) (nextAt s p)) 10 p ∷ [])) ++ ts)
+      past-tag = past-head ∙ first-skip _ _ (ap not tagged)
+
+      -- the length is another
+      pub length-other : (k : ℕ) → n ≡ some k → (lengthAt s p ≡ k → ⊥) → refusal 12 p ≡ firstOf (fieldTests s tags n p ++ ts)
+      length-other k e d =
+          sym
+          (past-tag
+          ∙ ap (λ (m : Option ℕ). firstOf ((lengthTests s m p ++ (test (ltb (length s) (nextAt s p)) 10 p ∷ [])) ++ ts)) e
+          ∙ first-here _ _ (ap not (ne-eqb _ _ d)))
+
+      module _ (stated : Stated n (lengthAt s p)) where
+        past-length : firstOf (fieldTests s tags n p ++ ts) ≡ firstOf (test (ltb (length s) (nextAt s p)) 10 p ∷ ts)
+        past-length = past-tag ∙ go n stated
+          where
+            go : (m : Option ℕ) → Stated m (lengthAt s p)
+                → firstOf ((lengthTests s m p ++ (test (ltb (length s) (nextAt s p)) 10 p ∷ [])) ++ ts) ≡ firstOf (test (ltb (length s) (nextAt s p)) 10 p ∷ ts)
+            go none h = refl
+            go (some k) h = first-skip _ _ (ap not (eq-eqb _ _ h))
+
+        -- the body is not whole
+        pub body-short : length s < nextAt s p → refusal 10 p ≡ firstOf (fieldTests s tags n p ++ ts)
+        body-short h = sym (past-length ∙ first-here _ _ (lt-ltb (length s) (nextAt s p) h))
+
+        -- the field is whole, and the tests of its contents decide
+        pub field-good : nextAt s p ≤ length s → firstOf (fieldTests s tags n p ++ ts) ≡ firstOf ts
+        field-good h = past-length ∙ first-skip _ _ (le-ltb (length s) (nextAt s p) h)
+
+-- a field that stands there
+pub field-passes : {s : List ℕ} {p : ℕ} {f : Field} → Stands s p f → (tags : List ℕ) (n : Option ℕ) (ts : List Test)
+    → member (f .tag) tags ≡ true → Stated n (length (f .body)) → firstOf (fieldTests s tags n p ++ ts) ≡ firstOf ts
+field-passes {s} {p} {f} h tags n ts t l =
+    field-good s tags n p ts (h .head) (ap (λ (x : ℕ). member x tags) (h .tagged) ∙ t) (subst (Stated n) (sym (h .stated)) l) (h .whole)
+
+-- ---- a field that is not refused
+
+pub record Sound (s tags : List ℕ) (n : Option ℕ) (p : ℕ) : Type 0 where
+  pub head : p + headSize ≤ length s
+  pub tagged : member (tagAt s p) tags ≡ true
+  pub stated : Stated n (lengthAt s p)
+  pub whole : nextAt s p ≤ length s
+
+pub field-clear : (s tags : List ℕ) (n : Option ℕ) (p : ℕ) (ts : List Test) → firstOf (fieldTests s tags n p ++ ts) .number ≡ 0 → Sound s tags n p × (firstOf ts .number ≡ 0)
+field-clear s tags n p ts clear = go n clear
+  where
+    made : (m : Option ℕ) → ltb (length s) (p + headSize) ≡ false → not (member (tagAt s p) tags) ≡ false → Stated m (lengthAt s p) → ltb (length s) (nextAt s p) ≡ false → Sound s tags m p
+    made m a b c d = record { head = ltb-false _ _ a; tagged = not-false _ b; stated = c; whole = ltb-false _ _ d }
+
+    go : (m : Option ℕ) → firstOf (fieldTests s tags m p ++ ts) .number ≡ 0 → Sound s tags m p × (firstOf ts .number ≡ 0)
+    go none e =
+        let a = first-clear _ _ (lit< tt) e in
+        let b = first-clear _ _ (lit< tt) (a .1) in
+        let d = first-clear _ _ (lit< tt) (b .1) in
+        (made none (a .0) (b .0) tt (d .0), d .1)
+    go (some k) e =
+        let a = first-clear _ _ (lit< tt) e in
+        let b = first-clear _ _ (lit< tt) (a .1) in
+        let c = first-clear _ _ (lit< tt) (b .1) in
+        let d = first-clear _ _ (lit< tt) (c .1) in
+        (made (some k) (a .0) (b .0) (eqb-true _ _ (not-false _ (c .0))) (d .0), d .1)
+
+one-of : (x t : ℕ) → member x (t ∷ []) ≡ true → x ≡ t
+unfolding member
+one-of x t e = go (eqb x t) refl e
+  where
+    go : (b : Bool) → eqb x t ≡ b → cond b true false ≡ true → x ≡ t
+    go true q h = eqb-true x t q
+    go false q h = cc
+
+module _ {s : List ℕ} {tag : ℕ} {n : Option ℕ} {p : ℕ} (bytes : Below 256 s) (h : Sound s (tag ∷ []) n p) where
+  -- it is the field of its tag with the body that stands there, written as b
+  pub sound-follows : (b : List ℕ) → bodyAt s p ≡ b → drop p s ≡ fieldBytes (fieldOf tag b) ++ drop (nextAt s p) s
+  sound-follows b e =
+      field-here s p bytes (h .head) (h .whole)
+      ∙ ap₂ (λ (t : ℕ) (l : List ℕ). fieldBytes (fieldOf t l) ++ drop (nextAt s p) s) (one-of (tagAt s p) tag (h .tagged)) e
+
+  pub sound-below : Below 256 (bodyAt s p)
+  sound-below = below-body s p bytes (h .head) (h .whole)
+
+-- a field of k bytes holds the number that they stand for
+pub sound-number : {s : List ℕ} {tag k p : ℕ} → Below 256 s → Sound s (tag ∷ []) (some k) p → bodyAt s p ≡ bytesOf k (numberOf 256 (bodyAt s p))
+sound-number {s} {tag} {k} {p} bytes h =
+    let e : length (bodyAt s p) ≡ k = length-body s p bytes (h .head) (h .whole) ∙ h .stated in
+    sym (ap (λ (j : ℕ). digitsOf 256 j (numberOf 256 (bodyAt s p))) (sym e) ∙ digits-number 256 (bodyAt s p) (sound-below bytes h))
+
+-- a list that is not missing
+pub there : (o : Option (List ℕ)) → missing o ≡ false → (l : List ℕ) × (o ≡ some l)
+there none e = absurd (let z : _≡_ {A = ℕ} 0 1 = cc in omega arith)
+there (some l) e = (l, refl)
+
+-- ---- bytes after a field change none of its tests
+
+module _ (s rest : List ℕ) (p : ℕ) (whole : nextAt s p ≤ length s) where
+  pub field-tests-same : (tags : List ℕ) (n : Option ℕ) → fieldTests (s ++ rest) tags n p ≡ fieldTests s tags n p
+  field-tests-same tags n =
+      let h = head-within s rest p whole in
+      let l = length-append s rest in
+      ap₂ (λ (a : Bool) (t : ℕ). test a 10 p ∷ test (not (member t tags)) 11 p ∷ (lengthTests (s ++ rest) n p ++ (test (ltb (length (s ++ rest)) (nextAt (s ++ rest) p)) 10 p ∷ [])))
+      (le-ltb (length (s ++ rest)) (p + headSize) (omega arith) ∙ sym (le-ltb (length s) (p + headSize) h))
+      (tag-same s rest p h)
+      ∙ ap₂ (λ (m : List Test) (b : Bool). test (ltb (length s) (p + headSize)) 10 p ∷ test (not (member (tagAt s p) tags)) 11 p ∷ (m ++ (test b 10 p ∷ [])))
+      (lengths n)
+      (le-ltb (length (s ++ rest)) (nextAt (s ++ rest) p) (subst (λ (m : ℕ). m ≤ length (s ++ rest)) (sym (next-same s rest p h)) (omega arith))
+      ∙ sym (le-ltb (length s) (nextAt s p) whole))
+    where
+      lengths : (m : Option ℕ) → lengthTests (s ++ rest) m p ≡ lengthTests s m p
+      lengths none = refl
+      lengths (some k) = ap (λ (l : ℕ). test (not (eqb l k)) 12 p ∷ []) (length-same s rest p (head-within s rest p whole))
+
+-- ---- the answer by the tests
+
+-- an answer with number 0 comes of no refusal
+pub answer-quiet : (tests : List Test) (a : Answer) (ts vs : List ℕ) → answerBy tests a ts vs .answer .number ≡ 0 → firstOf tests .number ≡ 0
+answer-quiet tests a ts vs e = go (firstOf tests .number) refl e
+  where
+    go : (n : ℕ) → firstOf tests .number ≡ n → cond (not (eqb n 0)) (refusalAnswer (firstOf tests) ts vs) a .answer .number ≡ 0 → firstOf tests .number ≡ 0
+    go zero q e = q
+    go (suc n) q e = rw (eqb·suc-zero n) at e
+
+module _ (a : Answer) (ts vs : List ℕ) where
+  -- a refusal is the whole answer
+  pub answer-refused : (tests : List Test) (f : Refusal) → f ≡ firstOf tests → (f .number ≡ 0 → ⊥) → answerBy tests a ts vs ≡ refusalAnswer f ts vs
+  answer-refused tests f e d = ap (λ (g : Refusal). cond (refused g) (refusalAnswer g ts vs) a) (sym e) ∙ rw (ne-eqb (f .number) 0 d)
+
+  pub answer-good : (tests : List Test) → firstOf tests ≡ firstOf [] → answerBy tests a ts vs ≡ a
+  answer-good tests e = ap (λ (g : Refusal). cond (refused g) (refusalAnswer g ts vs) a) (e ∙ first-end)

@@ -1,0 +1,140 @@
+-- Reading the record of a run gives that run, whatever bytes follow, and whatever rate is expected and room is lent.
+use mathlib.Core.Path.{_≡_, refl, sym, ap, ap₂, _∙_, subst}
+use mathlib.Core.Bool.{not, cond}
+use mathlib.Core.List.{List, [], _∷_, _++_}
+use mathlib.Core.Option.{Option, none, some}
+use Prim.Native.Nat.{ℕ, _+_, _≤_, _^_}
+use native.Mathlib.Omega.{arith}
+use borrow.Author.Tests.{le-ltb}
+use lib.Dec.{ltb, lit<}
+use lib.ListN.{length, length-append}
+use Rattle.lists.specs.Below.{Below}
+use Rattle.lists.specs.Lists.{member}
+use Rattle.bits.specs.Digits.{bytesOf, numberOf}
+use Rattle.bits.proofs.Digits.{length-digits, number-digits-lt}
+use Rattle.limits.specs.Points.{maxPoints}
+use Rattle.limits.specs.Rates.{isRate}
+use Rattle.limits.proofs.Rates.{rate-high}
+use Rattle.refusals.specs.declared.Refusal.{Refusal}
+use Rattle.refusals.specs.Tests.{Test, test, firstOf, refused}
+use Rattle.refusals.proofs.Tests.{first-skip}
+use Rattle.position_format.specs.Rows.{rows}
+use Rattle.position_format.specs.Positions.{codedPositions, readPositions}
+use Rattle.position_format.proofs.Rows.{rows-good}
+use Rattle.position_format.proofs.Positions.{read-coded}
+use Rattle.position_format.proofs.Sizes.{rows-size}
+use Rattle.ratio_format.specs.Windows.{windowSize}
+use Rattle.ratio_format.specs.Bodies.{codedRatios}
+use Rattle.ratio_format.proofs.Bodies.{nine-bytes}
+use Rattle.record_format.specs.Fields.{fieldOf, headSize, maxBody, fieldBytes, laid, nextAt}
+use Rattle.record_format.specs.Runs.{Run, rateTag, countTag, positionsTag, ratiosTag, rateSize, countSize, fieldsOf, recordOf}
+use Rattle.record_format.specs.Claims.{countPlace, ownTests, ownAnswer, runAnswer}
+use Rattle.record_format.specs.Reading.{Answer, refusalAnswer, recordAnswer, readTests, readWith, rateAt, countAt, positionsAt, ratiosAt, endAt, rateIn, countIn, positionsIn, ratiosIn, missing, listOf, otherRate, lacksRoom, countTests, roomTests, positionsTests, ratiosTests}
+use Rattle.record_format.proofs.Fields.{Stands, Small, StandAll, length-field, length-laid, laid-stand, pastAll, stand-past}
+use Rattle.record_format.proofs.Reading.{field-passes}
+use Rattle.record_format.proofs.Writing.{Fitting}
+
+-- a test before two lists that give the same
+first-cong : (t : Test) (us ts : List Test) → firstOf us ≡ firstOf ts → firstOf (t ∷ us) ≡ firstOf (t ∷ ts)
+unfolding firstOf
+first-cong t us ts e = ap (cond (t .applies) (record { number = t .number; place = t .place })) e
+
+-- ---- the sizes of an accepted run's bodies
+
+module _ (r : Run) (fit : Fitting r) where
+  pub positions-size : length (codedPositions rows (r .positions)) ≤ 18439
+  positions-size = rows-size (r .positions) (fit .valid) (fit .few)
+
+  pub ratios-size : length (codedRatios (r .ratios)) ≤ 36864
+  ratios-size = omega (arith, nine-bytes windowSize [] (r .ratios), fit .paired, fit .few)
+
+  pub fields-small : Small (fieldsOf r)
+  fields-small =
+      (omega (arith, length-digits 256 rateSize (r .rate)), (omega (arith, length-digits 256 countSize (length (r .positions))), (omega (arith, positions-size), (omega (arith, ratios-size), tt))))
+
+  pub length-record : length (recordOf r) ≡ 18 + length (codedPositions rows (r .positions)) + length (codedRatios (r .ratios))
+  unfolding recordOf
+  length-record = length-laid (fieldsOf r) ∙ omega (arith, length-digits 256 rateSize (r .rate), length-digits 256 countSize (length (r .positions)))
+
+-- ---- the fields of a record
+
+module _ (r : Run) (fit : Fitting r) (rest : List ℕ) where
+  abbrev s : List ℕ
+  s = recordOf r ++ rest
+
+  all : StandAll s rateAt (fieldsOf r)
+  unfolding recordOf
+  all = laid-stand [] (fieldsOf r) rest (fields-small r fit)
+
+  at-count : countAt s ≡ countPlace
+  at-count = all .0 .next ∙ omega (arith, length-field (fieldOf rateTag (bytesOf rateSize (r .rate))), length-digits 256 rateSize (r .rate))
+
+  at-end : endAt s ≡ length (recordOf r)
+  unfolding recordOf
+  at-end = stand-past s rateAt (fieldsOf r) all ∙ omega arith
+
+  -- the contents
+  pub rate-is : rateIn s ≡ r .rate
+  rate-is = ap (numberOf 256) (all .0 .within) ∙ number-digits-lt (lit< tt) rateSize (omega (arith, rate-high (r .rate) (fit .listed)))
+
+  pub count-is : countIn s ≡ length (r .positions)
+  count-is = ap (numberOf 256) (all .1 .0 .within) ∙ number-digits-lt (lit< tt) countSize (omega (arith, fit .few))
+
+  pub positions-are : positionsIn s ≡ some (r .positions)
+  positions-are = ap₂ (readPositions rows) count-is (all .1 .1 .0 .within) ∙ read-coded rows rows-good (r .positions) (fit .valid)
+
+  module _ (k : ℕ → List ℕ → Option (List ℕ)) (read : k (length (r .ratios)) (codedRatios (r .ratios)) ≡ some (r .ratios)) where
+    pub ratios-are : ratiosIn k s ≡ some (r .ratios)
+    ratios-are = ap₂ k (count-is ∙ sym (fit .paired)) (all .1 .1 .1 .0 .within) ∙ read
+
+    ratios-pass : firstOf (ratiosTests k s) ≡ firstOf []
+    unfolding member
+    ratios-pass = field-passes (all .1 .1 .1 .0) (ratiosTag ∷ []) none _ refl tt ∙ first-skip _ _ (ap missing ratios-are)
+
+    positions-pass : firstOf (positionsTests s ++ ratiosTests k s) ≡ firstOf []
+    unfolding member
+    positions-pass =
+        field-passes (all .1 .1 .0) (positionsTag ∷ []) none (test (missing (positionsIn s)) 17 (positionsAt s) ∷ ratiosTests k s) refl tt
+        ∙ first-skip _ _ (ap missing positions-are) ∙ ratios-pass
+
+    module _ (e : ℕ) (ts vs : List ℕ) where
+      -- the test of room, and those after it
+      room-passes : firstOf (roomTests s (length ts) (length vs) ++ (positionsTests s ++ ratiosTests k s))
+          ≡ firstOf (test (lacksRoom (length ts) (length vs) (length (r .positions))) 16 countPlace ∷ [])
+      room-passes =
+          ap₂ (λ (c p : ℕ). firstOf (test (lacksRoom (length ts) (length vs) c) 16 p ∷ (positionsTests s ++ ratiosTests k s))) count-is at-count
+          ∙ first-cong _ _ _ positions-pass
+
+      count-passes : firstOf (countTests s ++ (roomTests s (length ts) (length vs) ++ (positionsTests s ++ ratiosTests k s)))
+          ≡ firstOf (test (lacksRoom (length ts) (length vs) (length (r .positions))) 16 countPlace ∷ [])
+      unfolding member
+      count-passes =
+          field-passes (all .1 .0) (countTag ∷ []) (some countSize) (test (ltb maxPoints (countIn s)) 15 (countAt s) ∷ (roomTests s (length ts) (length vs) ++ (positionsTests s ++ ratiosTests k s)))
+          refl (length-digits 256 countSize (length (r .positions)))
+          ∙ first-skip _ _ (le-ltb _ _ (subst (λ (c : ℕ). c ≤ maxPoints) (sym count-is) (fit .few)))
+          ∙ room-passes
+
+      only-own : firstOf (readTests k e s (length ts) (length vs)) ≡ firstOf (ownTests r e (length ts) (length vs))
+      unfolding member
+      only-own =
+          let later = countTests s ++ (roomTests s (length ts) (length vs) ++ (positionsTests s ++ ratiosTests k s)) in
+          field-passes (all .0) (rateTag ∷ []) (some rateSize) (test (not (isRate (rateIn s))) 13 rateAt ∷ test (otherRate e (rateIn s)) 14 rateAt ∷ later)
+          refl (length-digits 256 rateSize (r .rate))
+          ∙ first-skip _ _ (ap (λ (x : ℕ). not (isRate x)) rate-is ∙ ap not (fit .listed))
+          ∙ ap (λ (x : ℕ). firstOf (test (otherRate e x) 14 rateAt ∷ later)) rate-is
+          ∙ first-cong _ _ _ count-passes
+
+      own : recordAnswer k s ts vs ≡ ownAnswer r ts vs
+      own =
+          let a = rate-is in
+          let b = count-is in
+          let c = at-end in
+          let d : listOf (positionsIn s) ≡ r .positions = ap listOf positions-are in
+          let f : listOf (ratiosIn k s) ≡ r .ratios = ap listOf ratios-are in
+          cc
+
+      -- reading the record of a run, whatever follows it
+      pub read-record : readWith k e s ts vs ≡ runAnswer r e ts vs
+      unfolding readWith
+      read-record =
+          ap₂ (λ (f : Refusal) (a : Answer). cond (refused f) (refusalAnswer f ts vs) a) only-own own

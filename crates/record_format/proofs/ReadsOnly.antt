@@ -1,0 +1,109 @@
+-- Strict reading accepts only records: bytes that it accepts begin with the record of a run that the writer accepts.
+use mathlib.Core.Path.{_≡_, sym, ap, _∙_, subst}
+use mathlib.Core.Bool.{true, not}
+use mathlib.Core.List.{List, [], _∷_, _++_}
+use mathlib.Core.Option.{Option, none, some}
+use Prim.Native.Nat.{ℕ, _≤_, _^_}
+use borrow.Author.Tests.{ltb-false, not-false}
+use lib.Dec.{ltb, lit<}
+use lib.ListN.{length, drop}
+use Rattle.lists.specs.Below.{Below}
+use Rattle.bits.specs.Digits.{bytesOf}
+use Rattle.limits.specs.Rates.{isRate}
+use Rattle.limits.specs.Points.{maxPoints}
+use Rattle.refusals.specs.Tests.{Test, test, firstOf}
+use Rattle.refusals.proofs.Tests.{first-clear}
+use Rattle.position_format.specs.Rows.{rows}
+use Rattle.position_format.proofs.Positions.{read-only}
+use Rattle.ratio_format.specs.Bodies.{strictRatios}
+use Rattle.ratio_format.proofs.Strict.{strict-only-body, strict-below}
+use Rattle.record_format.specs.Fields.{bodyAt}
+use Rattle.record_format.specs.Runs.{Run, run, rateTag, countTag, positionsTag, ratiosTag, rateSize, countSize, fieldsOf, recordOf}
+use Rattle.record_format.specs.Reading.{recordAnswer, readTests, readStrict, readWith, rateAt, countAt, positionsAt, ratiosAt, endAt, rateIn, countIn, positionsIn, ratiosIn, missing, otherRate, countTests, roomTests, positionsTests, ratiosTests}
+use Rattle.record_format.proofs.Fields.{Follow, follow-laid}
+use Rattle.record_format.proofs.Reading.{Sound, field-clear, sound-follows, sound-below, sound-number, there, answer-quiet}
+use Rattle.record_format.proofs.Writing.{Fitting}
+
+-- what the tests of reading say of bytes to which none applies
+record Read (s : List ℕ) : Type 0 where
+  rate : Sound s (rateTag ∷ []) (some rateSize) rateAt
+  listed : isRate (rateIn s) ≡ true
+  count : Sound s (countTag ∷ []) (some countSize) (countAt s)
+  few : countIn s ≤ maxPoints
+  positions : Sound s (positionsTag ∷ []) none (positionsAt s)
+  points : (ts : List ℕ) × (positionsIn s ≡ some ts)
+  ratios : Sound s (ratiosTag ∷ []) none (ratiosAt s)
+  values : (vs : List ℕ) × (ratiosIn strictRatios s ≡ some vs)
+
+passed : (e : ℕ) (s : List ℕ) (m n : ℕ) → firstOf (readTests strictRatios e s m n) .number ≡ 0 → Read s
+passed e s m n clear =
+    let last = ratiosTests strictRatios s in
+    let third = positionsTests s ++ last in
+    let second = roomTests s m n ++ third in
+    let a = field-clear s (rateTag ∷ []) (some rateSize) rateAt (test (not (isRate (rateIn s))) 13 rateAt ∷ test (otherRate e (rateIn s)) 14 rateAt ∷ (countTests s ++ second)) clear in
+    let a13 = first-clear _ _ (lit< tt) (a .1) in
+    let a14 = first-clear _ _ (lit< tt) (a13 .1) in
+    let b = field-clear s (countTag ∷ []) (some countSize) (countAt s) (test (ltb maxPoints (countIn s)) 15 (countAt s) ∷ second) (a14 .1) in
+    let b15 = first-clear _ _ (lit< tt) (b .1) in
+    let b16 = first-clear _ _ (lit< tt) (b15 .1) in
+    let c = field-clear s (positionsTag ∷ []) none (positionsAt s) (test (missing (positionsIn s)) 17 (positionsAt s) ∷ last) (b16 .1) in
+    let c17 = first-clear _ _ (lit< tt) (c .1) in
+    let d = field-clear s (ratiosTag ∷ []) none (ratiosAt s) (test (missing (ratiosIn strictRatios s)) 18 (ratiosAt s) ∷ []) (c17 .1) in
+    let d18 = first-clear _ _ (lit< tt) (d .1) in
+    record {
+      rate = a .0;
+      listed = not-false _ (a13 .0);
+      count = b .0;
+      few = ltb-false _ _ (b15 .0);
+      positions = c .0;
+      points = there (positionsIn s) (c17 .0);
+      ratios = d .0;
+      values = there (ratiosIn strictRatios s) (d18 .0);
+    }
+
+-- a run whose record the bytes s begin with
+pub record Begins (s : List ℕ) : Type 0 where
+  pub own : Run
+  pub fits : Fitting own
+  pub ratios : Below (2 ^ 64) (own .ratios)
+  pub rest : List ℕ
+  pub splits : s ≡ recordOf own ++ rest
+
+begins : (s : List ℕ) → Below 256 s → Read s → Begins s
+unfolding recordOf
+begins s bytes h =
+    let ts = h .points .0 in
+    let vs = h .values .0 in
+    let p = read-only rows (countIn s) (bodyAt s (positionsAt s)) ts (h .points .1) in
+    let q = strict-only-body (countIn s) (bodyAt s (ratiosAt s)) vs (h .values .1) in
+    let r = run (rateIn s) ts vs in
+    let follow : Follow s rateAt (fieldsOf r) = (
+      sound-follows bytes (h .rate) _ (sound-number bytes (h .rate)),
+      (
+        sound-follows bytes (h .count) _ (sound-number bytes (h .count) ∙ ap (bytesOf countSize) (sym (p .2))),
+        (
+          sound-follows bytes (h .positions) _ (p .0),
+          (sound-follows bytes (h .ratios) _ (q .0), tt),
+        ),
+      ),
+    ) in
+    record {
+      own = r;
+      fits = record {
+        listed = h .listed;
+        paired = q .1 ∙ sym (p .2);
+        few = subst (λ (k : ℕ). k ≤ maxPoints) (sym (p .2)) (h .few);
+        valid = p .1;
+      };
+      ratios = strict-below (countIn s) (bodyAt s (ratiosAt s)) vs (sound-below bytes (h .ratios)) (h .values .1);
+      rest = drop (endAt s) s;
+      splits = follow-laid s rateAt (fieldsOf r) follow;
+    }
+
+-- bytes that strict reading accepts begin with a run's record
+pub accepted-begins : (e : ℕ) (s ts vs : List ℕ) → Below 256 s → readStrict e s ts vs .answer .number ≡ 0 → Begins s
+unfolding readWith
+accepted-begins e s ts vs bytes h =
+    begins s bytes
+    (passed e s (length ts) (length vs)
+    (answer-quiet (readTests strictRatios e s (length ts) (length vs)) (recordAnswer strictRatios s ts vs) ts vs h))

@@ -1,0 +1,80 @@
+-- Document 01, "The record": fields. The standard term is tag, length, value.
+--   Field          a tag and a body
+--   fieldOf t b    such a field
+--   headSize       how many bytes stand before a field's body
+--   maxBody        the longest body that two bytes can state
+--   fieldBytes f   the bytes of the field f: the tag, the length of the body in two bytes, and the body
+--   laid fs        the fields fs, laid end to end
+--   tagAt s p      the tag of the field at the offset p of the bytes s
+--   lengthAt s p   its stated length
+--   bodyAt s p     its body
+--   nextAt s p     the offset past it
+--   fieldTests s tags n p   the tests of a field at p before those of its contents: whole head, a tag of the list, the stated length where
+--                           one is asked for, whole body
+use mathlib.Core.Bool.{not}
+use mathlib.Core.List.{List, [], _∷_, _++_}
+use mathlib.Core.Option.{Option, none, some}
+use Prim.Native.Nat.{ℕ, _+_, _-_, _^_}
+use lib.Dec.{ltb, eqb}
+use lib.ListN.{length, getD, take, drop}
+use Rattle.lists.specs.Lists.{member}
+use Rattle.bits.specs.Digits.{bytesOf, numberOf}
+use Rattle.refusals.specs.Tests.{Test, test}
+
+-- ---- laid
+
+-- what a record is made of
+pub record Field : Type 0 where
+  pub tag : ℕ
+  pub body : List ℕ
+
+-- a field by its parts
+abbrev pub fieldOf : ℕ → List ℕ → Field
+fieldOf tag body = record { tag = tag; body = body }
+
+-- a tag byte and a two-byte length
+abbrev pub headSize : ℕ
+headSize = 3
+
+-- the largest number that two bytes hold
+abbrev pub maxBody : ℕ
+maxBody = 256 ^ 2 - 1
+
+-- a tag byte, a two-byte length, then the body
+unfoldable pub fieldBytes : Field → List ℕ
+fieldBytes f = f .tag ∷ (bytesOf 2 (length (f .body)) ++ f .body)
+
+-- one after the other
+unfoldable pub laid : List Field → List ℕ
+laid [] = []
+laid (f ∷ fs) = fieldBytes f ++ laid fs
+
+-- ---- read
+
+-- the tag of the field at the offset p
+unfoldable pub tagAt : List ℕ → ℕ → ℕ
+tagAt s p = getD s p 0
+
+-- the length that it states
+unfoldable pub lengthAt : List ℕ → ℕ → ℕ
+lengthAt s p = numberOf 256 (take 2 (drop (p + 1) s))
+
+-- its body
+unfoldable pub bodyAt : List ℕ → ℕ → List ℕ
+bodyAt s p = take (lengthAt s p) (drop (p + headSize) s)
+
+-- the offset past it
+unfoldable pub nextAt : List ℕ → ℕ → ℕ
+nextAt s p = p + headSize + lengthAt s p
+
+-- the stated length, where a field must have one: 12
+abbrev pub lengthTests : List ℕ → Option ℕ → ℕ → List Test
+lengthTests s none p = []
+lengthTests s (some n) p = test (not (eqb (lengthAt s p) n)) 12 p ∷ []
+
+-- whole head, tag, length, whole body
+abbrev pub fieldTests : List ℕ → List ℕ → Option ℕ → ℕ → List Test
+fieldTests s tags n p =
+    test (ltb (length s) (p + headSize)) 10 p
+    ∷ test (not (member (tagAt s p) tags)) 11 p
+    ∷ (lengthTests s n p ++ (test (ltb (length s) (nextAt s p)) 10 p ∷ []))

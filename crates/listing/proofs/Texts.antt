@@ -8,6 +8,7 @@ use lib.IntN.{ℤ}
 use lib.ListN.{length, take, length-append}
 use lib.Seq.{length-take-le}
 use Rattle.lists.specs.Below.{Below}
+use Rattle.limits.specs.Points.{maxPoints}
 use Rattle.record_format.specs.Claims.{ownAnswer}
 use Rattle.record_format.specs.Reading.{Answer, readStrict}
 use Rattle.record_format.specs.Runs.{Run}
@@ -16,7 +17,7 @@ use Rattle.record_format.proofs.Writing.{accepted-fits}
 use Rattle.record_format.proofs.Claims.{reads-only}
 use Rattle.span.specs.Spans.{spanned}
 use Rattle.text.specs.Lines.{refusedLine, listing}
-use Rattle.listing.specs.Printed.{room, runText, textOf, printed}
+use Rattle.listing.specs.Printed.{textLimit, room, runText, textOf, printed}
 
 -- strict reading of s answered r, and left ts and vs
 pub record Read (s : List ℕ) (r : ReadAnswer) (ts vs : List ℕ) : Type 0 where
@@ -35,12 +36,12 @@ read-as {s} p q e = record {
 
 -- the first n numbers of two outputs are a run's
 pub record Held (n : ℕ) (ts vs : List ℕ) : Type 0 where
-  pub few : n ≤ 4096
+  pub few : n ≤ maxPoints
   pub positions : n ≤ length ts
   pub ratios : n ≤ length vs
 
 -- the longest text
-pub longest : {n : ℕ} {ts vs : List ℕ} → Held n ts vs → 80 + 38 * length (take n ts) ≤ 155728
+pub longest : {n : ℕ} {ts vs : List ℕ} → Held n ts vs → 80 + 38 * length (take n ts) ≤ textLimit
 longest {n} {ts} h = omega (arith, length-take-le n ts (h .positions), h .few)
 
 -- an answer by its parts

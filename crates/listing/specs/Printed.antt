@@ -1,17 +1,28 @@
 -- Document 01, "Bytes to compare", the listing: what the program prints.
+--   inputLimit      how many bytes the program reads at most
+--   textLimit       how many bytes it prints at most
 --   room            outputs with room for every run
 --   runText a       the text of the run that a reading answered
 --   textOf a        the text for the answer a of a reading: that run, or the line of the refusal
 --   printed s       the text for the input s, read strictly, with no rate expected
 use mathlib.Core.Bool.{cond}
 use mathlib.Core.List.{List}
-use Prim.Native.Nat.{ℕ}
+use Prim.Native.Nat.{ℕ, _+_, _*_}
 use lib.Dec.{eqb}
 use lib.ListN.{take, replicate}
 use Rattle.limits.specs.Points.{maxPoints}
+use Rattle.record_format.specs.Sizes.{maxRecord}
 use Rattle.record_format.specs.Reading.{Answer, readStrict}
 use Rattle.span.specs.Spans.{spanned}
 use Rattle.text.specs.Lines.{refusedLine, listing}
+
+-- those of the longest record
+abbrev pub inputLimit : ℕ
+inputLimit = maxRecord
+
+-- 80 for the lines of rate, count and span, and 38 for each point
+abbrev pub textLimit : ℕ
+textLimit = 80 + 38 * maxPoints
 
 -- 4,096 numbers, all 0
 unfoldable pub room : List ℕ

@@ -2,36 +2,43 @@
 ghost use mathlib.Core.Path.{_≡_};
 ghost use Prim.Native.Nat.{_≤_};
 ghost use lib.ListN.{length};
-ghost use Rattle.listing.specs.Printed.{room, printed};
+ghost use Rattle.listing.specs.Printed.{inputLimit, textLimit, room, printed};
 ghost use Rattle.text.specs.PlacedAt.{PlacedAt};
 use libc::STDIN_FILENO;
 use libc::STDOUT_FILENO;
+use limits::MAX_POINTS;
 
-// Room for the longest record.
-fn input_room() -> [u8; 55321]
-    ensures { λ r. ⌜ 55321 ≡ length r ⌝ }
+// As many bytes as the program reads: those of the longest record.
+const INPUT: usize = 55321;
+
+// As many bytes as the longest text has: 80 for the first three lines, and 38 for each of 4,096 points.
+const TEXT: usize = 155728;
+
+// Room for the input.
+fn input_room() -> [u8; INPUT]
+    ensures { λ r. ⌜ inputLimit ≡ length r ⌝ }
 {
-    [0; 55321]
+    [0; INPUT]
 }
 
-// Room for the longest text: 80 bytes for the first three lines, and 38 for each of 4,096 points.
-fn output_room() -> [u8; 155728]
-    ensures { λ r. ⌜ 155728 ≡ length r ⌝ }
+// Room for the text.
+fn output_room() -> [u8; TEXT]
+    ensures { λ r. ⌜ textLimit ≡ length r ⌝ }
 {
-    [0; 155728]
+    [0; TEXT]
 }
 
 // Room for the numbers of every run.
-fn numbers_room() -> [u64; 4096]
+fn numbers_room() -> [u64; MAX_POINTS]
     ensures { λ r. ⌜ r ≡ room ⌝ }
 {
-    [0; 4096]
+    [0; MAX_POINTS]
 }
 
 // Puts the text for an input into an output, and returns its length.
 fn print(input: &[u8], out: &mut [u8]) -> usize
-    requires { ⌜ 155728 ≤ length (now out) ⌝ }
-    ensures { λ r. ⌜ PlacedAt 155728 (printed (now (input .entry))) 0 r (now (out .entry)) (now (out .exit)) ⌝ }
+    requires { ⌜ textLimit ≤ length (now out) ⌝ }
+    ensures { λ r. ⌜ PlacedAt textLimit (printed (now (input .entry))) 0 r (now (out .entry)) (now (out .exit)) ⌝ }
 {
     let mut positions = numbers_room();
     let mut ratios = numbers_room();

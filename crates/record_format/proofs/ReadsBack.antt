@@ -29,6 +29,7 @@ use Rattle.ratio_format.proofs.Bodies.{nine-bytes}
 use Rattle.record_format.specs.Fields.{fieldOf, headSize, maxBody, fieldBytes, laid, nextAt}
 use Rattle.record_format.specs.Runs.{Run, rateTag, countTag, positionsTag, ratiosTag, rateSize, countSize, fieldsOf, recordOf}
 use Rattle.record_format.specs.Claims.{countPlace, ownTests, ownAnswer, runAnswer}
+use Rattle.record_format.specs.Sizes.{minRecord}
 use Rattle.record_format.specs.Reading.{Answer, refusalAnswer, recordAnswer, readTests, readWith, rateAt, countAt, positionsAt, ratiosAt, endAt, rateIn, countIn, positionsIn, ratiosIn, missing, listOf, otherRate, lacksRoom, countTests, roomTests, positionsTests, ratiosTests}
 use Rattle.record_format.proofs.Fields.{Stands, Small, StandAll, length-field, length-laid, laid-stand, pastAll, stand-past}
 use Rattle.record_format.proofs.Reading.{field-passes}
@@ -52,7 +53,7 @@ module _ (r : Run) (fit : Fitting r) where
   fields-small =
       (omega (arith, length-digits 256 rateSize (r .rate)), (omega (arith, length-digits 256 countSize (length (r .positions))), (omega (arith, positions-size), (omega (arith, ratios-size), tt))))
 
-  pub length-record : length (recordOf r) ≡ 18 + length (codedPositions rows (r .positions)) + length (codedRatios (r .ratios))
+  pub length-record : length (recordOf r) ≡ minRecord + length (codedPositions rows (r .positions)) + length (codedRatios (r .ratios))
   unfolding recordOf
   length-record = length-laid (fieldsOf r) ∙ omega (arith, length-digits 256 rateSize (r .rate), length-digits 256 countSize (length (r .positions)))
 

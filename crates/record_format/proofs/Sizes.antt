@@ -17,7 +17,7 @@ use Rattle.ratio_format.specs.Bodies.{codedFrom}
 use Rattle.record_format.specs.Fields.{fieldBytes, laid}
 use Rattle.record_format.specs.Runs.{run, recordOf}
 use Rattle.record_format.specs.Claims.{Accepted}
-use Rattle.record_format.specs.Sizes.{Within, NoPoints, longest, Reached}
+use Rattle.record_format.specs.Sizes.{minRecord, Within, NoPoints, longest, Reached}
 use Rattle.record_format.proofs.Writing.{accepted-fits, fitting-accepted}
 use Rattle.record_format.proofs.ReadsBack.{positions-size, ratios-size, length-record}
 use Rattle.record_format.proofs.Longest.{longest-positions, longest-ratios, longest-fits, longest-accepted}
@@ -30,7 +30,7 @@ within r a =
     let v = ratios-size r f in
     (omega arith, omega arith, p, v)
 
-no-bytes : (rate : ℕ) → length (recordOf (run rate [] [])) ≡ 18
+no-bytes : (rate : ℕ) → length (recordOf (run rate [] [])) ≡ minRecord
 unfolding recordOf fieldBytes laid digitsOf eights pack positionBits codedPositions codedFrom
 no-bytes rate = refl
 

@@ -1,4 +1,5 @@
 -- Document 01, "Numbers that bound it": the sizes of a record and of its bodies, as statements. Each is proved in proofs/Sizes.
+--   minRecord, maxRecord   the fewest and the most bytes of a record
 --   Within          an accepted run's record has 18 to 55,321 bytes, its positions' body at most 18,439 and its ratios' at most 36,864
 --   NoPoints        the record of no points has 18 bytes, and at each rate of the list that run is accepted
 --   firstValues f n the values f 0, f 1, .., n of them
@@ -17,17 +18,25 @@ use Rattle.ratio_format.specs.Bodies.{codedRatios}
 use Rattle.record_format.specs.Runs.{Run, run, recordOf}
 use Rattle.record_format.specs.Claims.{Accepted}
 
+-- four heads, the rate and the count
+abbrev pub minRecord : ℕ
+minRecord = 18
+
+-- with the longest bodies
+abbrev pub maxRecord : ℕ
+maxRecord = 55321
+
 -- the bounds, for every accepted run
 abbrev pub Within : Type 0
 Within = (r : Run) → Accepted r
-    → (18 ≤ length (recordOf r))
-    × (length (recordOf r) ≤ 55321)
+    → (minRecord ≤ length (recordOf r))
+    × (length (recordOf r) ≤ maxRecord)
     × (length (codedPositions rows (r .positions)) ≤ 18439)
     × (length (codedRatios (r .ratios)) ≤ 36864)
 
 -- no points: the lower bound is reached
 abbrev pub NoPoints : Type 0
-NoPoints = (rate : ℕ) → (length (recordOf (run rate [] [])) ≡ 18) × (isRate rate ≡ true → Accepted (run rate [] []))
+NoPoints = (rate : ℕ) → (length (recordOf (run rate [] [])) ≡ minRecord) × (isRate rate ≡ true → Accepted (run rate [] []))
 
 -- n values of f, from f 0 on
 unfoldable pub firstValues : {A : Type 0} → (ℕ → A) → ℕ → List A
@@ -48,4 +57,4 @@ longest = run 44100 (firstValues swing maxPoints) (firstValues twoEnds maxPoints
 
 -- the upper bound is reached
 abbrev pub Reached : Type 0
-Reached = Accepted longest × (length (recordOf longest) ≡ 55321)
+Reached = Accepted longest × (length (recordOf longest) ≡ maxRecord)

@@ -14,17 +14,43 @@ use Rattle.listing.proofs.Texts.{Read, read-as, refused-text, run-text,
 use Rattle.listing.proofs.print.Statement.{statement}
 use Rattle.listing.proofs.print.Tie as tie
 
--- what strict reading left
-read : (c : tie.After-read-strict) → Read (c .before .before .before .before .before .before .before .args .input .now) (c .read-strict .result) (c .read-strict .last .1 .1 .0) (c .read-strict .last .1 .1 .1 .0)
-read c = read-as (c .before .before .before .before .numbers-room .ensures) (c .before .before .before .numbers-room2 .ensures) (c .read-strict .ensures)
+-- ---- places: the input, the reading, and a run that was read, as later places see them
+
+abbrev lent : tie.After-numbers-room → tie.After-shared-slice-known
+lent k = k .before .before
+
+abbrev roomy : tie.After-read-strict → tie.After-numbers-room2
+roomy k = k .before .before .before
+
+abbrev entry : tie.After-read-strict → tie.After-shared-slice-known
+entry k = lent (roomy k .before)
+
+abbrev refused : tie.Then1 → tie.After-read-strict
+refused k = k .before .before .before
+
+abbrev answered : tie.Else1 → tie.After-read-strict
+answered k = k .before .before .before
+
+abbrev spanned : tie.After-span → tie.Else1
+spanned k = k .before .before .before
+
+abbrev listed : tie.After-struct-told → tie.After-span
+listed k = k .before .before .before .before
+
+-- ---- what strict reading left
+
+read : (c : tie.After-read-strict) → Read (entry c .before .args .input .now) (c .read-strict .result) (c .read-strict .last .1 .1 .0) (c .read-strict .last .1 .1 .1 .0)
+read c = read-as (roomy c .before .numbers-room .ensures) (roomy c .numbers-room2 .ensures) (c .read-strict .ensures)
 
 -- the input's bytes
 bytes : (c : tie.After-shared-slice-known) → Below 256 (c .before .args .input .now)
 bytes c = below-of 256 (c .before .args .input .now) (λ i. c .shared-slice-known .given i .fits)
 
 -- where nothing was refused, the outputs hold the run's numbers
-run-held : (c : tie.Else1) → Held (c .before .before .before .read-strict .result .count) (c .before .before .before .read-strict .last .1 .1 .0) (c .before .before .before .read-strict .last .1 .1 .1 .0)
-run-held c = held (read (c .before .before .before)) (c .if1 .left) (bytes (c .before .before .before .before .before .before .before .before .before))
+run-held : (c : tie.Else1) → Held (answered c .read-strict .result .count) (answered c .read-strict .last .1 .1 .0) (answered c .read-strict .last .1 .1 .1 .0)
+run-held c = held (read (answered c)) (c .if1 .left) (bytes (entry (answered c)))
+
+-- ---- the needs
 
 numbers-room-requires : tie.Need-numbers-room-requires
 numbers-room-requires c κs = search needs
@@ -48,7 +74,10 @@ same-length : tie.Need-same-length
 same-length c = search needs
 
 returns : tie.Need-returns
-returns c = put-more (omega arith) (put-same (refused-text (read (c .before .before .before .before .before .before .before)) (c .before .before .before .before .if1 .taken)) (c .before .before .put-refused .ensures))
+returns c =
+    let put = c .before .before in
+    let i = put .before .before in
+    put-more (omega arith) (put-same (refused-text (read (refused i)) (i .if1 .taken)) (put .put-refused .ensures))
 
 cast-count : tie.Need-cast-count
 cast-count c = search needs
@@ -63,32 +92,35 @@ span-requires : tie.Need-span-requires
 span-requires c κs = search needs
 
 array-share-prefix-positions-2 : tie.Need-array-share-prefix-positions-2
-array-share-prefix-positions-2 c = run-held (c .before .before .before .before) .positions
+array-share-prefix-positions-2 c = run-held (spanned (c .before)) .positions
 
 slice-aggregate-put-listing : tie.Need-slice-aggregate-put-listing
-slice-aggregate-put-listing c = sym (length-take-le _ _ (run-held (c .before .before .before .before .before) .positions))
+slice-aggregate-put-listing c = sym (length-take-le _ _ (run-held (spanned (c .before .before)) .positions))
 
 array-share-prefix-ratios : tie.Need-array-share-prefix-ratios
-array-share-prefix-ratios c = run-held (c .before .before .before .before .before) .ratios
+array-share-prefix-ratios c = run-held (spanned (c .before .before)) .ratios
 
 slice-aggregate-put-listing-2 : tie.Need-slice-aggregate-put-listing-2
-slice-aggregate-put-listing-2 c = sym (length-take-le _ _ (run-held (c .before .before .before .before .before .before) .ratios))
+slice-aggregate-put-listing-2 c = sym (length-take-le _ _ (run-held (spanned (c .before .before .before)) .ratios))
 
 put-listing-requires : tie.Need-put-listing-requires
 put-listing-requires c κs =
-    let h = run-held (c .before .before .before .before .before .before .before) in
-    (length-take-le _ _ (h .positions) ∙ sym (length-take-le _ _ (h .ratios)), omega (arith, longest h, c .before .before .before .before .before .before .before .before .before .before .before .before .before .before .before .before .before .pre))
+    let k = spanned (listed c) in
+    let h = run-held k in
+    (length-take-le _ _ (h .positions) ∙ sym (length-take-le _ _ (h .ratios)), omega (arith, longest h, entry (answered k) .before .pre))
 
 same-length-2 : tie.Need-same-length-2
 same-length-2 c = search needs
 
 returns-2 : tie.Need-returns-2
 returns-2 c =
-    let a = c .before .before .before .before .before .before .before .span in
-    let fits : SFits w64 (a .result .milliseconds) = record { sfits = c .before .before .before .struct-told .given .1 .1 .0 .1 } in
+    let put = c .before .before in
+    let told = put .before in
+    let a = listed told .span in
+    let k = spanned (listed told) in
+    let fits : SFits w64 (a .result .milliseconds) = record { sfits = told .struct-told .given .1 .1 .0 .1 } in
     let e = toZ-ofZ w64 (a .result .milliseconds) fits ∙ ap (λ (x : SpanAnswer). x .milliseconds) (a .ensures) in
-    put-more (longest (run-held (c .before .before .before .before .before .before .before .before .before .before)))
-    (put-same (run-text (read (c .before .before .before .before .before .before .before .before .before .before .before .before .before)) (c .before .before .before .before .before .before .before .before .before .before .if1 .left) _ e) (c .before .before .put-listing .ensures))
+    put-more (longest (run-held k)) (put-same (run-text (read (answered k)) (k .if1 .left) _ e) (put .put-listing .ensures))
 
 pub print-spec : {M : Type 1} → statement M
 print-spec =

@@ -5,7 +5,7 @@
 --   best v w     the largest sum over the window, at the smallest place that has it; sum 0 of an empty window
 --   xorForm p x  the xor form at place p, where x is the xor
 --   form v w     the form: a reference, else the best xor where its sum is 2 or more, else an exception
-use mathlib.Core.Bool.{Bool, cond}
+use mathlib.Core.Bool.{cond}
 use mathlib.Core.List.{List, [], _∷_}
 use Prim.Native.Nat.{ℕ, _+_, _-_, _/_, _^_}
 use lib.Bits.{bitXor}

@@ -1,3 +1,4 @@
 pub mod Loan
 pub mod Machine
+pub mod Additions
 pub mod Found

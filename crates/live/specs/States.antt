@@ -1,13 +1,15 @@
 -- Kept states by their numbers, and what a step finds, in terms of the definitions over whole states.
 --   badFill fill seen                     no window that took `seen` ratios has this fill
 --   badCounts fill seen                   a live state with these numbers is bad
+--   stateNumber fill seen                 the number of the first test of an addition to such a state that needs no bytes, or 0
 --   stateOf place count seen ratios fill  the reader's state with these cells and numbers
 --   stepFound b c                         the number and the ratio of a step's answer, and how many bytes the step takes
 use mathlib.Core.Bool.{Bool}
 use mathlib.Core.List.{List, []}
 use Prim.Native.Nat.{ℕ, _-_}
+use Rattle.refusals.specs.Tests.{firstOf}
 use Rattle.ratio_format.specs.declared.Cursor.{Cursor}
-use Rattle.ratio_format.specs.Lives.{badWindow, badLive}
+use Rattle.ratio_format.specs.Lives.{badWindow, badLive, stateTests}
 use Rattle.ratio_format.specs.Stepping.{stepAnswer, stepCursor}
 use Rattle.live.specs.declared.stepping.Found.{Found}
 
@@ -18,6 +20,10 @@ badFill fill seen = badWindow (record { ratios = []; fill = fill }) seen
 -- nor does this one
 abbrev pub badCounts : ℕ → ℕ → Bool
 badCounts fill seen = badLive (record { window = record { ratios = []; fill = fill }; seen = seen })
+
+-- 7, 3, or 0
+abbrev pub stateNumber : ℕ → ℕ → ℕ
+stateNumber fill seen = firstOf (stateTests (record { window = record { ratios = []; fill = fill }; seen = seen })) .number
 
 -- a state put together
 abbrev pub stateOf : ℕ → ℕ → ℕ → List ℕ → ℕ → Cursor

@@ -5,7 +5,7 @@ ghost use Prim.Native.Nat.{_<_};
 ghost use lib.ListN.{length, replicate};
 ghost use Rattle.limits.specs.Points.{maxPoints};
 ghost use Rattle.ratio_format.specs.Lives.{addAnswer, addOutput, addState};
-ghost use Rattle.live.specs.States.{badFill, badCounts, stateNumber};
+ghost use Rattle.live.specs.States.{badFill, badCounts, stateNumber, liveOf};
 ghost use Rattle.live.specs.Additions.{wroteAnswer, wroteState, wroteOutput};
 use limits::MAX_POINTS;
 use outputs::Wrote;
@@ -70,31 +70,48 @@ fn refuse(number: u32, state: Live, out: &mut [u8]) -> Addition
     Addition { answer, state }
 }
 
-// The addition to a state that passed its tests, by what a coder of one ratio did with the output: its bytes stand there, or there is no room for them.
-// Nothing here depends on which coder it was.
-fn added(state: Live, ratio: u64, wrote: Wrote, out: &mut [u8]) -> Addition
-    requires { ⌜ state .seen < maxPoints ⌝ }
+// The answer of an addition, and the numbers of the state after it.
+struct Outcome {
+    answer: AddAnswer,
+    fill: u64,
+    seen: u64,
+}
+
+// The addition to a state that passed its tests, by what a coder of one ratio did with the output: its bytes stand there, or there is no room for
+// them. The window's cells are changed in place. Nothing here depends on which coder it was.
+fn added(
+    ratios: &mut [u64; Window::SIZE],
+    fill: u64,
+    seen: u64,
+    ratio: u64,
+    wrote: Wrote,
+    out: &mut [u8],
+) -> Outcome
+    requires { ⌜ seen < maxPoints ⌝ }
     ensures { λ r. ⌜ (r .answer ≡ wroteAnswer wrote)
-        × (r .state ≡ wroteState wrote state ratio)
+        × (liveOf (now (ratios .exit)) (r .fill) (r .seen) ≡ wroteState wrote (liveOf (now (ratios .entry)) fill seen) ratio)
         × (now (out .exit) ≡ wroteOutput wrote (now (out .entry))) ⌝ }
 {
     let Wrote::Done(n) = wrote else {
-        return refuse(6, state, out);
+        clear_bytes(out);
+        let answer = AddAnswer {
+            number: 6,
+            place: 0,
+            length: 0,
+        };
+        return Outcome { answer, fill, seen };
     };
+    let fill = push_cells(ratios, fill, ratio);
     let answer = AddAnswer {
         number: 0,
         place: 0,
         length: n as u64,
     };
-    let window = state.window;
-    let mut ratios = window.ratios;
-    let fill = push_cells(&mut ratios, window.fill, ratio);
-    let next = Window { ratios, fill };
-    let state = Live {
-        window: next,
-        seen: state.seen + 1,
-    };
-    Addition { answer, state }
+    Outcome {
+        answer,
+        fill,
+        seen: seen + 1,
+    }
 }
 
 // One ratio more.
@@ -103,14 +120,25 @@ pub fn add(state: Live, ratio: u64, out: &mut [u8]) -> Addition
         × (r .state ≡ addState state ratio (now (out .entry)))
         × (now (out .exit) ≡ addOutput state ratio (now (out .entry))) ⌝ }
 {
+    let seen = state.seen;
     let window = state.window;
+    let mut ratios = window.ratios;
     let fill = window.fill;
-    let number = test_state(fill, state.seen);
+    let number = test_state(fill, seen);
     if number != 0 {
         return refuse(number, state, out);
     }
-    let ratios = window.ratios;
     let filled = fill as usize;
     let wrote = encode(&ratios[..filled], ratio, out);
-    added(state, ratio, wrote, out)
+    let after = added(&mut ratios, fill, seen, ratio, wrote, out);
+    let answer = after.answer;
+    let next = Window {
+        ratios,
+        fill: after.fill,
+    };
+    let state = Live {
+        window: next,
+        seen: after.seen,
+    };
+    Addition { answer, state }
 }

@@ -8,6 +8,7 @@ use lib.ListN.{length, take}
 use lib.Seq.{length-take-le}
 use Rattle.limits.specs.Points.{maxPoints}
 use Rattle.refusals.specs.Tests.{firstOf}
+use Rattle.ratio_format.specs.declared.Live.{Live}
 use Rattle.ratio_format.specs.Windows.{windowSize}
 use Rattle.ratio_format.specs.Forms.{coded}
 use Rattle.ratio_format.specs.Lives.{badLive, stateTests}
@@ -17,31 +18,31 @@ use Rattle.live.proofs.adding.add.Statement.{statement}
 use Rattle.live.proofs.adding.add.Tie as tie
 
 -- the places: the start, before the test, and where the test passed, before `encode`
-abbrev start : tie.Else1 → tie.Start
+abbrev start : tie.After-test-state → tie.Start
 start c = c .before .before .before .before
 
 abbrev tested : tie.After-encode → tie.Else1
-tested c = c .before .before .before .before
+tested c = c .before .before .before
 
--- what is known where the test passed
-passes : (c : tie.Else1) → firstOf (stateTests (start c .args .state)) .number ≡ 0
+-- the state that is passed, seen from where the test passed
+abbrev state : tie.Else1 → Live
+state c = start (c .before) .args .state
+
+-- what is known there
+passes : (c : tie.Else1) → firstOf (stateTests (state c)) .number ≡ 0
 passes c = sym (c .before .test-state .ensures) ∙ c .if1 .left
 
-good : (c : tie.Else1) → (badLive (start c .args .state) ≡ false) × (start c .args .state .seen < maxPoints)
-good c = state-passed (start c .args .state) (passes c)
+good : (c : tie.Else1) → (badLive (state c) ≡ false) × (state c .seen < maxPoints)
+good c = state-passed (state c) (passes c)
 
-fits : (c : tie.Else1) → start c .args .state .window .fill ≤ windowSize
-fits c =
-    let s = start c .args .state in
-    omega (arith, good-fill (s .window) (s .seen) (good-live s (good c .0) .0))
+fits : (c : tie.Else1) → state c .window .fill ≤ windowSize
+fits c = let s = state c in omega (arith, good-fill (s .window) (s .seen) (good-live s (good c .0) .0))
 
 whole : (c : tie.Start) → length (c .args .state .window .ratios) ≡ windowSize
 whole c = search needs
 
-part : (c : tie.Else1) → let w = start c .args .state .window in length (take (w .fill) (w .ratios)) ≡ w .fill
-part c =
-    let w = start c .args .state .window in
-    length-take-le (w .fill) (w .ratios) (omega (arith, fits c, whole (start c)))
+part : (c : tie.Else1) → let w = state c .window in length (take (w .fill) (w .ratios)) ≡ w .fill
+part c = let w = state c .window in length-take-le (w .fill) (w .ratios) (omega (arith, fits c, whole (start (c .before))))
 
 test-state-requires : tie.Need-test-state-requires
 test-state-requires c κs = search needs
@@ -56,31 +57,31 @@ returns : tie.Need-returns
 returns c =
     let refused = c .before .before in
     let test = refused .before .before in
-    let a = test .before .before .before .before .args in
+    let a = start (test .before) .args in
     gives-tested coded (a .state) (a .ratio) (a .out .now) (test .before .test-state .result) (test .before .test-state .ensures) (test .if1 .taken)
     (refused .refuse .result .answer) (refused .refuse .result .state) (refused .refuse .last .1 .1 .0) (refused .refuse .ensures)
 
 array-share-prefix-ratios : tie.Need-array-share-prefix-ratios
-array-share-prefix-ratios c = omega (arith, fits (c .before), whole (start (c .before)))
+array-share-prefix-ratios c = omega (arith, fits c, whole (start (c .before)))
 
 slice-aggregate-encode : tie.Need-slice-aggregate-encode
-slice-aggregate-encode c = sym (part (c .before .before))
+slice-aggregate-encode c = sym (part (c .before))
 
 encode-requires : tie.Need-encode-requires
-encode-requires c κs = let test = c .before .before .before in omega (arith, fits test, part test)
+encode-requires c κs = let test = c .before .before in omega (arith, fits test, part test)
 
 added-requires : tie.Need-added-requires
-added-requires c κs = good (tested (c .before .before .before)) .1
+added-requires c κs = good (tested (c .before .before .before .before)) .1
 
 same-length-2 : tie.Need-same-length-2
 same-length-2 c = search needs
 
 returns-2 : tie.Need-returns-2
 returns-2 c =
-    let done = c .before .before in
-    let wrote = done .before .before .before .before in
+    let done = c .before .before .before in
+    let wrote = let lent = done .before .before in lent .before .before .before in
     let test = tested wrote in
-    let a = start test .args in
+    let a = start (test .before) .args in
     let g = gives-wrote coded (a .state) (a .ratio) (a .out .now) (passes test) (wrote .encode .result) (wrote .encode .last .1 .1 .0) (wrote .encode .kept .1 .1 .0) (wrote .encode .ensures) in
     let e = done .added .ensures in
     (e .0 ∙ g .0, e .1 ∙ g .1, e .2 ∙ g .2)

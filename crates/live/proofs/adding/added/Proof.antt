@@ -12,30 +12,29 @@ enum-known-wrote c = search needs
 enum-told : tie.Need-enum-told
 enum-told c = search needs
 
-refuse-requires : tie.Need-refuse-requires
-refuse-requires c κs = search needs
+clear-bytes-requires : tie.Need-clear-bytes-requires
+clear-bytes-requires c κs = search needs
 
 same-length : tie.Need-same-length
 same-length c = search needs
 
 returns : tie.Need-returns
 returns c =
-    let refused = c .before .before in
-    let told = refused .before .before in
-    let e = refused .refuse .ensures in
-    rw (told .enum-told .given .1) (e .0, e .1, e .2)
+    let cleared = c .before .before in
+    let told = cleared .before .before in
+    rw (told .enum-told .given .1) (refl, refl, cleared .clear-bytes .ensures)
 
 push-cells-requires : tie.Need-push-cells-requires
 push-cells-requires c κs = search needs
 
-add-t14 : tie.Need-add-t14
-add-t14 c = search needs
+add-t15 : tie.Need-add-t15
+add-t15 c = search needs
 
 returns-2 : tie.Need-returns-2
 returns-2 c =
-    let pushed = c .before in
-    let told = pushed .before .before .before .before in
-    rw (told .before .wrote .given .1) (refl, ap (λ (w : Window). record { window = w; seen = told .before .before .before .before .args .state .seen + 1 }) (pushed .push-cells .ensures), refl)
+    let told = c .before .before .before in
+    let start = told .before .before .before in
+    rw (told .wrote .given .1) (refl, ap (λ (w : Window). record { window = w; seen = start .args .seen + 1 }) (c .push-cells .ensures), refl)
 
 pub added-spec : {M : Type 1} → statement M
 added-spec =
@@ -43,9 +42,9 @@ added-spec =
     (tie.spec
     enum-known-wrote
     enum-told
-    refuse-requires
+    clear-bytes-requires
     same-length
     returns
     push-cells-requires
-    add-t14
+    add-t15
     returns-2)

@@ -5,12 +5,13 @@ use borrow.Author.Needs.{needs}
 use Rattle.refusals.specs.declared.Refusal.{Refusal}
 use Rattle.ratio_format.specs.declared.Live.{Live}
 use Rattle.ratio_format.proofs.Lives.{state-bad, state-many, state-passes}
+use Rattle.live.specs.States.{liveOf}
 use Rattle.live.proofs.adding.test_state.Statement.{statement}
 use Rattle.live.proofs.adding.test_state.Tie as tie
 
 -- the state with these numbers
 abbrev state : tie.Start → Live
-state s = record { window = record { ratios = []; fill = s .args .fill }; seen = s .args .seen }
+state s = liveOf [] (s .args .fill) (s .args .seen)
 
 number : {f g : Refusal} → f ≡ g → g .number ≡ f .number
 number e = sym (ap (λ (f : Refusal). f .number) e)

@@ -1,4 +1,3 @@
-pub mod Loan
 pub mod Machine
 pub mod Additions
 pub mod Found

@@ -25,15 +25,15 @@ module _ (k : Coder) (s : Live) (v : ℕ) (o : List ℕ) where
   gives-tested n e z a u p t =
       let f = add-refused k s v o n z (add-tested k s v o n e z) in (t .0 ∙ sym (f .0), t .1 ∙ sym (f .1), t .2 ∙ sym (f .2))
 
-  -- none does, and the coder left p of the output o
+  -- none does: what the coder did with the output o, which it left as p, decides
   pub gives-wrote : firstOf (stateTests s) .number ≡ 0 → (w : Wrote) (p : List ℕ) → length p ≡ length o → Placed (addBytesBy k s v) w o p
-      → Gives (wroteAnswer w) (wroteState w s v) (wroteOutput w p)
-  gives-wrote z (Done n) p l t =
-      let g = add-good k s v o (add-none k s v o z (t .1)) in (
-        ap (λ (i : ℕ). record { number = 0; place = 0; length = i }) (t .0) ∙ sym (g .0),
-        sym (g .1),
-        t .2 ∙ sym (g .2),
+      → (a : AddAnswer) (u : Live) (l : List ℕ) → (a ≡ wroteAnswer w) × (u ≡ wroteState w s v) × (l ≡ wroteOutput w p) → Gives a u l
+  gives-wrote z (Done n) p e q a u l t =
+      let g = add-good k s v o (add-none k s v o z (q .1)) in (
+        t .0 ∙ ap (λ (i : ℕ). record { number = 0; place = 0; length = i }) (q .0) ∙ sym (g .0),
+        t .1 ∙ sym (g .1),
+        t .2 ∙ q .2 ∙ sym (g .2),
       )
-  gives-wrote z NoRoom p l t =
-      let f = add-refused k s v o 6 (λ q. omega arith) (add-short k s v o z t) in
-      (sym (f .0), sym (f .1), ap (λ (i : ℕ). replicate i 0) l ∙ sym (f .2))
+  gives-wrote z NoRoom p e q a u l t =
+      let f = add-refused k s v o 6 (λ n. omega arith) (add-short k s v o z q) in
+      (t .0 ∙ sym (f .0), t .1 ∙ sym (f .1), t .2 ∙ ap (λ (i : ℕ). replicate i 0) e ∙ sym (f .2))

@@ -17,7 +17,7 @@ use ghost.Atoms.{Atoms}
 use contract.Monad.{Fun}
 use contract.Running.{givenOf, tables}
 use types.Kit.{Given, Item, ‵, _⊛_, ⋆, _$_, _∵_, !, qed, by, move, keep, drop, split, join, fsplit, fsplit3, fjoin, fjoin3, feqL, feqI, suffices, frame, done}
-use types.Run.{look, init, store, stop, hop, fld, from, load, addr, of-opd, and-then, no-more, assigns, land, returns, enter, alloc1, alloc0, params1, pass1, pass0}
+use types.Run.{look, init, store, stop, hop, fld, from, load, addr, of-opd, and-then, no-more, assigns, returns, enter, alloc1, alloc0, params1, pass1, pass0}
 use types.Part.{agg, whole, sub, look-in}
 use types.SemTy.{Body}
 use sound.WpLaws.{FmC}
@@ -37,7 +37,7 @@ use denote.Triple.Table.{cited}
 use denote.Triple.Walked.{says, Stays, stay-ref, stay-none, gave-slice, walkOf, goes-ref, goes-none, goes-gave-slice, ends-at}
 use denote.Exit.{yes}
 use denote.Signature.{plain}
-use Rattle.walks.proofs.Walk.{meets, leaves, with-uint, with-struct, calls-on, opened, closed}
+use Rattle.walks.proofs.Walk.{meets, leaves, with-uint, with-struct, calls-on, opened, closed, holds, local-at, field-at, sets, takes}
 use Rattle.ratio_format.specs.declared.AddAnswer.{AddAnswer}
 use Rattle.ratio_format.specs.declared.Live.{Live}
 use Rattle.ratio_format.specs.Lives.{addAnswer, addState, addOutput}
@@ -128,19 +128,19 @@ module _ {M : Type 1} (𝓤 : URA M) (H : Heap 𝓤) (A : Atoms 𝓤) (W : Given
         move ! (19 ∷ []) $ fsplit ! $ fsplit3 ! $ drop ! $ move ! (21 ∷ []) $ split ! $ move ! (2 ∷ 3 ∷ 0 ∷ []) $
         opened ! tt T.the-type T′.the-laws T′.mir h b o (W .laws .raw-at fullShare T′.mir b o (mach h)) (λ g.
         -- [the state's cell; what it owns; the open borrow; obs; auth; the output's token; what ratio and out own; _8; …; _7; …; _6; …; _5; …; _4; …; _3; …; _2; …; _1; …; room for _0; …]
-        assigns ! (of-opd ! (load ! (from ! (hop ! (look ! 21 refl) (stop !))) (look ! 0 refl))) (from ! (stop !)) (init ! 11 refl (LL.lawful T.the-type T′.the-laws 𝓤 H A W .typed h _ g .0)) $
-        assigns ! (addr ! (from ! (fld ! refl (hop ! (look-in ! 17 (sub ! 0 refl (whole !))) (stop !))))) (from ! (stop !)) (init ! 9 refl (tt, tt)) $
-        assigns ! (agg ! (and-then ! (load ! (from ! (stop !)) (look ! 9 refl)) (and-then ! (load ! (from ! (fld ! refl (stop !))) (look-in ! 17 (sub ! 1 refl (whole !)))) (no-more !)))) (from ! (stop !)) (init ! 7 refl (tt, (tt, (record { fits = room .0 }, tt)))) $
+        sets ! (of-opd ! (load ! (from ! (hop ! (look ! 21 refl) (stop !))) (look ! 0 refl))) (holds ! 11 T.the-type T′.the-laws h refl g) $
+        sets ! (addr ! (from ! (fld ! refl (hop ! (look-in ! 17 (sub ! 0 refl (whole !))) (stop !))))) (init ! 9 refl (tt, tt)) $
+        sets ! (agg ! (and-then ! (local-at ! 9 refl) (and-then ! (field-at ! 17 refl (sub ! 1 refl (whole !))) (no-more !)))) (init ! 7 refl (tt, (tt, (record { fits = room .0 }, tt)))) $
         -- `add`
         move ! (6 ∷ []) $ fsplit ! $ drop ! $ with-uint ! w64 v v-fits $ with-struct ! T.the-type T′.the-plain h _ g $ move ! (6 ∷ 0 ∷ []) $
         calls-on ! fm core.ended (core.clauses 𝓤 H A at-mem run) known (((κ′, tt), (q′, tt), tt, (h, (v, (x, tt))), (mach h ∷ [], (vint w64 v ∷ [], (s ∷ [], tt)))), tt) Tok refl refl (λ r zs. Said h v ys r (zs .1 .1 .0)) (λ r zs. id⊢ 𝓤 _) machA (LL.tells TA.the-type TA′.the-laws)
-        (and-then ! (load ! (from ! (stop !)) (look ! 10 refl)) (and-then ! (load ! (from ! (stop !)) (look ! 18 refl)) (and-then ! (load ! (from ! (stop !)) (look ! 6 refl)) (no-more !)))) (λ r zs e is.
+        (and-then ! (local-at ! 10 refl) (and-then ! (local-at ! 18 refl) (and-then ! (local-at ! 6 refl) (no-more !)))) (λ r zs e is.
         drop ! $ move ! (1 ∷ []) $ fsplit ! $ drop ! $ fsplit ! $ drop ! $ fsplit ! $ fsplit ! $ move ! (1 ∷ []) $ feqL ! (λ l.
-        land ! (from ! (stop !)) (init ! 16 refl (LL.lawful TA.the-type TA′.the-laws 𝓤 H A W .typed r _ is .0)) $
+        takes ! (holds ! 16 TA.the-type TA′.the-laws r refl is) $
         -- [the last list; true; the output's token; the state's cell; what it owned; the open borrow; obs; auth; _8; …; _7; …; _6; …; _5; …; _4; …; _3; …; _2; …; _1; …; room for _0; …]
-        assigns ! (of-opd ! (load ! (from ! (fld ! refl (stop !))) (look-in ! 16 (sub ! 1 refl (whole !))))) (from ! (stop !)) (init ! 14 refl (LL.lawful T.the-type T′.the-laws 𝓤 H A W .typed (r .state) _ (state-is r is) .0)) $
-        assigns ! (of-opd ! (load ! (from ! (stop !)) (look ! 14 refl))) (from ! (hop ! (look ! 22 refl) (stop !))) (store ! 3 refl (LL.lawful T.the-type T′.the-laws 𝓤 H A W .typed (r .state) _ (state-is r is) .0)) $
-        assigns ! (of-opd ! (load ! (from ! (fld ! refl (stop !))) (look-in ! 16 (sub ! 0 refl (whole !))))) (from ! (stop !)) (init ! 24 refl (LL.lawful TD.the-type TD′.the-laws 𝓤 H A W .typed (r .answer) _ (answer-is r is) .0)) $
+        sets ! (of-opd ! (field-at ! 16 refl (sub ! 1 refl (whole !)))) (holds ! 14 T.the-type T′.the-laws (r .state) refl (state-is r is)) $
+        assigns ! (of-opd ! (local-at ! 14 refl)) (from ! (hop ! (look ! 22 refl) (stop !))) (store ! 3 refl (LL.lawful T.the-type T′.the-laws 𝓤 H A W .typed (r .state) _ (state-is r is) .0)) $
+        sets ! (of-opd ! (field-at ! 16 refl (sub ! 0 refl (whole !)))) (holds ! 24 TD.the-type TD′.the-laws (r .answer) refl (answer-is r is)) $
         -- the borrow is closed at the new state
         owned ! T.the-row (Is T.the-row) (LL.makes T.the-type T′.the-plain 𝓤 H A) (r .state) _ (state-is r is) $ move ! (4 ∷ 0 ∷ 6 ∷ 7 ∷ 8 ∷ []) $
         closed ! tt T.the-type T′.the-laws (r .state) b o (W .laws .at-raw fullShare T′.mir b o (mach (r .state))) $

@@ -13,6 +13,7 @@ use Rattle.ratio_format.specs.Windows.{windowSize}
 use Rattle.ratio_format.specs.Forms.{coded}
 use Rattle.ratio_format.specs.Lives.{badLive, stateTests}
 use Rattle.ratio_format.proofs.Lives.{good-fill, good-live, state-passed}
+use Rattle.live.specs.States.{liveOf}
 use Rattle.live.proofs.Additions.{gives-tested, gives-wrote}
 use Rattle.live.proofs.adding.add.Statement.{statement}
 use Rattle.live.proofs.adding.add.Tie as tie
@@ -82,9 +83,9 @@ returns-2 c =
     let wrote = let lent = done .before .before in lent .before .before .before in
     let test = tested wrote in
     let a = start (test .before) .args in
-    let g = gives-wrote coded (a .state) (a .ratio) (a .out .now) (passes test) (wrote .encode .result) (wrote .encode .last .1 .1 .0) (wrote .encode .kept .1 .1 .0) (wrote .encode .ensures) in
-    let e = done .added .ensures in
-    (e .0 ∙ g .0, e .1 ∙ g .1, e .2 ∙ g .2)
+    let r = done .added in
+    gives-wrote coded (a .state) (a .ratio) (a .out .now) (passes test) (wrote .encode .result) (wrote .encode .last .1 .1 .0) (wrote .encode .kept .1 .1 .0) (wrote .encode .ensures)
+    (r .result .answer) (liveOf (r .last .0) (r .result .fill) (r .result .seen)) (r .last .1 .1 .1 .1 .1 .0) (r .ensures)
 
 pub add-spec : {M : Type 1} → statement M
 add-spec =

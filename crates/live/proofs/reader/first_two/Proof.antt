@@ -16,8 +16,8 @@ use ghost.Atoms.{Atoms}
 use contract.Monad.{Fun}
 use contract.Running.{givenOf, tables}
 use types.Kit.{Given, Item, ‵, given, _⊛_, ⋆, _$_, _∵_, !, qed, by, move, drop, use1, split, join, learn, fsplit, fjoin, suffices, frame, done}
-use types.Run.{look, init, stop, fld, from, load, addr, of-opd, and-then, no-more, assigns, land, returns, enter, alloc1, alloc0, params1, pass1, pass0}
-use types.Part.{agg, whole, sub, look-in}
+use types.Run.{look, init, stop, from, addr, of-opd, and-then, no-more, returns, enter, alloc1, alloc0, params1, pass1, pass0}
+use types.Part.{agg, whole, sub}
 use contract.BorrowLft.{meet-⊑-right}
 use sound.WpLaws.{FmC}
 use denote.RattleType.{RattleType, owns}
@@ -39,7 +39,7 @@ use denote.Triple.Statement.{Contract, Triple}
 use denote.Triple.Table.{cited}
 use denote.Triple.Walked.{says, Stays, stay-none, stay-none-slice, walkOf, goes-none, goes-none-slice, ends-at}
 use denote.Signature.{plain}
-use Rattle.walks.proofs.Walk.{meets, leaves, with-uint, calls-on, lentFor, lends-local, had-back}
+use Rattle.walks.proofs.Walk.{meets, leaves, with-uint, calls-on, lentFor, lends-local, had-back, holds, local-at, field-at, sets, takes}
 use Rattle.refusals.specs.declared.Refusal.{Refusal}
 use Rattle.ratio_format.specs.declared.Cursor.{Cursor}
 use Rattle.ratio_format.specs.declared.StepAnswer.{StepAnswer}
@@ -211,32 +211,32 @@ module _ {M : Type 1} (𝓤 : URA M) (H : Heap 𝓤) (A : Atoms 𝓤) (W : Given
         -- [the token; what x owns; _12; …; _11; …; _10; …; _9; …; _8; …; _7; …; _6; …; _5; …; _4; …; _3; …; _2; …; _1; …; room for _0; …]
         move ! (1 ∷ []) $ use1 W (‵ Own ⊛ ‵ Own) (shr-slice-copy 𝓤 H A W (named 0) κ u8 .twice x (sliced x ∷ [])) $ split ! $ nothing ! $ with-uint ! w64 n n-fits $ move ! (1 ∷ 0 ∷ []) $ fjoin ! $ move ! (2 ∷ 0 ∷ []) $
         calls-on ! fm make.ended (make.clauses 𝓤 H A at-mem run) known-make (((κ, tt), (q, tt), tt, a, vals), tt) Tok refl refl (λ m ws. Said m) (λ m ws. id⊢ 𝓤 _) machG (LL.tells D′ L′)
-        (and-then ! (load ! (from ! (stop !)) (look ! 24 refl)) (and-then ! (load ! (from ! (stop !)) (look ! 22 refl)) (no-more !))) (λ m _ e is.
-        move ! (2 ∷ []) $ drop ! $ land ! (from ! (stop !)) (init ! 21 refl (LL.lawful D′ L′ 𝓤 H A W .typed m _ is .0)) $
+        (and-then ! (local-at ! 24 refl) (and-then ! (local-at ! 22 refl) (no-more !))) (λ m _ e is.
+        move ! (2 ∷ []) $ drop ! $ takes ! (holds ! 21 D′ L′ m refl is) $
         -- what the reader owns is taken out
         use1 W (given (machG m ∷ [] ≡ machG m ∷ []) (‵ (all-own (D′ .parts) L′ (vm m)))) (own-open 𝓤 H A W D′ L′ (vm m) (machG m)) $ learn ! (λ _. use1 W (‵ (ownAt (D′ .parts) L′ 2 (m .reader)) ⊛ ‵ (rest (D′ .parts) L′ 2 (vm m))) (own-out 𝓤 H A W (D′ .parts) L′ 2 (vm m)) $ split ! $ move ! (1 ∷ []) $ drop ! $
         -- [what the reader owns; the token; what x owns; _12; …]
-        assigns ! (of-opd ! (load ! (from ! (fld ! refl (stop !))) (look-in ! 21 (sub ! 2 refl (whole !))))) (from ! (stop !)) (init ! 11 refl (LL.lawful D L 𝓤 H A W .typed (m .reader) _ (reader-is m is) .0)) $
-        assigns ! (of-opd ! (load ! (from ! (stop !)) (look ! 11 refl))) (from ! (stop !)) (init ! 19 refl (LL.lawful D L 𝓤 H A W .typed (m .reader) _ (reader-is m is) .0)) $
-        assigns ! (addr ! (from ! (stop !))) (from ! (stop !)) (init ! 9 refl (tt, tt)) $
+        sets ! (of-opd ! (field-at ! 21 refl (sub ! 2 refl (whole !)))) (holds ! 11 D L (m .reader) refl (reader-is m is)) $
+        sets ! (of-opd ! (local-at ! 11 refl)) (holds ! 19 D L (m .reader) refl (reader-is m is)) $
+        sets ! (addr ! (from ! (stop !))) (init ! 9 refl (tt, tt)) $
         move ! (19 ∷ []) $ use1 W (‵ (cellAt fullShare (B .mir) (mach (m .reader) ∷ []) l₄ 0)) (W .laws .at-raw fullShare (T′.mir erased) l₄ 0 (mach (m .reader))) $
         move ! (2 ∷ []) $ split ! $ move ! (2 ∷ 3 ∷ 0 ∷ []) $
         -- [_4; what the reader owns; κ's token; true; what x owns; _12; …; _11; …; _10; …; _9; …; _8; …; _7; …; _6; …; _5; …; dies _4; _3; …; _2; …; _1; …; room for _0; …]: it is lent for α ∷ κ, which κ outlives
         lends-local ! tt B κ q l₄ (named 0) (m .reader) (mach (m .reader) ∷ []) (λ α₁ δ₁.
         calls-on ! fm next.ended (next.clauses 𝓤 H A at-mem run) known-next (to-next α₁ l₄ δ₁ (m .reader)) (lentFor κ q α₁) refl refl (λ t zs. SaidNext (m .reader) t (zs .0)) (λ t zs. id⊢ 𝓤 _) machR (LL.tells TS.the-type TS′.the-laws)
-        (and-then ! (load ! (from ! (stop !)) (look ! 11 refl)) (no-more !)) (λ t₁ zs₁ e₁ is₁.
-        drop ! $ land ! (from ! (stop !)) (init ! 20 refl (LL.lawful TS.the-type TS′.the-laws 𝓤 H A W .typed t₁ _ is₁ .0)) $ had-back ! tt B κ q l₄ (zs₁ .0) (LL.vals D L) (LL.tells D L) $
-        assigns ! (addr ! (from ! (stop !))) (from ! (stop !)) (init ! 9 refl (tt, tt)) $
+        (and-then ! (local-at ! 11 refl) (no-more !)) (λ t₁ zs₁ e₁ is₁.
+        drop ! $ takes ! (holds ! 20 TS.the-type TS′.the-laws t₁ refl is₁) $ had-back ! tt B κ q l₄ (zs₁ .0) (LL.vals D L) (LL.tells D L) $
+        sets ! (addr ! (from ! (stop !))) (init ! 9 refl (tt, tt)) $
         lends-local ! tt B κ q l₄ (named 0) (zs₁ .0) (mach (zs₁ .0) ∷ []) (λ α₂ δ₂.
         calls-on ! fm next.ended (next.clauses 𝓤 H A at-mem run) known-next (to-next α₂ l₄ δ₂ (zs₁ .0)) (lentFor κ q α₂) refl refl (λ t zs. SaidNext (zs₁ .0) t (zs .0)) (λ t zs. id⊢ 𝓤 _) machR (LL.tells TS.the-type TS′.the-laws)
-        (and-then ! (load ! (from ! (stop !)) (look ! 9 refl)) (no-more !)) (λ t₂ zs₂ e₂ is₂.
-        drop ! $ land ! (from ! (stop !)) (init ! 18 refl (LL.lawful TS.the-type TS′.the-laws 𝓤 H A W .typed t₂ _ is₂ .0)) $ had-back ! tt B κ q l₄ (zs₂ .0) (LL.vals D L) (LL.tells D L) $
+        (and-then ! (local-at ! 9 refl) (no-more !)) (λ t₂ zs₂ e₂ is₂.
+        drop ! $ takes ! (holds ! 18 TS.the-type TS′.the-laws t₂ refl is₂) $ had-back ! tt B κ q l₄ (zs₂ .0) (LL.vals D L) (LL.tells D L) $
         use1 W (‵ (fat fullShare (T′.mir erased) l₄ 0 (mach (zs₂ .0)))) (W .laws .raw-at fullShare (T′.mir erased) l₄ 0 (mach (zs₂ .0))) $ move ! (1 ∷ []) $ drop ! $
         -- [_4; κ's token; true; what x owns; _12; …; _11; …; _10; …; _9; …; _8; …; _7; …; _6; …; _5; …; dies _4; _3; …; _2; …; _1; …; room for _0; …]
-        assigns ! (of-opd ! (load ! (from ! (fld ! refl (stop !))) (look-in ! 21 (sub ! 0 refl (whole !))))) (from ! (stop !)) (init ! 6 refl (tt, record { fits = number-fits m is })) $
-        assigns ! (of-opd ! (load ! (from ! (fld ! refl (stop !))) (look-in ! 21 (sub ! 1 refl (whole !))))) (from ! (stop !)) (init ! 4 refl (tt, record { fits = place-fits m is })) $
-        assigns ! (agg ! (and-then ! (load ! (from ! (stop !)) (look ! 6 refl)) (and-then ! (load ! (from ! (stop !)) (look ! 4 refl)) (no-more !)))) (from ! (stop !)) (init ! 14 refl (tt, (record { fits = number-fits m is }, (record { fits = place-fits m is }, tt)))) $
-        assigns ! (agg ! (and-then ! (load ! (from ! (stop !)) (look ! 14 refl)) (and-then ! (load ! (from ! (stop !)) (look ! 18 refl)) (and-then ! (load ! (from ! (stop !)) (look ! 16 refl)) (no-more !))))) (from ! (stop !)) (init ! 27 refl (LL.lawful TW.the-type TW′.the-laws 𝓤 H A W .typed (record { made = answer m; first = t₁; second = t₂ }) _ (two-is (answer m) t₁ t₂ (answer-is m is) is₁ is₂) .0)) $
+        sets ! (of-opd ! (field-at ! 21 refl (sub ! 0 refl (whole !)))) (init ! 6 refl (tt, record { fits = number-fits m is })) $
+        sets ! (of-opd ! (field-at ! 21 refl (sub ! 1 refl (whole !)))) (init ! 4 refl (tt, record { fits = place-fits m is })) $
+        sets ! (agg ! (and-then ! (local-at ! 6 refl) (and-then ! (local-at ! 4 refl) (no-more !)))) (init ! 14 refl (tt, (record { fits = number-fits m is }, (record { fits = place-fits m is }, tt)))) $
+        sets ! (agg ! (and-then ! (local-at ! 14 refl) (and-then ! (local-at ! 18 refl) (and-then ! (local-at ! 16 refl) (no-more !))))) (holds ! 27 TW.the-type TW′.the-laws (record { made = answer m; first = t₁; second = t₂ }) refl (two-is (answer m) t₁ t₂ (answer-is m is) is₁ is₂)) $
         move ! (2 ∷ []) $ drop ! $ returns ! (look ! 26 refl) $
         -- _4 goes back to its place
         move ! (1 ∷ 2 ∷ 3 ∷ 4 ∷ 5 ∷ 6 ∷ 7 ∷ 8 ∷ 9 ∷ 10 ∷ 11 ∷ 12 ∷ 13 ∷ 14 ∷ 15 ∷ 16 ∷ 17 ∷ 18 ∷ 0 ∷ []) $ leaves ! 2 (_ ∷ _ ∷ _ ∷ _ ∷ _ ∷ _ ∷ _ ∷ _ ∷ _ ∷ _ ∷ _ ∷ _ ∷ _ ∷ []) refl $

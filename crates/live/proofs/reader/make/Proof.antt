@@ -15,8 +15,8 @@ use ghost.Atoms.{Atoms}
 use contract.Monad.{Fun}
 use contract.Running.{givenOf, tables}
 use types.Kit.{Given, Item, ‵, _⊛_, ⋆, _$_, _∵_, !, qed, by, move, drop, use1, split, fsplit, fjoin, suffices, frame}
-use types.Run.{look, init, stop, fld, from, load, of-opd, and-then, no-more, assigns, land, returns, enter, alloc1, alloc0, params1, pass1, pass0}
-use types.Part.{agg, whole, sub, look-in}
+use types.Run.{look, init, of-opd, and-then, no-more, returns, enter, alloc1, alloc0, params1, pass1, pass0}
+use types.Part.{agg, whole, sub}
 use sound.WpLaws.{FmC}
 use denote.RattleType.{owns}
 use denote.Laws.{Is}
@@ -35,7 +35,7 @@ use denote.Triple.Statement.{Contract, Triple}
 use denote.Triple.Table.{cited}
 use denote.Triple.Walked.{says, Stays, stay-none, stay-none-slice, walkOf, goes-none, goes-none-slice, ends-at}
 use denote.Signature.{plain, namedLft}
-use Rattle.walks.proofs.Walk.{meets, leaves, with-uint, with-struct, calls-on}
+use Rattle.walks.proofs.Walk.{meets, leaves, with-uint, with-struct, calls-on, holds, local-at, field-at, sets, takes}
 use Rattle.refusals.specs.declared.Refusal.{Refusal}
 use Rattle.ratio_format.specs.declared.Cursor.{Cursor}
 use Rattle.ratio_format.specs.Stepping.{made, madeBody, madeCursor}
@@ -177,20 +177,20 @@ module _ {M : Type 1} (𝓤 : URA M) (H : Heap 𝓤) (A : Atoms 𝓤) (W : Given
         -- [the token; what x owns; _9; …; _8; …; _7; …; _6; …; _5; …; _4; …; _3; …; _2; …; _1; …; room for _0; …]
         nothing ! $ with-uint ! w64 n n-fits $ nothing ! $
         calls-on ! fm begin.ended (begin.clauses 𝓤 H A at-mem run) known-begin ((tt, tt, tt, (n, tt), (vint w64 n ∷ [], tt)), tt) (‵ ftrue) refl refl (λ r ws. Began r) (λ r ws. id⊢ 𝓤 _) machX (LL.tells TX.the-type TX′.the-laws)
-        (and-then ! (load ! (from ! (stop !)) (look ! 17 refl)) (no-more !)) (λ r _ e is.
-        drop ! $ drop ! $ drop ! $ land ! (from ! (stop !)) (init ! 14 refl (LL.lawful TX.the-type TX′.the-laws 𝓤 H A W .typed r _ is .0)) $
-        assigns ! (of-opd ! (load ! (from ! (fld ! refl (stop !))) (look-in ! 14 (sub ! 0 refl (whole !))))) (from ! (stop !)) (init ! 12 refl (LL.lawful TF.the-type TF′.the-laws 𝓤 H A W .typed (r .refusal) _ (refusal-is r is) .0)) $
-        assigns ! (of-opd ! (load ! (from ! (fld ! refl (stop !))) (look-in ! 14 (sub ! 1 refl (whole !))))) (from ! (stop !)) (init ! 10 refl (LL.lawful TC.the-type TC′.the-laws 𝓤 H A W .typed (r .cursor) _ (cursor-is r is) .0)) $
-        assigns ! (of-opd ! (load ! (from ! (fld ! refl (stop !))) (look-in ! 10 (sub ! 3 refl (whole !))))) (from ! (stop !)) (init ! 8 refl (LL.lawful TW.the-type TW′.the-laws 𝓤 H A W .typed (r .cursor .window) _ (window-is (r .cursor) (cursor-is r is)) .0)) $
+        (and-then ! (local-at ! 17 refl) (no-more !)) (λ r _ e is.
+        drop ! $ drop ! $ drop ! $ takes ! (holds ! 14 TX.the-type TX′.the-laws r refl is) $
+        sets ! (of-opd ! (field-at ! 14 refl (sub ! 0 refl (whole !)))) (holds ! 12 TF.the-type TF′.the-laws (r .refusal) refl (refusal-is r is)) $
+        sets ! (of-opd ! (field-at ! 14 refl (sub ! 1 refl (whole !)))) (holds ! 10 TC.the-type TC′.the-laws (r .cursor) refl (cursor-is r is)) $
+        sets ! (of-opd ! (field-at ! 10 refl (sub ! 3 refl (whole !)))) (holds ! 8 TW.the-type TW′.the-laws (r .cursor .window) refl (window-is (r .cursor) (cursor-is r is))) $
         -- what the body owns is had twice; one copy goes to the callee
         move ! (1 ∷ []) $ use1 W (‵ (Own x) ⊛ ‵ (Own x)) (shr-slice-copy 𝓤 H A W (named 0) κ u8 .twice x (sliced x ∷ [])) $ split ! $ nothing ! $ with-uint ! w64 n n-fits $ move ! (1 ∷ 0 ∷ []) $ fjoin ! $ move ! (2 ∷ 0 ∷ []) $
         calls-on ! fm body.ended (body.clauses 𝓤 H A at-mem run) known-body (((κ, tt), (q, tt), tt, a, vals), tt) Tok refl refl (λ z ws. Kept z) (λ z ws. id⊢ 𝓤 _) sliced (shr-slice-tells (named 0) κ u8)
-        (and-then ! (load ! (from ! (stop !)) (look ! 18 refl)) (and-then ! (load ! (from ! (stop !)) (look ! 16 refl)) (no-more !))) (λ z _ ez zis.
-        move ! (2 ∷ []) $ drop ! $ land ! (from ! (stop !)) (init ! 7 refl (shr-slice-lawful 𝓤 H A W erased κ u8 .typed z (sliced z ∷ []) zis .0)) $
+        (and-then ! (local-at ! 18 refl) (and-then ! (local-at ! 16 refl) (no-more !))) (λ z _ ez zis.
+        move ! (2 ∷ []) $ drop ! $ takes ! (init ! 7 refl (shr-slice-lawful 𝓤 H A W erased κ u8 .typed z (sliced z ∷ []) zis .0)) $
         -- [what z owns; the token; what x owns; _9; …; _8; …; _7; …; _6; …; _5; …; _4; …; _3; …; _2; …; _1; …; room for _0; …]
-        assigns ! (agg ! (and-then ! (load ! (from ! (stop !)) (look ! 7 refl)) (and-then ! (load ! (from ! (fld ! refl (stop !))) (look-in ! 11 (sub ! 0 refl (whole !)))) (and-then ! (load ! (from ! (fld ! refl (stop !))) (look-in ! 11 (sub ! 1 refl (whole !)))) (and-then ! (load ! (from ! (fld ! refl (stop !))) (look-in ! 11 (sub ! 2 refl (whole !)))) (and-then ! (load ! (from ! (stop !)) (look ! 9 refl)) (no-more !))))))) (from ! (stop !)) (init ! 5 refl (LL.lawful (T.the-type αᵉ) (T′.the-laws αᵉ) 𝓤 H A W .typed (reader z (r .cursor)) _ (reader-is z (r .cursor) zis (cursor-is r is)) .0)) $
-        assigns ! (of-opd ! (load ! (from ! (stop !)) (look ! 5 refl))) (from ! (stop !)) (init ! 3 refl (LL.lawful (T.the-type αᵉ) (T′.the-laws αᵉ) 𝓤 H A W .typed (reader z (r .cursor)) _ (reader-is z (r .cursor) zis (cursor-is r is)) .0)) $
-        assigns ! (agg ! (and-then ! (load ! (from ! (fld ! refl (stop !))) (look-in ! 13 (sub ! 0 refl (whole !)))) (and-then ! (load ! (from ! (fld ! refl (stop !))) (look-in ! 13 (sub ! 1 refl (whole !)))) (and-then ! (load ! (from ! (stop !)) (look ! 3 refl)) (no-more !))))) (from ! (stop !)) (init ! 21 refl (LL.lawful D′ L′ 𝓤 H A W .typed (making z r) _ (making-is z r (refusal-is r is) (cursor-is r is) zis) .0)) $
+        sets ! (agg ! (and-then ! (local-at ! 7 refl) (and-then ! (field-at ! 11 refl (sub ! 0 refl (whole !))) (and-then ! (field-at ! 11 refl (sub ! 1 refl (whole !))) (and-then ! (field-at ! 11 refl (sub ! 2 refl (whole !))) (and-then ! (local-at ! 9 refl) (no-more !))))))) (holds ! 5 (T.the-type αᵉ) (T′.the-laws αᵉ) (reader z (r .cursor)) refl (reader-is z (r .cursor) zis (cursor-is r is))) $
+        sets ! (of-opd ! (local-at ! 5 refl)) (holds ! 3 (T.the-type αᵉ) (T′.the-laws αᵉ) (reader z (r .cursor)) refl (reader-is z (r .cursor) zis (cursor-is r is))) $
+        sets ! (agg ! (and-then ! (field-at ! 13 refl (sub ! 0 refl (whole !))) (and-then ! (field-at ! 13 refl (sub ! 1 refl (whole !))) (and-then ! (local-at ! 3 refl) (no-more !))))) (holds ! 21 D′ L′ (making z r) refl (making-is z r (refusal-is r is) (cursor-is r is) zis)) $
         returns ! (look ! 21 refl) $ leaves ! 3 (_ ∷ _ ∷ _ ∷ _ ∷ _ ∷ _ ∷ _ ∷ _ ∷ _ ∷ _ ∷ []) refl $
         by ! (exits z r (refusal-is r is) (cursor-is r is) e ez)))))))))))))
 

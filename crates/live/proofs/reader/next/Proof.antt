@@ -17,7 +17,7 @@ use contract.Monad.{Fun}
 use contract.Lifetimes.{AllOutlive}
 use contract.Running.{givenOf, tables}
 use types.Kit.{Given, Item, ‵, given, _⊛_, ⋆, _$_, _∵_, !, qed, by, move, keep, drop, use1, use2, split, join, learn, fsplit, fsplit3, fjoin, fjoin3, feqI, suffices, frame, done}
-use types.Run.{look, init, stop, hop, fld, from, load, of-opd, and-then, no-more, assigns, land, returns, enter, alloc1, alloc0, params1, pass1, pass0}
+use types.Run.{look, init, stop, hop, fld, from, load, of-opd, and-then, no-more, assigns, returns, enter, alloc1, alloc0, params1, pass1, pass0}
 use types.Part.{agg, whole, sub, look-in, store-in}
 use types.SemTy.{Body}
 use sound.WpLaws.{FmC}
@@ -38,7 +38,7 @@ use denote.Triple.Statement.{Contract, Triple}
 use denote.Triple.Table.{cited}
 use denote.Triple.Walked.{says, Stays, stay-ref, walkOf, goes-ref, ends-at}
 use denote.Signature.{Slot, plain, namedLft}
-use Rattle.walks.proofs.Walk.{meets, leaves, with-struct, calls-on, opened, closed}
+use Rattle.walks.proofs.Walk.{meets, leaves, with-struct, calls-on, opened, closed, holds, local-at, field-at, sets, takes}
 use Rattle.ratio_format.specs.declared.Cursor.{Cursor}
 use Rattle.ratio_format.specs.Stepping.{stepAnswer, stepCursor}
 use Rattle.ratio_format.proofs.Stepping.{step-count}
@@ -176,26 +176,26 @@ module _ {M : Type 1} (𝓤 : URA M) (H : Heap 𝓤) (A : Atoms 𝓤) (W : Given
         move ! (23 ∷ []) $ fsplit ! $ fsplit3 ! $ drop ! $ move ! (25 ∷ []) $ split ! $ move ! (2 ∷ 3 ∷ 0 ∷ []) $
         opened ! tt D L (T′.mir erased) h b o (W .laws .raw-at fullShare (T′.mir erased) b o (mach h)) (λ g.
         -- [the reader's cell; what it owns; the open borrow; obs; auth; the body's token; true; _10; …; _9; …; _8; …; _7; …; _6; …; _5; …; _4; …; _3; …; _2; …; _1; …; room for _0; …]
-        assigns ! (of-opd ! (load ! (from ! (hop ! (look ! 25 refl) (fld ! refl (stop !)))) (look-in ! 0 (sub ! 4 refl (whole !))))) (from ! (stop !)) (init ! 23 refl (LL.lawful TW.the-type TW′.the-laws 𝓤 H A W .typed (h .window) _ (LL.owed D L h _ g .1 .1 .1 .1 .0) .0)) $
-        assigns ! (of-opd ! (load ! (from ! (hop ! (look ! 25 refl) (fld ! refl (stop !)))) (look-in ! 0 (sub ! 1 refl (whole !))))) (from ! (stop !)) (init ! 13 refl (tt, LL.lawful D L 𝓤 H A W .typed h _ g .0 .1 .1 .0)) $
-        assigns ! (of-opd ! (load ! (from ! (hop ! (look ! 25 refl) (fld ! refl (stop !)))) (look-in ! 0 (sub ! 2 refl (whole !))))) (from ! (stop !)) (init ! 11 refl (tt, LL.lawful D L 𝓤 H A W .typed h _ g .0 .1 .1 .1 .0)) $
-        assigns ! (of-opd ! (load ! (from ! (hop ! (look ! 25 refl) (fld ! refl (stop !)))) (look-in ! 0 (sub ! 3 refl (whole !))))) (from ! (stop !)) (init ! 9 refl (tt, LL.lawful D L 𝓤 H A W .typed h _ g .0 .1 .1 .1 .1 .0)) $
-        assigns ! (agg ! (and-then ! (load ! (from ! (stop !)) (look ! 13 refl)) (and-then ! (load ! (from ! (stop !)) (look ! 11 refl)) (and-then ! (load ! (from ! (stop !)) (look ! 9 refl)) (and-then ! (load ! (from ! (stop !)) (look ! 23 refl)) (no-more !)))))) (from ! (stop !)) (init ! 21 refl (LL.lawful TC.the-type TC′.the-laws 𝓤 H A W .typed (cursorOf h) _ (cursor-is g) .0)) $
-        assigns ! (of-opd ! (load ! (from ! (hop ! (look ! 25 refl) (fld ! refl (stop !)))) (look-in ! 0 (sub ! 0 refl (whole !))))) (from ! (stop !)) (init ! 7 refl (tt, LL.lawful D L 𝓤 H A W .typed h _ g .0 .1 .0)) $
+        sets ! (of-opd ! (load ! (from ! (hop ! (look ! 25 refl) (fld ! refl (stop !)))) (look-in ! 0 (sub ! 4 refl (whole !))))) (holds ! 23 TW.the-type TW′.the-laws (h .window) refl (LL.owed D L h _ g .1 .1 .1 .1 .0)) $
+        sets ! (of-opd ! (load ! (from ! (hop ! (look ! 25 refl) (fld ! refl (stop !)))) (look-in ! 0 (sub ! 1 refl (whole !))))) (init ! 13 refl (tt, LL.lawful D L 𝓤 H A W .typed h _ g .0 .1 .1 .0)) $
+        sets ! (of-opd ! (load ! (from ! (hop ! (look ! 25 refl) (fld ! refl (stop !)))) (look-in ! 0 (sub ! 2 refl (whole !))))) (init ! 11 refl (tt, LL.lawful D L 𝓤 H A W .typed h _ g .0 .1 .1 .1 .0)) $
+        sets ! (of-opd ! (load ! (from ! (hop ! (look ! 25 refl) (fld ! refl (stop !)))) (look-in ! 0 (sub ! 3 refl (whole !))))) (init ! 9 refl (tt, LL.lawful D L 𝓤 H A W .typed h _ g .0 .1 .1 .1 .1 .0)) $
+        sets ! (agg ! (and-then ! (local-at ! 13 refl) (and-then ! (local-at ! 11 refl) (and-then ! (local-at ! 9 refl) (and-then ! (local-at ! 23 refl) (no-more !)))))) (holds ! 21 TC.the-type TC′.the-laws (cursorOf h) refl (cursor-is g)) $
+        sets ! (of-opd ! (load ! (from ! (hop ! (look ! 25 refl) (fld ! refl (stop !)))) (look-in ! 0 (sub ! 0 refl (whole !))))) (init ! 7 refl (tt, LL.lawful D L 𝓤 H A W .typed h _ g .0 .1 .0)) $
         -- what the reader owns is had twice; of one copy what the body owns goes to the callee
         move ! (1 ∷ []) $ use1 W (‵ (B κ′ .own h (mach h ∷ [])) ⊛ ‵ (B κ′ .own h (mach h ∷ []))) (LL.copy D (T′.the-copy (α κ′)) 𝓤 H A W .twice h (mach h ∷ [])) $ split ! $
         use1 W (given (mach h ∷ [] ≡ mach h ∷ []) (‵ (all-own (D .parts) L vd))) (own-open 𝓤 H A W D L vd (mach h)) $ learn ! (λ _. use1 W (‵ (ownAt (D .parts) L 0 (h .body)) ⊛ ‵ (rest (D .parts) L 0 vd)) (own-out 𝓤 H A W (D .parts) L 0 vd) $ split ! $
         nothing ! $ with-struct ! TC.the-type TC′.the-plain (cursorOf h) _ (cursor-is g) $ move ! (1 ∷ 0 ∷ []) $ fjoin ! $ move ! (7 ∷ 0 ∷ []) $
         calls-on ! fm step.ended (step.clauses 𝓤 H A at-mem run) known (((κ′, tt), (q′, tt), tt, given-to, (s ∷ [], (machC (cursorOf h) ∷ [], tt))), tt) Tok refl refl (λ r ws. Said r) (λ r ws. id⊢ 𝓤 _) machX (LL.tells TX.the-type TX′.the-laws)
-        (and-then ! (load ! (from ! (stop !)) (look ! 8 refl)) (and-then ! (load ! (from ! (stop !)) (look ! 22 refl)) (no-more !))) (λ r _ e is.
-        move ! (2 ∷ []) $ drop ! $ land ! (from ! (stop !)) (init ! 21 refl (LL.lawful TX.the-type TX′.the-laws 𝓤 H A W .typed r _ is .0)) $
+        (and-then ! (local-at ! 8 refl) (and-then ! (local-at ! 22 refl) (no-more !))) (λ r _ e is.
+        move ! (2 ∷ []) $ drop ! $ takes ! (holds ! 21 TX.the-type TX′.the-laws r refl is) $
         -- [what the result owns; the body's token; what the other fields owned; what the reader owns; its cell; the open borrow; obs; auth; true; _10; …; _9; …; _8; …; _7; …; _6; …; _5; …; _4; …; _3; …; _2; …; _1; …; room for _0; …]
-        assigns ! (of-opd ! (load ! (from ! (fld ! refl (stop !))) (look-in ! 21 (sub ! 1 refl (whole !))))) (from ! (stop !)) (init ! 19 refl (LL.lawful TC.the-type TC′.the-laws 𝓤 H A W .typed (r .cursor) _ (after-is r is) .0)) $
-        assigns ! (of-opd ! (load ! (from ! (fld ! refl (stop !))) (look-in ! 19 (sub ! 3 refl (whole !))))) (from ! (stop !)) (init ! 17 refl (LL.lawful TW.the-type TW′.the-laws 𝓤 H A W .typed (r .cursor .window) _ (window-is (r .cursor) (after-is r is)) .0)) $
-        assigns ! (of-opd ! (load ! (from ! (fld ! refl (stop !))) (look-in ! 19 (sub ! 0 refl (whole !))))) (from ! (hop ! (look ! 27 refl) (fld ! refl (stop !)))) (store-in ! 4 (sub ! 1 refl (whole !)) (tt, record { fits = place-fits (r .cursor) (after-is r is) })) $
-        assigns ! (of-opd ! (load ! (from ! (fld ! refl (stop !))) (look-in ! 19 (sub ! 2 refl (whole !))))) (from ! (hop ! (look ! 27 refl) (fld ! refl (stop !)))) (store-in ! 4 (sub ! 3 refl (whole !)) (tt, record { fits = seen-fits (r .cursor) (after-is r is) })) $
-        assigns ! (of-opd ! (load ! (from ! (stop !)) (look ! 17 refl))) (from ! (hop ! (look ! 27 refl) (fld ! refl (stop !)))) (store-in ! 4 (sub ! 4 refl (whole !)) (LL.lawful TW.the-type TW′.the-laws 𝓤 H A W .typed (r .cursor .window) _ (window-is (r .cursor) (after-is r is)) .0)) $
-        assigns ! (of-opd ! (load ! (from ! (fld ! refl (stop !))) (look-in ! 21 (sub ! 0 refl (whole !))))) (from ! (stop !)) (init ! 29 refl (LL.lawful TR.the-type TR′.the-laws 𝓤 H A W .typed (r .answer) _ (answer-is r is) .0)) $
+        sets ! (of-opd ! (field-at ! 21 refl (sub ! 1 refl (whole !)))) (holds ! 19 TC.the-type TC′.the-laws (r .cursor) refl (after-is r is)) $
+        sets ! (of-opd ! (field-at ! 19 refl (sub ! 3 refl (whole !)))) (holds ! 17 TW.the-type TW′.the-laws (r .cursor .window) refl (window-is (r .cursor) (after-is r is))) $
+        assigns ! (of-opd ! (field-at ! 19 refl (sub ! 0 refl (whole !)))) (from ! (hop ! (look ! 27 refl) (fld ! refl (stop !)))) (store-in ! 4 (sub ! 1 refl (whole !)) (tt, record { fits = place-fits (r .cursor) (after-is r is) })) $
+        assigns ! (of-opd ! (field-at ! 19 refl (sub ! 2 refl (whole !)))) (from ! (hop ! (look ! 27 refl) (fld ! refl (stop !)))) (store-in ! 4 (sub ! 3 refl (whole !)) (tt, record { fits = seen-fits (r .cursor) (after-is r is) })) $
+        assigns ! (of-opd ! (local-at ! 17 refl)) (from ! (hop ! (look ! 27 refl) (fld ! refl (stop !)))) (store-in ! 4 (sub ! 4 refl (whole !)) (LL.lawful TW.the-type TW′.the-laws 𝓤 H A W .typed (r .cursor .window) _ (window-is (r .cursor) (after-is r is)) .0)) $
+        sets ! (of-opd ! (field-at ! 21 refl (sub ! 0 refl (whole !)))) (holds ! 29 TR.the-type TR′.the-laws (r .answer) refl (answer-is r is)) $
         -- the borrow is closed at the new record
         move ! (3 ∷ []) $ use1 W (‵ (B κ′ .own (stored (r .cursor)) (mach (stored (r .cursor)) ∷ []))) (again (r .cursor) (after-is r is)) $ move ! (4 ∷ 0 ∷ 5 ∷ 6 ∷ 7 ∷ []) $
         closed ! tt D L (stored (r .cursor)) b o (W .laws .at-raw fullShare (T′.mir erased) b o (mach (stored (r .cursor)))) $

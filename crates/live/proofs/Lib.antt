@@ -1,3 +1,3 @@
 pub mod Machine
 pub mod Additions
-pub mod Found
+pub mod States

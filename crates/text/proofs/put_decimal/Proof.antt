@@ -4,7 +4,7 @@ use lib.ListN.{length}
 use Rattle.text.specs.Numbers.{decimal}
 use Rattle.text.proofs.Digits.{decimal-fewest}
 use Rattle.text.proofs.Lengths.{length-decimal}
-use Rattle.text.proofs.Putting.{digits-room, put-digits}
+use Rattle.text.proofs.PlacedAt.{digits-room, put-digits}
 use Rattle.text.proofs.put_decimal.Statement.{statement}
 use Rattle.text.proofs.put_decimal.Tie as tie
 

@@ -5,7 +5,7 @@ use borrow.Author.Needs.{needs}
 use mir.Syntax.{w64}
 use mir.ValLaws.{toZ-ofZ}
 use Rattle.text.specs.Lines.{spanLine, listing}
-use Rattle.text.proofs.Putting.{put-same, put-more, put-put}
+use Rattle.text.proofs.PlacedAt.{put-same, put-more, put-put}
 use Rattle.text.proofs.put_listing.Statement.{statement}
 use Rattle.text.proofs.put_listing.Tie as tie
 

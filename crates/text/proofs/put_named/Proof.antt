@@ -1,7 +1,7 @@
 -- `text::put_named` meets its contract: three texts, one after the other.
 use native.Mathlib.Omega.{arith}
 use borrow.Author.Needs.{needs}
-use Rattle.text.proofs.Putting.{put-put}
+use Rattle.text.proofs.PlacedAt.{put-put}
 use Rattle.text.proofs.put_named.Statement.{statement}
 use Rattle.text.proofs.put_named.Tie as tie
 

@@ -2,7 +2,7 @@
 use native.Mathlib.Omega.{arith}
 use borrow.Author.Needs.{needs}
 use Rattle.text.specs.Lines.{pointLine}
-use Rattle.text.proofs.Putting.{put-put}
+use Rattle.text.proofs.PlacedAt.{put-put}
 use Rattle.text.proofs.put_point.Statement.{statement}
 use Rattle.text.proofs.put_point.Tie as tie
 

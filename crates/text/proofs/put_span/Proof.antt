@@ -6,7 +6,7 @@ use mir.Syntax.{w64}
 use mir.ValLaws.{toZ-ofZ}
 use Rattle.text.specs.Lines.{spanLine}
 use Rattle.text.specs.Numbers.{signed}
-use Rattle.text.proofs.Putting.{put-same, put-put}
+use Rattle.text.proofs.PlacedAt.{put-same, put-put}
 use Rattle.text.proofs.put_span.Statement.{statement}
 use Rattle.text.proofs.put_span.Tie as tie
 

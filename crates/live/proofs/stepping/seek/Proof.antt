@@ -15,7 +15,7 @@ use Rattle.ratio_format.specs.Stepping.{badCursor, nextRead}
 use Rattle.ratio_format.proofs.Lives.{good-fill}
 use Rattle.ratio_format.proofs.Stepping.{Good, good-cursor, left-bad, left-end, left-over, left-no, left-ratio}
 use Rattle.live.specs.States.{stateOf}
-use Rattle.live.proofs.Found.{is-none, is-ratio}
+use Rattle.live.proofs.States.{is-none, is-ratio}
 use Rattle.live.proofs.stepping.seek.Statement.{statement}
 use Rattle.live.proofs.stepping.seek.Tie as tie
 

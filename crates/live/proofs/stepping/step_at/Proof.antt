@@ -6,7 +6,7 @@ use Prim.Native.Nat.{ℕ, _^_}
 use native.Mathlib.Omega.{arith}
 use borrow.Author.Needs.{needs}
 use Rattle.ratio_format.specs.declared.Window.{Window}
-use Rattle.live.proofs.Found.{place-within, seen-within, answer-of, state-none, state-ratio}
+use Rattle.live.proofs.States.{place-within, seen-within, answer-of, state-none, state-ratio}
 use Rattle.live.proofs.stepping.step_at.Statement.{statement}
 use Rattle.live.proofs.stepping.step_at.Tie as tie
 

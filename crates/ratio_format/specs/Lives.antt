@@ -1,11 +1,13 @@
 -- Document 01, "Ratios" (Live, and kept states) and "Numbers that come back": adding one ratio at a tick. The standard term is streaming,
--- or incremental, encoding. Tests, state and refusals are the same whatever the coder of one ratio is: the definitions ending in By take it
--- as their first argument, and those of document 01 are theirs at the coder `coded`.
+-- or incremental, encoding. Tests, state and refusals are the same whatever the coder of one ratio is.
 --   freshLive         the first state: a fresh window and none seen
 --   badWindow w n     the window's fill is not the smaller of its size and the number n seen
 --   badLive s         the state is bad
 --   stateTests s      the tests of an addition that need no bytes: 7, 3
+--   addedTo s v       the state after the ratio v was added
 --   Coder             a coder of one ratio: a ratio and a window, newest first, to bytes
+--   addBytesBy, addTestsBy, addRefusalBy, addAnswerBy, addOutputBy, addStateBy    the definitions below by any coder, their first argument;
+--                     document 01's are these at the coder `coded`
 --   addBytes s v      the bytes of the ratio v in the state s
 --   addTests s v o    the tests of an addition in their order: 7, 3, 6
 --   addRefusal s v o  the refusal of an addition, or none
@@ -43,6 +45,10 @@ badLive s = cond (badWindow (s .window) (s .seen)) true (ltb maxPoints (s .seen)
 abbrev pub stateTests : Live → List Test
 stateTests s = test (badLive s) 7 0 ∷ test (leb maxPoints (s .seen)) 3 0 ∷ []
 
+-- the state after a ratio that was added
+abbrev pub addedTo : Live → ℕ → Live
+addedTo s v = record { window = pushed (s .window) v; seen = s .seen + 1 }
+
 -- ---- an addition by any coder of one ratio
 
 -- from a ratio and a window, newest first
@@ -70,10 +76,6 @@ addAnswerBy k s v o =
 -- the output afterwards
 unfoldable pub addOutputBy : Coder → Live → ℕ → List ℕ → List ℕ
 addOutputBy k s v o = cond (refused (addRefusalBy k s v o)) (zeros o) (over (addBytesBy k s v) o)
-
--- the state after a ratio that was added
-abbrev pub addedTo : Live → ℕ → Live
-addedTo s v = record { window = pushed (s .window) v; seen = s .seen + 1 }
 
 -- the state afterwards: unchanged by a refusal, every cell of it
 unfoldable pub addStateBy : Coder → Live → ℕ → List ℕ → Live

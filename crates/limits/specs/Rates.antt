@@ -1,4 +1,4 @@
--- Document 01, "Numbers that bound it": the rates, in samples a second.
+-- Document 01, "Numbers that bound it": the rates, in the standard term sample rates, in samples a second.
 --   rates      the list of rates
 --   isRate r   r is in the list
 use mathlib.Core.Bool.{Bool}

@@ -1,11 +1,12 @@
--- Document 01, "Bytes to compare", the listing, as a statement about runs; proved in proofs/Claims.
+-- Document 01, "Bytes to compare", the listing, as a statement about runs; proved in proofs/Claims, and PrintsListed in proofs/Examples.
 --   listingOf r   the listing of the run r: its rate, its count, its span, and each point
 --   PrintsRun     of input that begins with the record of an accepted run the program prints that run's listing, whatever follows
 --   PrintsListed  of document 01's 46 bytes it prints the output that document 01 gives in full, and of no input the line `refused 10 at 0`
---   PrintsOnly    of any other input it prints the line of a refusal, whose number is not 0
+--   PrintsOnly    of input that begins with no accepted run's record it prints the line of a refusal, whose number is not 0
 use mathlib.Core.List.{List, [], _++_}
 use mathlib.Core.Path.{_≡_}
 use Prim.Native.Nat.{ℕ}
+use lib.ListN.{take}
 use Rattle.record_format.specs.Claims.{Accepted, Beginning, Bytes}
 use Rattle.record_format.specs.Examples.{listedBytes}
 use Rattle.record_format.specs.Reading.{readStrict}
@@ -13,7 +14,7 @@ use Rattle.record_format.specs.Runs.{Run, recordOf}
 use Rattle.span.specs.Spans.{spanned}
 use Rattle.text.specs.Examples.{listedText, refusedText}
 use Rattle.text.specs.Lines.{refusedLine, listing}
-use Rattle.listing.specs.Printed.{room, printed}
+use Rattle.listing.specs.Printed.{inputLimit, blank, printed}
 
 -- of a run
 abbrev pub listingOf : Run → List ℕ
@@ -23,11 +24,11 @@ listingOf r = listing (r .rate) (spanned (r .rate) (r .positions) .milliseconds)
 abbrev pub PrintsRun : Type 0
 PrintsRun = (r : Run) → Accepted r → (rest : List ℕ) → printed (recordOf r ++ rest) ≡ listingOf r
 
--- of all else
+-- of all else: the refusal of the bytes that the program reads
 abbrev pub PrintsOnly : Type 0
 PrintsOnly = (s : List ℕ) → Bytes s → ((r : Run) → Accepted r → Beginning (recordOf r) s → ⊥)
-    → let a = readStrict 0 s room room .answer in (a .number ≡ 0 → ⊥) × (printed s ≡ refusedLine (a .number) (a .place))
+    → let a = readStrict 0 (take inputLimit s) blank blank .answer in (a .number ≡ 0 → ⊥) × (printed s ≡ refusedLine (a .number) (a .place))
 
--- the example
+-- document 01's example, and no input
 abbrev pub PrintsListed : Type 0
 PrintsListed = (printed listedBytes ≡ listedText) × (printed [] ≡ refusedText)

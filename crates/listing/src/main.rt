@@ -2,7 +2,7 @@
 ghost use mathlib.Core.Path.{_≡_};
 ghost use Prim.Native.Nat.{_≤_};
 ghost use lib.ListN.{length};
-ghost use Rattle.listing.specs.Printed.{inputLimit, textLimit, room, printed};
+ghost use Rattle.listing.specs.Printed.{inputLimit, textLimit, blank, printed};
 ghost use Rattle.text.specs.PlacedAt.{PlacedAt};
 use libc::STDIN_FILENO;
 use libc::STDOUT_FILENO;
@@ -30,14 +30,14 @@ fn output_room() -> [u8; TEXT]
 
 // Room for the numbers of every run.
 fn numbers_room() -> [u64; MAX_POINTS]
-    ensures { λ r. ⌜ r ≡ room ⌝ }
+    ensures { λ r. ⌜ r ≡ blank ⌝ }
 {
     [0; MAX_POINTS]
 }
 
 // Puts the text for an input into an output, and returns its length.
 fn print(input: &[u8], out: &mut [u8]) -> usize
-    requires { ⌜ textLimit ≤ length (now out) ⌝ }
+    requires { ⌜ (length (now input) ≤ inputLimit) × (textLimit ≤ length (now out)) ⌝ }
     ensures { λ r. ⌜ PlacedAt textLimit (printed (now (input .entry))) 0 r (now (out .entry)) (now (out .exit)) ⌝ }
 {
     let mut positions = numbers_room();

@@ -1,6 +1,6 @@
 -- Tests that compare two lists of numbers; `begins` is the beginning of document 01, "What demand 3 compares".
 --   both a b      a and b
---   begins a s    the list s begins with the list a: s is a, and then anything or nothing
+--   begins a s    the list s begins with the list a, its prefix: s is a, and then anything or nothing
 --   same a s      the lists are equal
 use mathlib.Core.Bool.{Bool, true, false}
 use mathlib.Core.List.{List, [], _∷_}

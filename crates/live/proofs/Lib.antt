@@ -1,3 +1,3 @@
-pub mod Loan
 pub mod Machine
-pub mod Found
+pub mod Additions
+pub mod States

@@ -18,11 +18,10 @@ use Rattle.ratio_format.specs.declared.Read.the-variants.{Ratio, Nothing}
 use Rattle.ratio_format.specs.Windows.{windowSize, windowOf}
 use Rattle.ratio_format.specs.Open.{openRead, strictRead}
 use Rattle.ratio_format.specs.Bodies.{openRatios, strictRatios}
-use Rattle.ratio_format.proofs.Opened.{open-used}
-use Rattle.ratio_format.proofs.Stepping.{strict-used}
+use Rattle.ratio_format.proofs.Open.{open-used, strict-used}
 use Rattle.ratio_format.proofs.ReadFrom.{Rule, readFrom, open-is}
 use Rattle.ratio_format.proofs.Strict.{strict-from-is}
-use Rattle.ratio_format.proofs.Progress.{leftFrom, left-start, left-more, left-refused, left-end, left-over}
+use Rattle.ratio_format.proofs.Progress.{leftFrom, left-start, left-more, left-nothing, left-end, left-over}
 
 -- the rule uses bytes that are there
 abbrev pub Within : Rule → Type 0
@@ -89,7 +88,7 @@ module _ (rule : Rule) (count : ℕ) (body o : List ℕ) where
       pub got-refused : r ≡ Nothing → Filled (whole rule count body) false o out
       got-refused e =
           subst (λ (x : Option (List ℕ)). Filled x false o out)
-          (sym (left-refused rule windowSize (take i out) (count - (i + 1)) body at (reads ∙ e)) ∙ rw left at (g .4)) refl
+          (sym (left-nothing rule windowSize (take i out) (count - (i + 1)) body at (reads ∙ e)) ∙ rw left at (g .4)) refl
 
       module _ (within : Within rule) (v k : ℕ) (e : r ≡ Ratio v k) where
         pub got-within : at + k ≤ length body

@@ -15,7 +15,7 @@ use Rattle.ratio_format.specs.Choice.{find}
 use Rattle.ratio_format.specs.Forms.{coded}
 use Rattle.ratio_format.specs.Open.{openRead, openXor}
 use Rattle.ratio_format.proofs.Choice.{find-at, find-lt}
-use Rattle.ratio_format.proofs.RoundTrip.{read-reference}
+use Rattle.ratio_format.proofs.Open.{read-reference}
 use Rattle.ratio_codec.proofs.Named.{Named, coded-in}
 
 module _ (w : List ℕ) (v : ℕ) where

@@ -15,7 +15,7 @@ use Rattle.ratio_format.specs.declared.Read.{Read}
 use Rattle.ratio_format.specs.declared.Read.the-variants.{Ratio, Nothing}
 use Rattle.ratio_format.specs.Windows.{windowSize, windowOf}
 use Rattle.ratio_format.specs.Open.{openRead, openXor}
-use Rattle.ratio_format.proofs.Reading.{xor-high, xor-good, open-reference, open-far, open-xor, open-away, open-exception}
+use Rattle.ratio_format.proofs.Open.{xor-high, xor-good, open-reference, open-far, open-xor, open-away, open-exception}
 use Rattle.ratio_format.proofs.Windows.{window-few}
 use Rattle.ratio_search.proofs.Found.{window-has, window-at}
 

@@ -11,7 +11,7 @@ use lib.Seq.{drop-cons, drop-length, getD-drop}
 use Rattle.lists.specs.Below.{Below}
 use Rattle.lists.proofs.Below.{below-at}
 use Rattle.ratio_format.specs.Choice.{find}
-use Rattle.ratio_format.proofs.Score.{sum-other}
+use Rattle.ratio_format.proofs.Sums.{sum-other}
 use Rattle.ratio_format.proofs.Choice.{find-first, find-le}
 use Rattle.ratio_codec.specs.Passed.{Passed}
 

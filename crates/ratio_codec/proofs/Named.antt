@@ -12,7 +12,7 @@ use Rattle.ratio_format.specs.Choice.{find, ratioForm}
 use Rattle.ratio_format.specs.Forms.{written, coded}
 use Rattle.ratio_format.specs.Open.{openRead, strictRead}
 use Rattle.ratio_format.proofs.Choice.{find-lt}
-use Rattle.ratio_format.proofs.Reading.{open-reference, strict-good, strict-other}
+use Rattle.ratio_format.proofs.Open.{open-reference, strict-good, strict-other}
 use Rattle.ratio_codec.proofs.Heads.{one-is}
 
 module _ (w : List ℕ) (v : ℕ) where

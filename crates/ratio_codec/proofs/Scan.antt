@@ -12,7 +12,7 @@ use lib.ListN.{length, take, drop, getD, length-take, length-reverse, take-appen
 use lib.Seq.{take-suc, take-all, take-add, length-take-le, append-snoc, getD-take, getD-drop}
 use Rattle.ratio_format.specs.Zeros.{sumOf}
 use Rattle.ratio_format.specs.Choice.{Best, newer, best}
-use Rattle.ratio_format.proofs.Score.{sum-same}
+use Rattle.ratio_format.proofs.Sums.{sum-same}
 use Rattle.ratio_format.proofs.Choice.{best-most, best-wins, best-stays}
 use Rattle.ratio_format.proofs.Windows.{back}
 use Rattle.ratio_codec.specs.Passed.{Passed}

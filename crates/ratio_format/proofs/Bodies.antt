@@ -1,14 +1,14 @@
 -- Bodies of coded ratios: how many bytes they have, that each is a byte, their parts, and the window at each part.
 use mathlib.Core.Path.{_≡_, refl, sym, ap, _∙_}
-use mathlib.Core.List.{List, [], _∷_, _++_, append-assoc, append-nil, reverse, reverse-append, reverse-cons}
+use mathlib.Core.List.{List, [], _∷_, _++_, append-assoc, append-nil, reverse, reverse-cons}
 use Prim.Native.Nat.{ℕ, _+_, _*_, _≤_, _<_}
 use native.Mathlib.Omega.{arith}
 use native.Mathlib.Numerals.{add-one}
-use lib.ListN.{length, take, drop, getD, length-append, length-take, take-append-drop}
+use lib.ListN.{length, take, drop, getD, length-append, take-append-drop}
 use lib.Seq.{take-all, take-suc, append-snoc}
 use Rattle.lists.specs.Below.{Below}
 use Rattle.lists.proofs.Below.{below-append}
-use Rattle.ratio_format.specs.Windows.{push, windowOf}
+use Rattle.ratio_format.specs.Windows.{windowSize, push, windowOf}
 use Rattle.ratio_format.specs.Forms.{coded}
 use Rattle.ratio_format.specs.Bodies.{codedFrom}
 use Rattle.ratio_format.proofs.Windows.{push-length, take-late}
@@ -20,13 +20,6 @@ unfolding codedFrom
 nine-bytes size w [] = omega arith
 nine-bytes size w (v ∷ vs) =
     rw length-append (omega (arith, coded-length v w .1, nine-bytes size (push size v w) vs))
-
--- and at least one
-pub one-byte : (size : ℕ) (w vs : List ℕ) → length vs ≤ length (codedFrom size w vs)
-unfolding codedFrom
-one-byte size w [] = omega arith
-one-byte size w (v ∷ vs) =
-    rw length-append (omega (arith, coded-length v w .0, one-byte size (push size v w) vs))
 
 -- the window after the ratios vs, from the window w
 unfoldable pub windowFrom : ℕ → List ℕ → List ℕ → List ℕ
@@ -50,15 +43,9 @@ window-from size w (v ∷ vs) h =
     ∙ take-late size size (reverse vs) (v ∷ w) (omega arith)
     ∙ ap (take size) (sym (append-snoc (reverse vs) v w) ∙ ap (λ (l : List ℕ). l ++ w) (sym (reverse-cons v vs)))
 
--- from none it is the window of the definition, and so it is further on
+-- from none it is the window of the definition
 pub window-fresh : (size : ℕ) (vs : List ℕ) → windowFrom size [] vs ≡ windowOf size vs
 window-fresh size vs = window-from size [] vs (omega arith) ∙ ap (take size) (append-nil (reverse vs))
-
-pub window-on : (size : ℕ) (xs ys : List ℕ) → windowFrom size (windowOf size xs) ys ≡ windowOf size (xs ++ ys)
-window-on size xs ys =
-    window-from size (windowOf size xs) ys (rw length-take (omega arith))
-    ∙ take-late size size (reverse ys) (reverse xs) (omega arith)
-    ∙ ap (take size) (sym (reverse-append xs ys))
 
 -- the coding from a fresh window, by parts
 pub coded-on : (size : ℕ) (xs ys : List ℕ) → codedFrom size [] (xs ++ ys) ≡ codedFrom size [] xs ++ codedFrom size (windowOf size xs) ys
@@ -81,8 +68,8 @@ coded-room size w rs i =
     let e = ap (codedFrom size w) (sym (take-append-drop i rs)) ∙ coded-append size w f (drop i rs) in
     omega (arith, ap length e, length-append (codedFrom size w f) (codedFrom size (windowFrom size w f) (drop i rs)))
 
--- each element of a coding is a byte, where the windows have at most 127 places
-pub coded-bytes : (size : ℕ) → size ≤ 127 → (w vs : List ℕ) → length w ≤ 127 → Below 256 (codedFrom size w vs)
+-- each element of a coding is a byte, where the windows have at most windowSize places
+pub coded-bytes : (size : ℕ) → size ≤ windowSize → (w vs : List ℕ) → length w ≤ windowSize → Below 256 (codedFrom size w vs)
 unfolding codedFrom Below
 coded-bytes size hz w [] hw = tt
 coded-bytes size hz w (v ∷ vs) hw =

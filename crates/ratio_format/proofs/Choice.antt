@@ -20,7 +20,7 @@ use Rattle.ratio_format.specs.Zeros.{leadZeros, trailZeros, sumOf}
 use Rattle.ratio_format.specs.Forms.{Fit}
 use Rattle.ratio_format.specs.Choice.{Best, newer, best, find, ratioForm, xorForm}
 use Rattle.ratio_format.proofs.Zeros.{trail-le, middle-fits}
-use Rattle.ratio_format.proofs.Score.{sum-same, sum-other}
+use Rattle.ratio_format.proofs.Sums.{sum-same, sum-other}
 
 -- the best of a window and one newer ratio, by the test of their sums
 abbrev byTest : Bool → ℕ → Best → Best

@@ -19,7 +19,7 @@ use Rattle.ratio_format.specs.Choice.{best}
 use Rattle.ratio_format.specs.Forms.{coded}
 use Rattle.ratio_format.specs.Bodies.{codedFrom}
 use Rattle.ratio_format.proofs.Zeros.{lowBytes, trail-is}
-use Rattle.ratio_format.proofs.Score.{xor-zero}
+use Rattle.ratio_format.proofs.Sums.{xor-zero}
 use Rattle.ratio_format.proofs.Choice.{best-at, form-exception}
 use Rattle.ratio_format.proofs.Forms.{formLen, coded-is}
 use Rattle.ratio_format.proofs.Windows.{back-at, window-below}

@@ -9,6 +9,7 @@ use Rattle.lists.specs.Below.{Below}
 use Rattle.bits.proofs.Digits.{below-digits, length-digits}
 use Rattle.ratio_format.specs.declared.RatioForm.{RatioForm}
 use Rattle.ratio_format.specs.declared.RatioForm.the-variants.{Reference, Xor, Exception}
+use Rattle.ratio_format.specs.Windows.{windowSize}
 use Rattle.ratio_format.specs.Choice.{ratioForm}
 use Rattle.ratio_format.specs.Forms.{written, coded, Fit}
 use Rattle.ratio_format.proofs.Choice.{form-fit}
@@ -39,12 +40,12 @@ pub coded-length : (v : ℕ) (w : List ℕ) → (1 ≤ length (coded v w)) × (l
 coded-length v w = rw coded-is (fit-length (length w) (ratioForm v w) (form-fit v w))
 
 -- and each is below 256, where the window's places are
-fit-below : (v n : ℕ) (f : RatioForm) → n ≤ 127 → Fit n f → Below 256 (written v f)
+fit-below : (v n : ℕ) (f : RatioForm) → n ≤ windowSize → Fit n f → Below 256 (written v f)
 unfolding written Below
 fit-below v n (Reference p) h g = (omega arith, tt)
 fit-below v n (Xor p t k m) h g = (omega arith, (omega arith, below-digits 256 (lit< tt) k m))
 fit-below v n Exception h g = (omega arith, below-digits 256 (lit< tt) 8 v)
 
-pub coded-below : (v : ℕ) (w : List ℕ) → length w ≤ 127 → Below 256 (coded v w)
+pub coded-below : (v : ℕ) (w : List ℕ) → length w ≤ windowSize → Below 256 (coded v w)
 unfolding coded
 coded-below v w h = fit-below v (length w) (ratioForm v w) h (form-fit v w)

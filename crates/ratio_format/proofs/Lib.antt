@@ -1,12 +1,10 @@
 pub mod Zeros
-pub mod Score
+pub mod Sums
 pub mod Windows
-pub mod Moved
+pub mod Shifting
 pub mod Choice
 pub mod Forms
-pub mod Reading
-pub mod RoundTrip
-pub mod Opened
+pub mod Open
 pub mod Bodies
 pub mod ReadFrom
 pub mod Shortest
@@ -14,5 +12,5 @@ pub mod Strict
 pub mod Progress
 pub mod Lives
 pub mod Stepping
-pub mod Lengths
+pub mod Claims
 pub mod Exceptions

@@ -43,9 +43,9 @@ module _ (rule : Rule) (size : ℕ) where
         ∙ ap₂ (λ (w t : List ℕ). behind (vs ++ (v ∷ [])) (readFrom rule size w n t)) (sym (window-snoc size vs v)) (drop-drop k at s)
 
     -- no ratio
-    pub left-refused : rule (windowOf size vs) (drop at s) ≡ Nothing → leftFrom rule size vs (suc n) s at ≡ none
+    pub left-nothing : rule (windowOf size vs) (drop at s) ≡ Nothing → leftFrom rule size vs (suc n) s at ≡ none
     unfolding readFrom
-    left-refused e = rw e
+    left-nothing e = rw e
 
     -- all are read, and the bytes are used up or not
     pub left-end : length s ≤ at → leftFrom rule size vs zero s at ≡ some vs

@@ -11,13 +11,12 @@ use Rattle.lists.specs.Below.{Below}
 use Rattle.lists.proofs.Below.{below-drop}
 use Rattle.ratio_format.specs.declared.Read.{Read}
 use Rattle.ratio_format.specs.declared.Read.the-variants.{Ratio, Nothing}
-use Rattle.ratio_format.specs.Windows.{push}
+use Rattle.ratio_format.specs.Windows.{windowSize, push}
 use Rattle.ratio_format.specs.Forms.{coded}
 use Rattle.ratio_format.specs.Open.{openRead}
 use Rattle.ratio_format.specs.Bodies.{codedFrom, openFrom, before, atEnd, onRatio}
 use Rattle.ratio_format.proofs.Windows.{push-length, push-below}
-use Rattle.ratio_format.proofs.RoundTrip.{read-back}
-use Rattle.ratio_format.proofs.Opened.{open-value}
+use Rattle.ratio_format.proofs.Open.{read-back, open-value}
 
 -- a rule for one ratio: a window and bytes to what is read
 abbrev pub Rule : Type 0
@@ -40,10 +39,10 @@ open-is size w (suc n) s = go (λ v k. open-is size (push size v w) n (drop k s)
 
 -- the rule reads what is written for one ratio, whatever follows
 abbrev pub ReadsBack : Rule → Type 0
-ReadsBack rule = (v : ℕ) (w rest : List ℕ) → v < 2 ^ 64 → Below (2 ^ 64) w → length w ≤ 127 → rule w (coded v w ++ rest) ≡ Ratio v (length (coded v w))
+ReadsBack rule = (v : ℕ) (w rest : List ℕ) → v < 2 ^ 64 → Below (2 ^ 64) w → length w ≤ windowSize → rule w (coded v w ++ rest) ≡ Ratio v (length (coded v w))
 
 -- then it reads a whole coding
-pub read-coded : (rule : Rule) → ReadsBack rule → (size : ℕ) → size ≤ 127 → (w vs : List ℕ) → length w ≤ 127 → Below (2 ^ 64) w → Below (2 ^ 64) vs
+pub read-coded : (rule : Rule) → ReadsBack rule → (size : ℕ) → size ≤ windowSize → (w vs : List ℕ) → length w ≤ windowSize → Below (2 ^ 64) w → Below (2 ^ 64) vs
     → readFrom rule size w (length vs) (codedFrom size w vs) ≡ some vs
 unfolding codedFrom readFrom Below
 read-coded rule back size hz w [] hw ha hs = refl
@@ -105,7 +104,7 @@ read-below rule fits size w (suc n) s vs hs ha e =
     (h, read-below rule fits size (push size v w) n (drop (f .used) s) (f .others) (below-drop 256 (f .used) s hs) (push-below (2 ^ 64) size v w h ha) (f .goes))
 
 -- the open rule
-pub open-coded : (size : ℕ) → size ≤ 127 → (w vs : List ℕ) → length w ≤ 127 → Below (2 ^ 64) w → Below (2 ^ 64) vs
+pub open-coded : (size : ℕ) → size ≤ windowSize → (w vs : List ℕ) → length w ≤ windowSize → Below (2 ^ 64) w → Below (2 ^ 64) vs
     → openFrom size w (length vs) (codedFrom size w vs) ≡ some vs
 open-coded size hz w vs hw ha hs =
     open-is size w (length vs) (codedFrom size w vs) ∙ read-coded openRead read-back size hz w vs hw ha hs

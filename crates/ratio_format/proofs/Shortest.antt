@@ -11,7 +11,7 @@ use Rattle.ratio_format.specs.Windows.{push}
 use Rattle.ratio_format.specs.Open.{openRead}
 use Rattle.ratio_format.specs.Bodies.{codedFrom, openFrom}
 use Rattle.ratio_format.proofs.Windows.{push-below}
-use Rattle.ratio_format.proofs.Opened.{open-value, open-short}
+use Rattle.ratio_format.proofs.Open.{open-value, open-short}
 use Rattle.ratio_format.proofs.ReadFrom.{readFrom, read-first, read-none, open-is}
 
 by-ratio : (size : ℕ) (w : List ℕ) (n : ℕ) (s vs : List ℕ) → Below 256 s → Below (2 ^ 64) w → readFrom openRead size w n s ≡ some vs

@@ -24,10 +24,9 @@ use Rattle.ratio_format.specs.Open.{strictRead}
 use Rattle.ratio_format.specs.Bodies.{codedFrom, codedRatios}
 use Rattle.ratio_format.specs.Lives.{badWindow}
 use Rattle.ratio_format.specs.Stepping.{made, madeBody, madeCursor, badCursor, nextRead, stepRefusal, stepAnswer, stepCursor}
-use Rattle.ratio_format.specs.Claims.{stepAnswers, stepCursors, given, ended}
+use Rattle.ratio_format.specs.Claims.{stepAnswers, stepCursors, given, ended, SteppingGives, SteppingEnds, SteppingOnly, CursorStays, MadeStays}
 use Rattle.ratio_format.proofs.Windows.{pushed-size, held-pushed, held-length, push-below}
-use Rattle.ratio_format.proofs.RoundTrip.{strict-takes, strict-open, strict-only}
-use Rattle.ratio_format.proofs.Opened.{open-used, open-value}
+use Rattle.ratio_format.proofs.Open.{strict-takes, strict-open, strict-only, strict-used, open-value}
 use Rattle.ratio_format.proofs.Lives.{good-fill, window-stays, refusalBy}
 
 -- ---- a state that is not bad
@@ -55,10 +54,6 @@ cursor-good b c g =
     rw (g .window, le-ltb (c .count) (c .seen) (g .seen), le-ltb maxPoints (c .count) (g .count)) (le-ltb (length b) (c .place) (g .place))
 
 -- ---- what a reading takes
-
--- no more bytes than there are
-pub strict-used : (w s : List ℕ) (v k : ℕ) → strictRead w s ≡ Ratio v k → k ≤ length s
-strict-used w s v k e = open-used w s v k (strict-open v k w s e .0)
 
 -- the next ratio ends within the body
 pub read-within : (b : List ℕ) (c : Cursor) (v k : ℕ) → Good b c → nextRead b c ≡ Ratio v k → c .place + k ≤ length b
@@ -173,7 +168,7 @@ moved-good b c v k e s r =
       place = read-within b c v k g r;
     })
 
-pub cursor-stays : (b : List ℕ) (c : Cursor) → badCursor b c ≡ false → badCursor b (stepCursor b c) ≡ false
+pub cursor-stays : CursorStays
 cursor-stays b c e = go (outcome b c)
   where
     go : Outcome b c → badCursor b (stepCursor b c) ≡ false
@@ -272,16 +267,15 @@ module _ (n : ℕ) (b : List ℕ) where
   unfolding made madeBody madeCursor
   made-refused h = let e : made n ≡ refusalBy 15 = first-here _ _ (lt-ltb maxPoints n h) in (e, rw e, rw e)
 
-  -- every reader that is made is good
-  pub made-stays : badCursor (madeBody n b) (madeCursor n) ≡ false
-  made-stays = go (ltb maxPoints n) refl
-    where
-      go : (t : Bool) → ltb maxPoints n ≡ t → badCursor (madeBody n b) (madeCursor n) ≡ false
-      go true e = let m = made-refused (ltb-true maxPoints n e) in rw (m .1, m .2)
-      go false e =
-          let h = ltb-false maxPoints n e in
-          let m = made-good h in
-          rw (m .1, m .2) (cursor-good b (started n) (record { window = refl; seen = omega arith; count = h; place = omega arith }))
+pub made-stays : MadeStays
+made-stays n b = go (ltb maxPoints n) refl
+  where
+    go : (t : Bool) → ltb maxPoints n ≡ t → badCursor (madeBody n b) (madeCursor n) ≡ false
+    go true e = let m = made-refused n b (ltb-true maxPoints n e) in rw (m .1, m .2)
+    go false e =
+        let h = ltb-false maxPoints n e in
+        let m = made-good n b h in
+        rw (m .1, m .2) (cursor-good b (started n) (record { window = refl; seen = omega arith; count = h; place = omega arith }))
 
 made-stands : (vs : List ℕ) → length vs ≤ maxPoints → Standing (codedRatios vs) (madeCursor (length vs)) vs
 unfolding Below
@@ -290,17 +284,11 @@ made-stands vs h =
     let g = made-stays (length vs) (codedRatios vs) in
     rw (m .2) (record { good = rw (m .1, m .2) at g; size = refl; below = tt; more = zero-add (length vs); rest = refl })
 
--- Document 01, "Stepping": through a coded body a reader gives its ratios one by one, and from then on the end
-pub stepping-gives : (vs : List ℕ) → length vs ≤ maxPoints → Below (2 ^ 64) vs → (m : ℕ)
-    → stepAnswers (madeBody (length vs) (codedRatios vs)) (madeCursor (length vs)) (length vs + m) ≡ map given vs ++ replicate m ended
+pub stepping-gives : SteppingGives
 stepping-gives vs h hs m =
     rw (made-good (length vs) (codedRatios vs) h .1) (steps (codedRatios vs) (madeCursor (length vs)) vs hs (made-stands vs h) m)
 
--- the end leaves the state
-pub stepping-ends : (vs : List ℕ) → length vs ≤ maxPoints → Below (2 ^ 64) vs
-    → let b = madeBody (length vs) (codedRatios vs) in
-    let c = stepCursors b (madeCursor (length vs)) (length vs) in
-    (stepAnswer b c ≡ ended) × (stepCursor b c ≡ c)
+pub stepping-ends : SteppingEnds
 stepping-ends vs h hs =
     let b = codedRatios vs in
     rw (made-good (length vs) b h .1)
@@ -367,10 +355,7 @@ only-from b c (v ∷ vs) hb size below e =
     joins b (c .place) k (coded v w) (o .0) (codedFrom windowSize (push windowSize v w) vs) (o .1) (o .2)
     (others ∙ ap (λ (l : List ℕ). codedFrom windowSize l vs) p)
 
--- stepping is strict: a body through which a reader gives as many ratios as its count and then the end is their coding
-pub stepping-only : (b vs : List ℕ) → length vs ≤ maxPoints → Below 256 b
-    → stepAnswers (madeBody (length vs) b) (madeCursor (length vs)) (length vs + 1) ≡ map given vs ++ (ended ∷ [])
-    → b ≡ codedRatios vs
+pub stepping-only : SteppingOnly
 unfolding Below
 stepping-only b vs h hb e =
     let m = made-good (length vs) b h in

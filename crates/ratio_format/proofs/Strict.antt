@@ -16,14 +16,13 @@ use Rattle.ratio_format.specs.Forms.{coded}
 use Rattle.ratio_format.specs.Open.{strictRead}
 use Rattle.ratio_format.specs.Bodies.{codedFrom, codedRatios, openRatios, strictRatios, ifCoded}
 use Rattle.ratio_format.proofs.Windows.{push-length, push-below}
-use Rattle.ratio_format.proofs.RoundTrip.{strict-takes, strict-open, strict-only}
-use Rattle.ratio_format.proofs.Opened.{open-value}
+use Rattle.ratio_format.proofs.Open.{strict-takes, strict-open, strict-only, open-value}
 use Rattle.ratio_format.proofs.ReadFrom.{Gives64, readFrom, read-coded, read-none, read-first, read-length, read-below, open-coded, open-length, open-below}
 
 -- the coding is accepted
 pub strict-coded : (vs : List ℕ) → Below (2 ^ 64) vs → strictRatios (length vs) (codedRatios vs) ≡ some vs
 unfolding strictRatios Below
-strict-coded vs hs = rw (open-coded 127 (omega arith) [] vs (omega arith) tt hs, same-own (codedRatios vs))
+strict-coded vs hs = rw (open-coded windowSize (omega arith) [] vs (omega arith) tt hs, same-own (codedRatios vs))
 
 -- what is accepted is read openly, and the bytes are its coding
 pub strict-reads : (n : ℕ) (s vs : List ℕ) → strictRatios n s ≡ some vs → (openRatios n s ≡ some vs) × (s ≡ codedRatios vs)
@@ -40,20 +39,12 @@ strict-reads n s vs e = go (openRatios n s) refl e
     go (some us) q e = at us q (same (codedRatios us) s) refl e
 
 pub strict-only-body : (n : ℕ) (s vs : List ℕ) → strictRatios n s ≡ some vs → (s ≡ codedRatios vs) × (length vs ≡ n)
-strict-only-body n s vs e = let r = strict-reads n s vs e in (r .1, open-length 127 [] n s vs (r .0))
+strict-only-body n s vs e = let r = strict-reads n s vs e in (r .1, open-length windowSize [] n s vs (r .0))
 
 -- the ratios that are read have 64 bits
 pub strict-below : (n : ℕ) (s vs : List ℕ) → Below 256 s → strictRatios n s ≡ some vs → Below (2 ^ 64) vs
 unfolding Below
-strict-below n s vs hs e = open-below 127 [] n s vs hs tt (strict-reads n s vs e .0)
-
--- bytes that are no coding of n ratios are refused
-pub strict-none : (n : ℕ) (s : List ℕ) → Below 256 s → ((vs : List ℕ) → length vs ≡ n → Below (2 ^ 64) vs → codedRatios vs ≡ s → ⊥) → strictRatios n s ≡ none
-strict-none n s hs other = go (strictRatios n s) refl
-  where
-    go : (r : Option (List ℕ)) → strictRatios n s ≡ r → r ≡ none
-    go none e = refl
-    go (some vs) e = let r = strict-only-body n s vs e in absurd (other vs (r .1) (strict-below n s vs hs e) (sym (r .0)))
+strict-below n s vs hs e = open-below windowSize [] n s vs hs tt (strict-reads n s vs e .0)
 
 -- Strict reading ratio by ratio: each is read strictly from the window that took those before it.
 abbrev pub strictFrom : ℕ → List ℕ → ℕ → List ℕ → Option (List ℕ)
@@ -64,12 +55,12 @@ strict-gives : Gives64 strictRead
 strict-gives w s v k hs ha e = open-value w s v k hs ha (strict-open v k w s e .0) .0
 
 -- it takes the coding
-pub strict-from-coded : (size : ℕ) → size ≤ 127 → (w vs : List ℕ) → length w ≤ 127 → Below (2 ^ 64) w → Below (2 ^ 64) vs
+pub strict-from-coded : (size : ℕ) → size ≤ windowSize → (w vs : List ℕ) → length w ≤ windowSize → Below (2 ^ 64) w → Below (2 ^ 64) vs
     → strictFrom size w (length vs) (codedFrom size w vs) ≡ some vs
 strict-from-coded = read-coded strictRead strict-takes
 
 -- and nothing else
-pub strict-from-only : (size : ℕ) → size ≤ 127 → (w : List ℕ) (n : ℕ) (s vs : List ℕ) → length w ≤ 127 → Below (2 ^ 64) w → Below 256 s
+pub strict-from-only : (size : ℕ) → size ≤ windowSize → (w : List ℕ) (n : ℕ) (s vs : List ℕ) → length w ≤ windowSize → Below (2 ^ 64) w → Below 256 s
     → strictFrom size w n s ≡ some vs → s ≡ codedFrom size w vs
 unfolding codedFrom
 strict-from-only size hz w zero s vs hw ha hs e =
@@ -95,13 +86,13 @@ module _ (size : ℕ) (w : List ℕ) (n : ℕ) (s vs : List ℕ) where
 -- so from a fresh window it is strict reading
 pub strict-from-is : (n : ℕ) (s : List ℕ) → Below 256 s → strictFrom windowSize [] n s ≡ strictRatios n s
 unfolding Below
-strict-from-is n s hs = go (strictRatios n s) refl (strictFrom 127 [] n s) refl
+strict-from-is n s hs = go (strictRatios n s) refl (strictFrom windowSize [] n s) refl
   where
-    go : (a : Option (List ℕ)) → strictRatios n s ≡ a → (b : Option (List ℕ)) → strictFrom 127 [] n s ≡ b → b ≡ a
+    go : (a : Option (List ℕ)) → strictRatios n s ≡ a → (b : Option (List ℕ)) → strictFrom windowSize [] n s ≡ b → b ≡ a
     go (some vs) ea b eb =
         let r = strict-only-body n s vs ea in
-        sym eb ∙ ap₂ (strictFrom 127 []) (sym (r .1)) (r .0) ∙ strict-from-coded 127 (omega arith) [] vs (omega arith) tt (strict-below n s vs hs ea)
+        sym eb ∙ ap₂ (strictFrom windowSize []) (sym (r .1)) (r .0) ∙ strict-from-coded windowSize (omega arith) [] vs (omega arith) tt (strict-below n s vs hs ea)
     go none ea none eb = refl
     go none ea (some vs) eb =
-        sym (strict-coded vs (strict-from-below 127 [] n s vs hs tt eb))
-        ∙ ap₂ strictRatios (strict-from-length 127 [] n s vs eb) (sym (strict-from-only 127 (omega arith) [] n s vs (omega arith) tt hs eb)) ∙ ea
+        sym (strict-coded vs (strict-from-below windowSize [] n s vs hs tt eb))
+        ∙ ap₂ strictRatios (strict-from-length windowSize [] n s vs eb) (sym (strict-from-only windowSize (omega arith) [] n s vs (omega arith) tt hs eb)) ∙ ea

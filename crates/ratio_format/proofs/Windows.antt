@@ -12,7 +12,7 @@ use borrow.Author.Tests.{ltb-true, ltb-false}
 use Rattle.lists.specs.Below.{Below}
 use Rattle.lists.proofs.Below.{below-append, below-take}
 use Rattle.ratio_format.specs.declared.Window.{Window}
-use Rattle.ratio_format.specs.Windows.{push, windowOf, held, pushed}
+use Rattle.ratio_format.specs.Windows.{windowSize, push, windowOf, held, pushed}
 
 -- one ratio more of the slice is one newer ratio
 pub reverse-more : (l : List ℕ) (i : ℕ) → i < length l → reverse (take (i + 1) l) ≡ getD l i 0 ∷ reverse (take i l)
@@ -51,16 +51,9 @@ take-late m n [] l h = take-take m n l h
 take-late zero n (x ∷ a) l h = refl
 take-late (suc m) n (x ∷ a) l h = ap (λ (r : List ℕ). x ∷ r) (take-late m n a l (omega arith))
 
-pub push-take : (size v : ℕ) (w : List ℕ) → push size v (take size w) ≡ push size v w
-push-take size v w = take-late size size (v ∷ []) w (omega arith)
-
--- the window after one ratio more
+-- the window after one ratio more, which may be a repeat
 pub window-snoc : (size : ℕ) (vs : List ℕ) (v : ℕ) → windowOf size (vs ++ (v ∷ [])) ≡ push size v (windowOf size vs)
-window-snoc size vs v = ap (take size) (reverse-append vs (v ∷ [])) ∙ sym (push-take size v (reverse vs))
-
--- the window after one ratio more of the run
-pub window-more : (size : ℕ) (l : List ℕ) (i : ℕ) → i < length l → push size (getD l i 0) (windowOf size (take i l)) ≡ windowOf size (take (i + 1) l)
-window-more size l i h = push-take size (getD l i 0) (reverse (take i l)) ∙ sym (ap (take size) (reverse-more l i h))
+window-snoc size vs v = ap (take size) (reverse-append vs (v ∷ [])) ∙ sym (take-late size size (v ∷ []) (reverse vs) (omega arith))
 
 -- a window has no more ratios than its size, nor than there were
 pub window-few : (size : ℕ) (vs : List ℕ) → (length (windowOf size vs) ≤ size) × (length (windowOf size vs) ≤ length vs)
@@ -83,30 +76,27 @@ reverse-below b (x ∷ l) h = rw reverse-cons (below-append b (reverse l) (x ∷
 pub window-below : (b size : ℕ) (vs : List ℕ) → Below b vs → Below b (windowOf size vs)
 window-below b size vs h = below-take b size (reverse vs) (reverse-below b vs h)
 
-pub held-below : (b : ℕ) (w : Window) → Below b (w .ratios) → Below b (held w)
-held-below b w h = reverse-below b (take (w .fill) (w .ratios)) (below-take b (w .fill) (w .ratios) h)
-
 -- the fill is how many ratios are held
 pub held-length : (w : Window) → w .fill ≤ length (w .ratios) → length (held w) ≡ w .fill
 held-length w h = length-reverse (take (w .fill) (w .ratios)) ∙ length-take-le (w .fill) (w .ratios) h
 
 -- a ratio more in a kept window: with room, and full
-pub push-room : (l : List ℕ) (n v : ℕ) → n < 127 → length l ≡ 127 → reverse (take (n + 1) (set l n v)) ≡ push 127 v (reverse (take n l))
+pub push-room : (l : List ℕ) (n v : ℕ) → n < windowSize → length l ≡ windowSize → reverse (take (n + 1) (set l n v)) ≡ push windowSize v (reverse (take n l))
 push-room l n v h e =
     ap (λ (k : ℕ). reverse (take k (set l n v))) (add-one n)
     ∙ ap reverse (take-suc-set l n v (omega arith))
     ∙ reverse-append (take n l) (v ∷ [])
-    ∙ sym (take-all 127 (v ∷ reverse (take n l)) (omega (arith, length-reverse (take n l), length-take-le n l (omega arith))))
+    ∙ sym (take-all windowSize (v ∷ reverse (take n l)) (omega (arith, length-reverse (take n l), length-take-le n l (omega arith))))
 
-pub push-full : (l : List ℕ) (v : ℕ) → length l ≡ 127 → reverse (take 127 (drop 1 l ++ (v ∷ []))) ≡ push 127 v (reverse (take 127 l))
+pub push-full : (l : List ℕ) (v : ℕ) → length l ≡ windowSize → reverse (take windowSize (drop 1 l ++ (v ∷ []))) ≡ push windowSize v (reverse (take windowSize l))
 push-full [] v e = absurd (omega arith)
 push-full (x ∷ l) v e =
-    let n : length (reverse l) ≡ 126 = omega (arith, length-reverse l) in
-    ap reverse (take-all 127 (l ++ (v ∷ [])) (rw length-append (omega arith)))
+    let n : length (reverse l) ≡ windowSize - 1 = omega (arith, length-reverse l) in
+    ap reverse (take-all windowSize (l ++ (v ∷ [])) (rw length-append (omega arith)))
     ∙ reverse-append l (v ∷ [])
-    ∙ sym (ap (λ (r : List ℕ). take 127 (v ∷ reverse r)) (take-all 127 (x ∷ l) (omega arith))
-    ∙ ap (λ (r : List ℕ). take 127 (v ∷ r)) (reverse-cons x l)
-    ∙ ap (λ (r : List ℕ). v ∷ r) (take-at (reverse l) (x ∷ []) 126 n))
+    ∙ sym (ap (λ (r : List ℕ). take windowSize (v ∷ reverse r)) (take-all windowSize (x ∷ l) (omega arith))
+    ∙ ap (λ (r : List ℕ). take windowSize (v ∷ r)) (reverse-cons x l)
+    ∙ ap (λ (r : List ℕ). v ∷ r) (take-at (reverse l) (x ∷ []) (windowSize - 1) n))
 
 -- a kept window after one ratio more, by whether it has room
 abbrev pushedTo : Window → ℕ → Bool → Window
@@ -115,29 +105,29 @@ pushedTo w v t =
     (record { ratios = drop 1 (w .ratios) ++ (v ∷ []); fill = w .fill })
 
 module _ (w : Window) (v : ℕ) where
-  -- its fill stays the smaller of 127 and the number of ratios that came
-  pub pushed-fill : (n : ℕ) → w .fill ≡ min 127 n → pushed w v .fill ≡ min 127 (n + 1)
-  pushed-fill n e = go (ltb (w .fill) 127) refl
+  -- its fill stays the smaller of its size and the number of ratios that came
+  pub pushed-fill : (n : ℕ) → w .fill ≡ min windowSize n → pushed w v .fill ≡ min windowSize (n + 1)
+  pushed-fill n e = go (ltb (w .fill) windowSize) refl
     where
-      go : (t : Bool) → ltb (w .fill) 127 ≡ t → pushedTo w v t .fill ≡ min 127 (n + 1)
-      go true h = omega (arith, ltb-true (w .fill) 127 h)
-      go false h = omega (arith, ltb-false (w .fill) 127 h)
+      go : (t : Bool) → ltb (w .fill) windowSize ≡ t → pushedTo w v t .fill ≡ min windowSize (n + 1)
+      go true h = omega (arith, ltb-true (w .fill) windowSize h)
+      go false h = omega (arith, ltb-false (w .fill) windowSize h)
 
-  module _ (size : length (w .ratios) ≡ 127) where
-    -- its array keeps 127 cells
-    pub pushed-size : length (pushed w v .ratios) ≡ 127
-    pushed-size = go (ltb (w .fill) 127)
+  module _ (size : length (w .ratios) ≡ windowSize) where
+    -- its array keeps its cells
+    pub pushed-size : length (pushed w v .ratios) ≡ windowSize
+    pushed-size = go (ltb (w .fill) windowSize)
       where
-        go : (t : Bool) → length (pushedTo w v t .ratios) ≡ 127
+        go : (t : Bool) → length (pushedTo w v t .ratios) ≡ windowSize
         go true = length-set (w .ratios) (w .fill) v ∙ size
         go false = simp (length-append, length-drop) (omega arith)
 
     -- what it holds
-    pub held-pushed : w .fill ≤ 127 → held (pushed w v) ≡ push 127 v (held w)
-    held-pushed fits = go (ltb (w .fill) 127) refl
+    pub held-pushed : w .fill ≤ windowSize → held (pushed w v) ≡ push windowSize v (held w)
+    held-pushed fits = go (ltb (w .fill) windowSize) refl
       where
-        go : (t : Bool) → ltb (w .fill) 127 ≡ t → held (pushedTo w v t) ≡ push 127 v (held w)
-        go true e = push-room (w .ratios) (w .fill) v (ltb-true (w .fill) 127 e) size
+        go : (t : Bool) → ltb (w .fill) windowSize ≡ t → held (pushedTo w v t) ≡ push windowSize v (held w)
+        go true e = push-room (w .ratios) (w .fill) v (ltb-true (w .fill) windowSize e) size
         go false e =
-            let n : w .fill ≡ 127 = omega (arith, ltb-false (w .fill) 127 e) in
+            let n : w .fill ≡ windowSize = omega (arith, ltb-false (w .fill) windowSize e) in
             rw n (push-full (w .ratios) v size)

@@ -2,10 +2,11 @@
 -- reference, and an exception a literal.
 --   find v w     the smallest place of v in the window; the window's length where it is not in it
 --   Best         a place and its sum
+--   newer s b    the better of a newer ratio with the sum s and the best b of an older window
 --   best v w     the largest sum over the window, at the smallest place that has it; sum 0 of an empty window
 --   xorForm p x  the xor form at place p, where x is the xor
---   form v w     the form: a reference, else the best xor where its sum is 2 or more, else an exception
-use mathlib.Core.Bool.{Bool, cond}
+--   ratioForm v w   the form: a reference, else the best xor where its sum is 2 or more, else an exception
+use mathlib.Core.Bool.{cond}
 use mathlib.Core.List.{List, [], _∷_}
 use Prim.Native.Nat.{ℕ, _+_, _-_, _/_, _^_}
 use lib.Bits.{bitXor}

@@ -1,8 +1,13 @@
 -- Document 01, "Ratios" (Live, and kept states) and "Numbers that come back": adding one ratio at a tick. The standard term is streaming,
--- or incremental, encoding.
+-- or incremental, encoding. Tests, state and refusals are the same whatever the coder of one ratio is.
 --   freshLive         the first state: a fresh window and none seen
 --   badWindow w n     the window's fill is not the smaller of its size and the number n seen
 --   badLive s         the state is bad
+--   stateTests s      the tests of an addition that need no bytes: 7, 3
+--   addedTo s v       the state after the ratio v was added
+--   Coder             a coder of one ratio: a ratio and a window, newest first, to bytes
+--   addBytesBy, addTestsBy, addRefusalBy, addAnswerBy, addOutputBy, addStateBy    the definitions below by any coder, their first argument;
+--                     document 01's are these at the coder `coded`
 --   addBytes s v      the bytes of the ratio v in the state s
 --   addTests s v o    the tests of an addition in their order: 7, 3, 6
 --   addRefusal s v o  the refusal of an addition, or none
@@ -10,7 +15,7 @@
 --   addOutput s v o   the output o afterwards
 --   addState s v o    the state afterwards
 use mathlib.Core.Bool.{Bool, true, not, cond}
-use mathlib.Core.List.{List, [], _∷_}
+use mathlib.Core.List.{List, [], _∷_, _++_}
 use Prim.Native.Nat.{ℕ, _+_, min}
 use lib.Dec.{leb, ltb, eqb}
 use lib.ListN.{length}
@@ -36,32 +41,68 @@ badWindow w n = not (eqb (w .fill) (min windowSize n))
 abbrev pub badLive : Live → Bool
 badLive s = cond (badWindow (s .window) (s .seen)) true (ltb maxPoints (s .seen))
 
--- the bytes of the ratio in this state
-abbrev pub addBytes : Live → ℕ → List ℕ
-addBytes s v = coded v (held (s .window))
-
 -- 3 means that there would be more than 4,096 points with this one
-abbrev pub addTests : Live → ℕ → List ℕ → List Test
-addTests s v o =
-    test (badLive s) 7 0
-    ∷ test (leb maxPoints (s .seen)) 3 0
-    ∷ test (ltb (length o) (length (addBytes s v))) 6 0
-    ∷ []
+abbrev pub stateTests : Live → List Test
+stateTests s = test (badLive s) 7 0 ∷ test (leb maxPoints (s .seen)) 3 0 ∷ []
+
+-- the state after a ratio that was added
+abbrev pub addedTo : Live → ℕ → Live
+addedTo s v = record { window = pushed (s .window) v; seen = s .seen + 1 }
+
+-- ---- an addition by any coder of one ratio
+
+-- from a ratio and a window, newest first
+abbrev pub Coder : Type 0
+Coder = ℕ → List ℕ → List ℕ
+
+-- the bytes of the ratio in this state
+abbrev pub addBytesBy : Coder → Live → ℕ → List ℕ
+addBytesBy k s v = k v (held (s .window))
+
+-- 6 means that the output has no room for them
+abbrev pub addTestsBy : Coder → Live → ℕ → List ℕ → List Test
+addTestsBy k s v o = stateTests s ++ (test (ltb (length o) (length (addBytesBy k s v))) 6 0 ∷ [])
 
 -- the refusal of an addition, or none
-unfoldable pub addRefusal : Live → ℕ → List ℕ → Refusal
-addRefusal s v o = firstOf (addTests s v o)
+unfoldable pub addRefusalBy : Coder → Live → ℕ → List ℕ → Refusal
+addRefusalBy k s v o = firstOf (addTestsBy k s v o)
 
 -- the answer
-unfoldable pub addAnswer : Live → ℕ → List ℕ → AddAnswer
-addAnswer s v o =
-    let f = addRefusal s v o in
-    record { number = f .number; place = f .place; length = cond (refused f) 0 (length (addBytes s v)) }
+unfoldable pub addAnswerBy : Coder → Live → ℕ → List ℕ → AddAnswer
+addAnswerBy k s v o =
+    let f = addRefusalBy k s v o in
+    record { number = f .number; place = f .place; length = cond (refused f) 0 (length (addBytesBy k s v)) }
 
 -- the output afterwards
-unfoldable pub addOutput : Live → ℕ → List ℕ → List ℕ
-addOutput s v o = cond (refused (addRefusal s v o)) (zeros o) (over (addBytes s v) o)
+unfoldable pub addOutputBy : Coder → Live → ℕ → List ℕ → List ℕ
+addOutputBy k s v o = cond (refused (addRefusalBy k s v o)) (zeros o) (over (addBytesBy k s v) o)
 
 -- the state afterwards: unchanged by a refusal, every cell of it
-unfoldable pub addState : Live → ℕ → List ℕ → Live
-addState s v o = cond (refused (addRefusal s v o)) s (record { window = pushed (s .window) v; seen = s .seen + 1 })
+unfoldable pub addStateBy : Coder → Live → ℕ → List ℕ → Live
+addStateBy k s v o = cond (refused (addRefusalBy k s v o)) s (addedTo s v)
+
+-- ---- document 01's addition
+
+-- the bytes
+abbrev pub addBytes : Live → ℕ → List ℕ
+addBytes = addBytesBy coded
+
+-- the tests
+abbrev pub addTests : Live → ℕ → List ℕ → List Test
+addTests = addTestsBy coded
+
+-- the refusal
+abbrev pub addRefusal : Live → ℕ → List ℕ → Refusal
+addRefusal = addRefusalBy coded
+
+-- the answer
+abbrev pub addAnswer : Live → ℕ → List ℕ → AddAnswer
+addAnswer = addAnswerBy coded
+
+-- the output afterwards
+abbrev pub addOutput : Live → ℕ → List ℕ → List ℕ
+addOutput = addOutputBy coded
+
+-- the state afterwards
+abbrev pub addState : Live → ℕ → List ℕ → Live
+addState = addStateBy coded

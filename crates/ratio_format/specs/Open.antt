@@ -3,7 +3,7 @@
 --   openRead w s      the ratio at the front of the bytes s, against the window w, by the open rule
 --   strictOf w s r    an open reading r, accepted only so
 --   strictRead w s    the same, accepted only where the bytes are those that are written for that ratio
-use mathlib.Core.Bool.{Bool, cond}
+use mathlib.Core.Bool.{cond}
 use mathlib.Core.List.{List, [], _∷_}
 use Prim.Native.Nat.{ℕ, _+_, _-_, _*_, _/_, _%_, _^_}
 use lib.Bits.{bitXor}

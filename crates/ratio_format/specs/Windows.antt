@@ -3,6 +3,7 @@
 --   windowSize      how many ratios it holds
 --   push n v w      the window w of size n after the ratio v: repeats are kept
 --   windowOf n vs   the window of size n after the ratios vs, in the order in which they came
+--   freshWindow     a kept window that holds none
 --   held w          the ratios of a kept window, newest first
 --   pushed w v      a kept window after the ratio v
 use mathlib.Core.Bool.{cond}

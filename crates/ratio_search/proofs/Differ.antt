@@ -3,7 +3,7 @@ use mathlib.Core.Path.{_≡_, sym, ap, _∙_}
 use Prim.Native.Nat.{ℕ, _*_, _/_, _%_, _^_, _≤_}
 use lib.Bits.{bitXor, xor-shr, xor-mod}
 use Rattle.ratio_format.specs.Zeros.{sumOf}
-use Rattle.ratio_format.proofs.Score.{xor-zero}
+use Rattle.ratio_format.proofs.Sums.{xor-zero}
 use Rattle.ratio_search.specs.Planes.{byteAt}
 use Rattle.ratio_search.specs.Apart.{Apart}
 use Rattle.ratio_search.proofs.Bytes.{apart-le}

@@ -9,7 +9,7 @@ use lib.Dec.{leb}
 use lib.ListN.{length, take, getD}
 use Rattle.ratio_format.specs.Windows.{windowSize, windowOf}
 use Rattle.ratio_format.specs.Zeros.{sumOf}
-use Rattle.ratio_format.proofs.Score.{sum-same}
+use Rattle.ratio_format.proofs.Sums.{sum-same}
 use Rattle.ratio_codec.specs.Searched.{Searched}
 use Rattle.ratio_codec.specs.Passed.{Passed}
 use Rattle.ratio_codec.proofs.Passed.{passed-none, passed-more, passed-join, passed-mono}

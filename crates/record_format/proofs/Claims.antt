@@ -29,11 +29,12 @@ use Rattle.ratio_format.proofs.Strict.{strict-coded}
 use Rattle.record_format.specs.Fields.{Field, fieldOf, fieldBytes, laid}
 use Rattle.record_format.specs.Runs.{Run, run, rateSize, countSize, ratiosTag, fieldsOf, recordOf}
 use Rattle.record_format.specs.Reading.{Answer, readStrict, readOpen, listOf, otherRate}
-use Rattle.record_format.specs.Claims.{Accepted, AllAccepted, joined, ownTests, ownAnswer, runAnswer, ReadsBack, ReadsOnly, AcceptsExactly, PrefixFree, ListsApart, TrailingBytes, Shortest, NineEach, Demand3}
+use Rattle.record_format.specs.Claims.{Accepted, AllAccepted, joined, ownTests, ownAnswer, runAnswer, ReadsBack, ReadsOnly, AcceptsExactly, OpenAgrees, PrefixFree, ListsApart, TrailingBytes, Shortest, NineEach, Demand3}
 use Rattle.record_format.proofs.Fields.{laid-same}
 use Rattle.record_format.proofs.Reading.{answer-quiet, answer-good}
 use Rattle.record_format.proofs.ReadsBack.{fields-small, read-record}
 use Rattle.record_format.proofs.ReadsOnly.{accepted-begins}
+use Rattle.record_format.proofs.Followed.{followed}
 use Rattle.record_format.proofs.Writing.{accepted-fits, fitting-accepted}
 
 -- ---- demand 2
@@ -115,6 +116,12 @@ accepts-exactly e s ts vs bytes = (
       ap (λ (x : Answer). x .answer .number) q,
 )
 
+pub open-agrees : OpenAgrees
+open-agrees e s ts vs bytes h =
+    let o = reads-only e s ts vs bytes h in
+    let b = reads-back (o .0) (o .1) e (o .2 .0) ts vs in
+    ap (λ (l : List ℕ). readOpen e l ts vs) (o .2 .1) ∙ b .1 ∙ sym (b .0) ∙ ap (λ (l : List ℕ). readStrict e l ts vs) (sym (o .2 .1))
+
 -- ---- demand 3
 
 -- the ratios' field is the last of a record
@@ -191,7 +198,7 @@ unfolding Below
 shortest-of-all vs s words bytes e = shortest windowSize [] (length vs) s vs bytes tt e
 
 pub nine-each : NineEach
-nine-each vs words = nine-bytes windowSize [] vs
+nine-each vs = nine-bytes windowSize [] vs
 
 pub demand3 : Demand3
-demand3 = (prefix-free, lists-apart, trailing-bytes, shortest-of-all, nine-each)
+demand3 = (prefix-free, lists-apart, trailing-bytes, followed, shortest-of-all, nine-each)

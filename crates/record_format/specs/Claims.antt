@@ -1,10 +1,21 @@
--- The demands on records as statements about the definitions, in the terms of document 01, "What demand 3 compares". Each is proved in
--- proofs/Claims; the calls are tied to them by their contracts.
---   Accepted r          r is a run that the writer accepts: its ratios have 64 bits, and no test of writing but 6 applies
---   Beginning a b       the string a is a beginning of b: b is a and then any bytes, or none
---   joined rs           the records of the runs rs, joined in their order
+-- The demands on records as statements about the definitions, in the terms of document 01, "What demand 3 compares". Followed is proved in
+-- proofs/Followed, each other in proofs/Claims; the calls are tied to them by their contracts.
+--   Accepted r          r is a run that the writer accepts, in the standard term valid: its ratios have 64 bits, and no test of writing but 6
+--                       applies. AllAccepted rs: every run of a list is
+--   Bytes s             s is a string of bytes
+--   Beginning a b       the string a is a beginning of b, in the standard term a prefix: b is a and then any bytes, or none
+--   joined rs           the records of the runs rs, joined in their order: their concatenation
+--   countPlace          the offset of the count's field in every record that is written: what countAt finds there
+--   ownTests r e m n    the tests that can apply to the record of r; ownAnswer r ts vs: the answer where none does
 --   runAnswer r e ts vs what reading the record of r answers
---   ReadsBack .. NineEach   the parts of the demands
+--   ReadsBack           both readings give back the run of a record, or 14 or 16
+--   ReadsOnly           what strict reading accepts is a run's record, and the answer is that run
+--   AcceptsExactly      when strict reading accepts
+--   OpenAgrees          what strict reading accepts open reading answers alike
+--   PrefixFree          no record begins another: in the standard term, records are a prefix code
+--   ListsApart          joined records tell their lists: a uniquely decodable code
+--   TrailingBytes       whatever follows a record changes nothing; Followed: nor does what follows any whole fields
+--   Shortest, NineEach  no string of the same ratios is shorter than ours, which takes at most nine bytes a ratio
 --   Demand3             demand 3, whole: the conjunction of its parts
 use mathlib.Core.Bool.{true, cond}
 use mathlib.Core.List.{List, [], _∷_, _++_}
@@ -88,6 +99,10 @@ AcceptsExactly = (e : ℕ) (s ts vs : List ℕ) → Bytes s
     ↔ ((r : Run) × Accepted r × Beginning (recordOf r) s
     × ((e ≡ 0) ⊎ (e ≡ r .rate)) × (length (r .positions) ≤ length ts) × (length (r .positions) ≤ length vs))
 
+-- demand 2: the open rule accepts all that strict reading accepts, and answers the same
+abbrev pub OpenAgrees : Type 0
+OpenAgrees = (e : ℕ) (s ts vs : List ℕ) → Bytes s → readStrict e s ts vs .answer .number ≡ 0 → readOpen e s ts vs ≡ readStrict e s ts vs
+
 -- demand 3: of two runs that differ, neither record is a beginning of the other
 abbrev pub PrefixFree : Type 0
 PrefixFree = (r q : Run) → Accepted r → Accepted q → (r ≡ q → ⊥)
@@ -114,8 +129,8 @@ Shortest = (vs s : List ℕ) → Below (2 ^ 64) vs → Bytes s → openRatios (l
 
 -- demand 3: ours takes at most nine bytes for each ratio
 abbrev pub NineEach : Type 0
-NineEach = (vs : List ℕ) → Below (2 ^ 64) vs → length (codedRatios vs) ≤ 9 * length vs
+NineEach = (vs : List ℕ) → length (codedRatios vs) ≤ 9 * length vs
 
 -- demand 3, undivided
 abbrev pub Demand3 : Type 0
-Demand3 = PrefixFree × ListsApart × TrailingBytes × Shortest × NineEach
+Demand3 = PrefixFree × ListsApart × TrailingBytes × Followed × Shortest × NineEach

@@ -1,4 +1,8 @@
 -- Document 01, "Bytes to compare": the rows marked P, as one table, proved from the definitions by one statement.
+--   Subject, codeOf        what is shown, and its code
+--   Example, example       such a subject, and what document 01 gives for it
+--   listedRun, listedBytes the run of the listing, and its 46 bytes
+--   examples               the rows; examples-hold: each is as it is given
 use mathlib.Core.Path.{_≡_, refl}
 use mathlib.Core.List.{List, [], _∷_, _++_, map}
 use Prim.Native.Nat.{ℕ}
@@ -30,14 +34,14 @@ codeOf (sum v u) = sumOf v u ∷ []
 codeOf (ratios vs) = codedRatios vs
 codeOf (whole r) = recordOf r
 
--- an example: what is shown, and what document 01 prints of it
+-- an example: what is shown, and what document 01 gives for it
 pub record Example : Type 0 where
   pub subject : Subject
-  pub printed : List ℕ
+  pub expected : List ℕ
 
 -- such an example
 abbrev example : Subject → List ℕ → Example
-example s l = record { subject = s; printed = l }
+example s l = record { subject = s; expected = l }
 
 -- the run of the listing
 abbrev pub listedRun : Run
@@ -73,7 +77,7 @@ examples =
     ∷ example (whole listedRun) listedBytes
     ∷ []
 
--- each row's code, computed from the definitions, is the one that is printed
-pub examples-hold : map (λ e. codeOf (e .subject)) examples ≡ map (λ e. e .printed) examples
+-- each row's code, computed from the definitions, is the one that is given
+pub examples-hold : map (λ e. codeOf (e .subject)) examples ≡ map (λ e. e .expected) examples
 unfolding examples codeOf digitsOf numberOf eights pack rows code stepsFrom stepBits positionBits codedPositions zerosAt leadZeros trailZeros sumOf find best ratioForm written coded codedFrom fieldBytes laid recordOf
 examples-hold = refl

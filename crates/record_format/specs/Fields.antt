@@ -1,7 +1,7 @@
 -- Document 01, "The record": fields. The standard term is tag, length, value.
 --   Field          a tag and a body
 --   fieldOf t b    such a field
---   headSize       how many bytes stand before a field's body
+--   headSize       how many bytes stand before a field's body: its head, in the standard term a header
 --   maxBody        the longest body that two bytes can state
 --   fieldBytes f   the bytes of the field f: the tag, the length of the body in two bytes, and the body
 --   laid fs        the fields fs, laid end to end
@@ -9,6 +9,7 @@
 --   lengthAt s p   its stated length
 --   bodyAt s p     its body
 --   nextAt s p     the offset past it
+--   lengthTests s n p      the test of the stated length, where one is asked for
 --   fieldTests s tags n p   the tests of a field at p before those of its contents: whole head, a tag of the list, the stated length where
 --                           one is asked for, whole body
 use mathlib.Core.Bool.{not}

@@ -4,10 +4,15 @@
 --   rateIn, countIn        the numbers in the fields of the rate and of the count
 --   positionsIn s          the positions that the positions' field is the coding of, or nothing
 --   ratiosIn k s           the ratios that the reading k of the ratios' field gives, or nothing
---   frontTests e s         the tests of rate and count, with the expected rate e (0 for none)
+--   missing, listOf        whether there is no list, and the list, if there is one
+--   otherRate e r          another rate is expected than r
+--   rateTests, countTests  the tests of their fields; frontTests e s: of both, with the expected rate e (0 for none)
+--   lacksRoom m n c        an output lacks room for c numbers, in the standard term capacity; roomTests s m n: the test of it
 --   codedTests s tags k x p  the tests of a field of coded numbers at p, whose body the reading k takes, or else the number x
---   roomTests s m n        the test of room for m positions and n ratios
+--   positionsTests, ratiosTests   those of the positions' field and of the ratios'
 --   readTests k e s m n    the tests of reading in their order, with the reading k of the ratios' field
+--   Answer                 what a reading returns, and both outputs, the caller's buffers, afterwards
+--   refusalAnswer, recordAnswer, answerBy   that of a refusal, of a record, and by a list of tests
 --   readWith k e s ts vs   the whole answer, with outputs ts and vs: number, place, rate, count, bytes used, and both outputs afterwards
 --   readStrict, readOpen   the two readings of a record
 -- Strict and open reading, in standard terms canonical and lenient decoding, differ in the reading of the ratios' field only: strictRatios

@@ -1,14 +1,15 @@
 -- Document 01, "Numbers that bound it": the sizes of a record and of its bodies, as statements. Each is proved in proofs/Sizes.
 --   minRecord, maxRecord   the fewest and the most bytes of a record
+--   maxPositionsBody, maxRatiosBody   the most bytes of the bodies of positions and of ratios
 --   Within          an accepted run's record has 18 to 55,321 bytes, its positions' body at most 18,439 and its ratios' at most 36,864
 --   NoPoints        the record of no points has 18 bytes, and at each rate of the list that run is accepted
---   firstValues f n the values f 0, f 1, .., n of them
+--   firstValues f n the values f 0, f 1, .., n of them; swing and twoEnds: those of the longest run's positions and ratios
 --   longest         a run whose record has 55,321 bytes
 --   Reached         it is accepted, and its record has that length
 use mathlib.Core.Bool.{true}
 use mathlib.Core.List.{List, [], _∷_}
 use mathlib.Core.Path.{_≡_}
-use Prim.Native.Nat.{ℕ, zero, suc, _+_, _*_, _%_, _^_, _≤_}
+use Prim.Native.Nat.{ℕ, zero, suc, _+_, _*_, _/_, _%_, _^_, _≤_}
 use lib.ListN.{length}
 use Rattle.limits.specs.Points.{maxPoints}
 use Rattle.limits.specs.Rates.{isRate}
@@ -22,17 +23,25 @@ use Rattle.record_format.specs.Claims.{Accepted}
 abbrev pub minRecord : ℕ
 minRecord = 18
 
+-- 128 bits for the first two positions, and 36 for each of 4,094 more, laid in bytes
+abbrev pub maxPositionsBody : ℕ
+maxPositionsBody = (128 + 36 * 4094 + 7) / 8
+
+-- nine bytes for each of 4,096 ratios
+abbrev pub maxRatiosBody : ℕ
+maxRatiosBody = 9 * maxPoints
+
 -- with the longest bodies
 abbrev pub maxRecord : ℕ
-maxRecord = 55321
+maxRecord = minRecord + maxPositionsBody + maxRatiosBody
 
 -- the bounds, for every accepted run
 abbrev pub Within : Type 0
 Within = (r : Run) → Accepted r
     → (minRecord ≤ length (recordOf r))
     × (length (recordOf r) ≤ maxRecord)
-    × (length (codedPositions rows (r .positions)) ≤ 18439)
-    × (length (codedRatios (r .ratios)) ≤ 36864)
+    × (length (codedPositions rows (r .positions)) ≤ maxPositionsBody)
+    × (length (codedRatios (r .ratios)) ≤ maxRatiosBody)
 
 -- no points: the lower bound is reached
 abbrev pub NoPoints : Type 0

@@ -1,4 +1,4 @@
-pub mod Putting
+pub mod PlacedAt
 pub mod Digits
 pub mod Lengths
 pub mod Absolute

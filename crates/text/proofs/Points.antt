@@ -9,7 +9,7 @@ use lib.ListN.{length, getD, take}
 use lib.Seq.{take-length}
 use Rattle.text.specs.Lines.{pointLine, pointLines}
 use Rattle.text.specs.PlacedAt.{PlacedAt}
-use Rattle.text.proofs.Putting.{put-none, put-as, put-put}
+use Rattle.text.proofs.PlacedAt.{put-none, put-as, put-put}
 
 lines-more : (ts vs : List ℕ) (i : ℕ) → i < length ts → i < length vs
     → pointLines (take i ts) (take i vs) ++ pointLine (getD ts i 0) (getD vs i 0) ≡ pointLines (take (suc i) ts) (take (suc i) vs)

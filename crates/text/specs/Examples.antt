@@ -1,4 +1,7 @@
 -- Document 01, "Bytes to compare": lines of the listing and its whole output, as one table, proved from the definitions by one statement.
+--   Example, example         a text, and its bytes as document 01 gives them
+--   listedText, refusedText  the output in full, and the line of a refusal
+--   examples                 the rows; examples-hold: each is as it is given
 use mathlib.Core.Path.{_≡_, refl}
 use mathlib.Core.List.{List, [], _∷_, map}
 use Prim.Native.Nat.{ℕ}
@@ -11,11 +14,11 @@ use Rattle.text.specs.Lines.{rateLine, countLine, spanLine, pointLine, r
 -- an example: a text, and its bytes
 pub record Example : Type 0 where
   pub text : List ℕ
-  pub printed : List ℕ
+  pub expected : List ℕ
 
 -- such an example
 abbrev example : List ℕ → List ℕ → Example
-example l p = record { text = l; printed = p }
+example l p = record { text = l; expected = p }
 
 -- the output in full, of the run that document 01 lists
 abbrev pub listedText : List ℕ
@@ -45,7 +48,7 @@ examples =
     ∷ example (listing 96000 (pos 20) (0 ∷ 960 ∷ 1920 ∷ []) (replicate 3 0x3FE0000000000000)) listedText
     ∷ []
 
--- each text, computed from the definitions, is the one that is printed
-pub examples-hold : map (λ e. e .text) examples ≡ map (λ e. e .printed) examples
+-- each text, computed from the definitions, is the one that is given
+pub examples-hold : map (λ e. e .text) examples ≡ map (λ e. e .expected) examples
 unfolding examples digitsOf trimmed decimal hex16 signed rateLine countLine spanLine pointLine refusedLine pointLines listing
 examples-hold = refl

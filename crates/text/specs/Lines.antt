@@ -1,4 +1,5 @@
 -- Document 01, "Bytes to compare", the listing: its lines and its whole text. Single spaces; each line ends in one newline.
+--   newline, space, rateWord .. atWord    the fixed parts of a line
 --   rateLine r, countLine n, spanLine z   `rate 96000`, `count 3`, `span 20`
 --   pointLine t v                         `960 3fe0000000000000`: a position and the bits of its ratio
 --   refusedLine n p                       `refused 10 at 0`: a refusal's number and place

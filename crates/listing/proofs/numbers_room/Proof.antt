@@ -1,11 +1,11 @@
 -- `numbers_room` meets its contract.
 use mathlib.Core.Path.{refl}
-use Rattle.listing.specs.Printed.{room}
+use Rattle.listing.specs.Printed.{blank}
 use Rattle.listing.proofs.numbers_room.Statement.{statement}
 use Rattle.listing.proofs.numbers_room.Tie as tie
 
 returns : tie.Need-returns
-unfolding room
+unfolding blank
 returns c = refl
 
 pub numbers-room-spec : {M : Type 1} → statement M

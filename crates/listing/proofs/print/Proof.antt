@@ -9,7 +9,7 @@ use mir.ValLaws.{toZ-ofZ}
 use Rattle.lists.specs.Below.{Below}
 use Rattle.lists.proofs.Below.{below-of}
 use Rattle.span.specs.declared.SpanAnswer.{SpanAnswer}
-use Rattle.text.proofs.Putting.{put-same, put-more}
+use Rattle.text.proofs.PlacedAt.{put-same, put-more}
 use Rattle.listing.proofs.Texts.{Read, read-as, refused-text, run-text, Held, longest, held}
 use Rattle.listing.proofs.print.Statement.{statement}
 use Rattle.listing.proofs.print.Tie as tie
@@ -48,7 +48,7 @@ bytes c = below-of 256 (c .before .args .input .now) (λ i. c .shared-slice-know
 
 -- where nothing was refused, the outputs hold the run's numbers
 run-held : (c : tie.Else1) → Held (answered c .read-strict .result .count) (answered c .read-strict .last .1 .1 .0) (answered c .read-strict .last .1 .1 .1 .0)
-run-held c = held (read (answered c)) (c .if1 .left) (bytes (entry (answered c)))
+run-held c = held (read (answered c)) (entry (answered c) .before .pre .0) (c .if1 .left) (bytes (entry (answered c)))
 
 -- ---- the needs
 
@@ -77,7 +77,7 @@ returns : tie.Need-returns
 returns c =
     let put = c .before .before in
     let i = put .before .before in
-    put-more (omega arith) (put-same (refused-text (read (refused i)) (i .if1 .taken)) (put .put-refused .ensures))
+    put-more (omega arith) (put-same (refused-text (read (refused i)) (entry (refused i) .before .pre .0) (i .if1 .taken)) (put .put-refused .ensures))
 
 cast-count : tie.Need-cast-count
 cast-count c = search needs
@@ -107,7 +107,7 @@ put-listing-requires : tie.Need-put-listing-requires
 put-listing-requires c κs =
     let k = spanned (listed c) in
     let h = run-held k in
-    (length-take-le _ _ (h .positions) ∙ sym (length-take-le _ _ (h .ratios)), omega (arith, longest h, entry (answered k) .before .pre))
+    (length-take-le _ _ (h .positions) ∙ sym (length-take-le _ _ (h .ratios)), omega (arith, longest h, entry (answered k) .before .pre .1))
 
 same-length-2 : tie.Need-same-length-2
 same-length-2 c = search needs
@@ -120,7 +120,7 @@ returns-2 c =
     let k = spanned (listed told) in
     let fits : SFits w64 (a .result .milliseconds) = record { sfits = told .struct-told .given .1 .1 .0 .1 } in
     let e = toZ-ofZ w64 (a .result .milliseconds) fits ∙ ap (λ (x : SpanAnswer). x .milliseconds) (a .ensures) in
-    put-more (longest (run-held k)) (put-same (run-text (read (answered k)) (k .if1 .left) _ e) (put .put-listing .ensures))
+    put-more (longest (run-held k)) (put-same (run-text (read (answered k)) (entry (answered k) .before .pre .0) (k .if1 .left) _ e) (put .put-listing .ensures))
 
 pub print-spec : {M : Type 1} → statement M
 print-spec =

@@ -15,7 +15,7 @@ use Rattle.ratio_format.specs.declared.Read.the-variants.{Ratio, Nothing}
 use Rattle.ratio_format.specs.Windows.{windowSize, windowOf}
 use Rattle.ratio_format.specs.Forms.{coded}
 use Rattle.ratio_format.specs.Open.{openRead, strictRead}
-use Rattle.ratio_format.proofs.Reading.{strict-refused, strict-good, strict-other}
+use Rattle.ratio_format.proofs.Open.{strict-nothing, strict-good, strict-other}
 use Rattle.ratio_search.specs.Planes.{Kept}
 use Rattle.ratio_search.proofs.Slots.{kept-none, kept-set, planes-part}
 use Rattle.ratio_search.proofs.Found.{window-length}
@@ -64,7 +64,7 @@ returns c =
     let s = drop (l .at) (a .body .now) in
     filled-strict (a .count) (a .body .now) (a .out .now) (l .out) false (λ i. d .shared-slice-known .given i .fits)
     (got-refused strictRead (a .count) (a .body .now) (a .out .now) (l .out) (l .at) (l .i) (l .inv .0) (omega arith) Nothing
-    (strict-refused w s (o .result) (o .ensures) (c .enum-told .given .1)) refl)
+    (strict-nothing w s (o .result) (o .ensures) (c .enum-told .given .1)) refl)
 
 refresh-requires : tie.Need-refresh-requires Inv-loop μ-loop
 refresh-requires c κs =

@@ -1,18 +1,16 @@
 -- `text::put_decimal` meets its contract: the fewest digits that hold the number are its text.
-use mathlib.Core.Path.{_≡_, _∙_}
-use native.Mathlib.Omega.{arith}
 use borrow.Author.Needs.{needs}
-use lib.ListN.{take}
+use lib.ListN.{length}
 use Rattle.text.specs.Numbers.{decimal}
 use Rattle.text.proofs.Digits.{decimal-fewest}
 use Rattle.text.proofs.Lengths.{length-decimal}
-use Rattle.text.proofs.Putting.{put-as}
+use Rattle.text.proofs.PlacedAt.{digits-room, put-digits}
 use Rattle.text.proofs.put_decimal.Statement.{statement}
 use Rattle.text.proofs.put_decimal.Tie as tie
 
--- what is lent on is the number's text
-digits-are : (c : tie.After-decimal) → take (c .decimal .result) (c .decimal .last .1 .0) ≡ decimal (c .before .before .before .args .n)
-digits-are c = c .decimal .ensures .1 .1 ∙ decimal-fewest (c .before .before .before .fits .n .fits) (c .decimal .ensures .1 .0)
+-- the start, seen from the digits
+abbrev start : tie.After-decimal → tie.Start
+start c = c .before .before .before
 
 decimal-requires : tie.Need-decimal-requires
 decimal-requires c κs = search needs
@@ -24,13 +22,20 @@ slice-aggregate-put-text : tie.Need-slice-aggregate-put-text
 slice-aggregate-put-text c = search needs
 
 put-text-requires : tie.Need-put-text-requires
-put-text-requires c κs = rw (digits-are (c .before .before)) (omega (arith, length-decimal (c .before .before .before .before .before .args .n)))
+put-text-requires c κs =
+    let digits = c .before .before in
+    let n = start digits .args .n in
+    digits-room 10 1 20 n (digits .decimal .result) (decimal n) (digits .decimal .last .1 .0) (decimal-fewest (start digits .fits .n .fits)) (length-decimal n) (digits .decimal .ensures .1) (start digits .args .at) (length (start digits .args .out .now)) (start digits .pre)
 
 same-length : tie.Need-same-length
 same-length c = search needs
 
 returns : tie.Need-returns
-returns c = put-as (omega (arith, length-decimal (c .before .before .before .before .before .before .before .before .args .n))) (digits-are (c .before .before .before .before .before)) (c .before .before .put-text .ensures)
+returns c =
+    let text = c .before .before in
+    let digits = text .before .before .before in
+    let n = start digits .args .n in
+    put-digits 10 1 20 n (digits .decimal .result) (decimal n) (digits .decimal .last .1 .0) (decimal-fewest (start digits .fits .n .fits)) (length-decimal n) (digits .decimal .ensures .1) (text .put-text .ensures)
 
 pub put-decimal-spec : {M : Type 1} → statement M
 put-decimal-spec =

@@ -1,18 +1,17 @@
 -- `text::put_hex` meets its contract: 16 digits hold the number.
-use mathlib.Core.Path.{_≡_, _∙_}
-use native.Mathlib.Omega.{arith}
 use borrow.Author.Needs.{needs}
-use lib.ListN.{take}
+use native.Mathlib.Omega.{arith}
+use lib.ListN.{length}
 use Rattle.text.specs.Numbers.{hex16}
 use Rattle.text.proofs.Digits.{hex-fewest}
 use Rattle.text.proofs.Lengths.{length-hex}
-use Rattle.text.proofs.Putting.{put-as}
+use Rattle.text.proofs.PlacedAt.{digits-room, put-digits}
 use Rattle.text.proofs.put_hex.Statement.{statement}
 use Rattle.text.proofs.put_hex.Tie as tie
 
--- what is lent on is the number's text
-digits-are : (c : tie.After-hex) → take (c .hex .result) (c .hex .last .1 .1 .0) ≡ hex16 (c .before .before .before .args .v)
-digits-are c = c .hex .ensures .1 .1 ∙ hex-fewest (c .before .before .before .fits .v .fits) (c .hex .ensures .1 .0)
+-- the start, seen from the digits
+abbrev start : tie.After-hex → tie.Start
+start c = c .before .before .before
 
 hex-requires : tie.Need-hex-requires
 hex-requires c κs = search needs
@@ -24,13 +23,20 @@ slice-aggregate-put-text : tie.Need-slice-aggregate-put-text
 slice-aggregate-put-text c = search needs
 
 put-text-requires : tie.Need-put-text-requires
-put-text-requires c κs = rw (digits-are (c .before .before)) (omega (arith, length-hex (c .before .before .before .before .before .args .v)))
+put-text-requires c κs =
+    let digits = c .before .before in
+    let v = start digits .args .v in
+    digits-room 16 16 16 v (digits .hex .result) (hex16 v) (digits .hex .last .1 .1 .0) (hex-fewest (start digits .fits .v .fits)) (omega (arith, length-hex v)) (digits .hex .ensures .1) (start digits .args .at) (length (start digits .args .out .now)) (start digits .pre)
 
 same-length : tie.Need-same-length
 same-length c = search needs
 
 returns : tie.Need-returns
-returns c = put-as (omega (arith, length-hex (c .before .before .before .before .before .before .before .before .args .v))) (digits-are (c .before .before .before .before .before)) (c .before .before .put-text .ensures)
+returns c =
+    let text = c .before .before in
+    let digits = text .before .before .before in
+    let v = start digits .args .v in
+    put-digits 16 16 16 v (digits .hex .result) (hex16 v) (digits .hex .last .1 .1 .0) (hex-fewest (start digits .fits .v .fits)) (omega (arith, length-hex v)) (digits .hex .ensures .1) (text .put-text .ensures)
 
 pub put-hex-spec : {M : Type 1} → statement M
 put-hex-spec =

@@ -5,7 +5,7 @@ use borrow.Author.Needs.{needs}
 use mir.Syntax.{w64}
 use mir.ValLaws.{toZ-ofZ}
 use Rattle.text.specs.Lines.{spanLine, listing}
-use Rattle.text.proofs.Putting.{put-same, put-more, put-put}
+use Rattle.text.proofs.PlacedAt.{put-same, put-more, put-put}
 use Rattle.text.proofs.put_listing.Statement.{statement}
 use Rattle.text.proofs.put_listing.Tie as tie
 
@@ -27,10 +27,15 @@ same-length c = search needs
 returns : tie.Need-returns
 unfolding listing
 returns c =
-    let a = c .before .before .before .before .before .before .before .before .before .before .before .before .before .before .before .before .before .before .before in
-    let span = put-same (ap spanLine (toZ-ofZ w64 (a .args .span) (a .fits .span))) (c .before .before .before .before .before .before .put-span .ensures) in
-    let l = put-put (omega arith) (c .before .before .before .before .before .before .before .before .before .before .before .before .before .before .put-rate .ensures) (put-put (omega arith) (c .before .before .before .before .before .before .before .before .before .before .put-count .ensures) (put-put (omega arith) span (c .before .before .put-points .ensures))) in
-    put-more (omega arith) l
+    let points = c .before .before in
+    let span = points .before .before .before .before in
+    let count = span .before .before .before .before in
+    let rate = count .before .before .before .before in
+    let start = let lent = rate .before in lent .before .before .before .before in
+    let spanned = put-same (ap spanLine (toZ-ofZ w64 (start .args .span) (start .fits .span))) (span .put-span .ensures) in
+    put-more (omega arith)
+    (put-put (omega arith) (rate .put-rate .ensures)
+    (put-put (omega arith) (count .put-count .ensures) (put-put (omega arith) spanned (points .put-points .ensures))))
 
 pub put-listing-spec : {M : Type 1} → statement M
 put-listing-spec =

@@ -1,7 +1,7 @@
 -- `text::put_named` meets its contract: three texts, one after the other.
 use native.Mathlib.Omega.{arith}
 use borrow.Author.Needs.{needs}
-use Rattle.text.proofs.Putting.{put-put}
+use Rattle.text.proofs.PlacedAt.{put-put}
 use Rattle.text.proofs.put_named.Statement.{statement}
 use Rattle.text.proofs.put_named.Tie as tie
 
@@ -21,7 +21,11 @@ same-length : tie.Need-same-length
 same-length c = search needs
 
 returns : tie.Need-returns
-returns c = put-put (omega arith) (c .before .before .before .before .before .before .before .before .before .before .before .put-text .ensures) (put-put (omega arith) (c .before .before .before .before .before .before .before .put-decimal .ensures) (c .before .before .put-text2 .ensures))
+returns c =
+    let newline = c .before .before in
+    let number = let lent = newline .before .before in lent .before .before .before in
+    let word = number .before .before .before .before in
+    put-put (omega arith) (word .put-text .ensures) (put-put (omega arith) (number .put-decimal .ensures) (newline .put-text2 .ensures))
 
 pub put-named-spec : {M : Type 1} → statement M
 put-named-spec =

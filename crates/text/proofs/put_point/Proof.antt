@@ -2,7 +2,7 @@
 use native.Mathlib.Omega.{arith}
 use borrow.Author.Needs.{needs}
 use Rattle.text.specs.Lines.{pointLine}
-use Rattle.text.proofs.Putting.{put-put}
+use Rattle.text.proofs.PlacedAt.{put-put}
 use Rattle.text.proofs.put_point.Statement.{statement}
 use Rattle.text.proofs.put_point.Tie as tie
 
@@ -30,9 +30,12 @@ same-length c = search needs
 returns : tie.Need-returns
 unfolding pointLine
 returns c =
-    put-put (omega arith) (c .before .before .before .before .before .before .before .before .before .before .before .before .before .before .before .before .put-decimal .ensures)
-    (put-put (omega arith) (c .before .before .before .before .before .before .before .before .before .before .before .put-text .ensures)
-    (put-put (omega arith) (c .before .before .before .before .before .before .before .put-hex .ensures) (c .before .before .put-text2 .ensures)))
+    let newline = c .before .before in
+    let ratio = let lent = newline .before .before in lent .before .before .before in
+    let space = ratio .before .before .before .before in
+    let position = let lent = space .before .before in lent .before .before .before in
+    put-put (omega arith) (position .put-decimal .ensures)
+    (put-put (omega arith) (space .put-text .ensures) (put-put (omega arith) (ratio .put-hex .ensures) (newline .put-text2 .ensures)))
 
 pub put-point-spec : {M : Type 1} → statement M
 put-point-spec =

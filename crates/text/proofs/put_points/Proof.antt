@@ -39,17 +39,19 @@ loop-less c = omega arith
 
 loop-again : tie.Need-loop-again Inv-loop μ-loop
 loop-again c =
-    let l = c .before .before .before .before .before .before .before .loop in
-    let s = c .before .before .before .before .before .before .before .before .before .before .before in
-    (omega arith, omega (arith, c .before .before .put-point .kept .0), points-more (s .args .positions .now) (s .args .ratios .now) (s .pre .0) (omega arith) (omega arith) (l .inv .2) (c .before .before .put-point .ensures))
+    let point = c .before .before in
+    let turn = let lent = point .before .before in lent .before .before .before in
+    let start = turn .before .before .before .before in
+    (omega arith, omega (arith, point .put-point .kept .0), points-more (start .args .positions .now) (start .args .ratios .now) (start .pre .0) (omega arith) (omega arith) (turn .loop .inv .2) (point .put-point .ensures))
 
 same-length : tie.Need-same-length Inv-loop μ-loop
 same-length c = c .before .loop .inv .1
 
 returns : tie.Need-returns Inv-loop μ-loop
 returns c =
-    let s = c .before .before .before .before .before in
-    points-all (s .args .positions .now) (s .args .ratios .now) (s .pre .0) (omega arith) (c .before .loop .inv .2)
+    let turn = c .before in
+    let start = turn .before .before .before .before in
+    points-all (start .args .positions .now) (start .args .ratios .now) (start .pre .0) (omega arith) (turn .loop .inv .2)
 
 pub put-points-spec : {M : Type 1} → statement M
 put-points-spec =

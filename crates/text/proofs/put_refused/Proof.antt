@@ -2,7 +2,7 @@
 use native.Mathlib.Omega.{arith}
 use borrow.Author.Needs.{needs}
 use Rattle.text.specs.Lines.{refusedLine}
-use Rattle.text.proofs.Putting.{put-put}
+use Rattle.text.proofs.PlacedAt.{put-put}
 use Rattle.text.proofs.put_refused.Statement.{statement}
 use Rattle.text.proofs.put_refused.Tie as tie
 
@@ -26,7 +26,11 @@ same-length c = search needs
 
 returns : tie.Need-returns
 unfolding refusedLine
-returns c = put-put (omega arith) (c .before .before .before .before .before .before .before .before .before .before .before .put-text .ensures) (put-put (omega arith) (c .before .before .before .before .before .before .before .put-decimal .ensures) (c .before .before .put-named .ensures))
+returns c =
+    let place = c .before .before in
+    let number = let lent = place .before .before in lent .before .before .before in
+    let word = number .before .before .before .before in
+    put-put (omega arith) (word .put-text .ensures) (put-put (omega arith) (number .put-decimal .ensures) (place .put-named .ensures))
 
 pub put-refused-spec : {M : Type 1} → statement M
 put-refused-spec =

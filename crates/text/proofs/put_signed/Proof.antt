@@ -7,7 +7,7 @@ use borrow.Author.Needs.{needs}
 use Rattle.text.specs.Numbers.{decimal}
 use Rattle.text.proofs.Absolute.{signed-negative, signed-plain}
 use Rattle.text.proofs.Lengths.{length-signed}
-use Rattle.text.proofs.Putting.{put-as, put-put}
+use Rattle.text.proofs.PlacedAt.{put-as, put-put}
 use Rattle.text.proofs.put_signed.Statement.{statement}
 use Rattle.text.proofs.put_signed.Tie as tie
 
@@ -28,10 +28,12 @@ same-length c = search needs
 
 returns : tie.Need-returns
 returns c =
-    let s = c .before .before .before .before .before .before .before .before .before in
-    let a = s .before .before .before in
-    put-as (length-signed (a .args .z)) (ap (λ (n : ℕ). 45 ∷ decimal n) (s .before .magnitude .ensures) ∙ sym (signed-negative (a .args .z) (a .fits .z) (s .if1 .taken)))
-    (put-put (omega arith) (c .before .before .before .before .before .before .put-text .ensures) (c .before .before .put-decimal .ensures))
+    let number = c .before .before in
+    let minus = number .before .before .before .before in
+    let test = minus .before .before .before in
+    let start = test .before .before .before in
+    put-as (length-signed (start .args .z)) (ap (λ (n : ℕ). 45 ∷ decimal n) (test .before .magnitude .ensures) ∙ sym (signed-negative (start .args .z) (start .fits .z) (test .if1 .taken)))
+    (put-put (omega arith) (minus .put-text .ensures) (number .put-decimal .ensures))
 
 put-decimal-requires-2 : tie.Need-put-decimal-requires-2
 put-decimal-requires-2 c κs = search needs
@@ -41,10 +43,11 @@ same-length-2 c = search needs
 
 returns-2 : tie.Need-returns-2
 returns-2 c =
-    let s = c .before .before .before .before in
-    let a = s .before .before .before in
-    put-as (length-signed (a .args .z)) (ap decimal (s .before .magnitude .ensures) ∙ sym (signed-plain (a .args .z) (a .fits .z) (s .if1 .left)))
-    (c .before .before .put-decimal2 .ensures)
+    let number = c .before .before in
+    let test = number .before .before in
+    let start = test .before .before .before in
+    put-as (length-signed (start .args .z)) (ap decimal (test .before .magnitude .ensures) ∙ sym (signed-plain (start .args .z) (start .fits .z) (test .if1 .left)))
+    (number .put-decimal2 .ensures)
 
 pub put-signed-spec : {M : Type 1} → statement M
 put-signed-spec =

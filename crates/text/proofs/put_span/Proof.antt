@@ -6,7 +6,7 @@ use mir.Syntax.{w64}
 use mir.ValLaws.{toZ-ofZ}
 use Rattle.text.specs.Lines.{spanLine}
 use Rattle.text.specs.Numbers.{signed}
-use Rattle.text.proofs.Putting.{put-same, put-put}
+use Rattle.text.proofs.PlacedAt.{put-same, put-put}
 use Rattle.text.proofs.put_span.Statement.{statement}
 use Rattle.text.proofs.put_span.Tie as tie
 
@@ -31,9 +31,12 @@ same-length c = search needs
 returns : tie.Need-returns
 unfolding spanLine
 returns c =
-    let a = c .before .before .before .before .before .before .before .before .before .before .before .before .before .before .before in
-    put-put (omega arith) (c .before .before .before .before .before .before .before .before .before .before .before .put-text .ensures)
-    (put-put (omega arith) (put-same (ap signed (toZ-ofZ w64 (a .args .span) (a .fits .span))) (c .before .before .before .before .before .before .before .put-signed .ensures)) (c .before .before .put-text2 .ensures))
+    let newline = c .before .before in
+    let number = let lent = newline .before .before in lent .before .before .before in
+    let word = number .before .before .before .before in
+    let start = word .before .before .before .before in
+    put-put (omega arith) (word .put-text .ensures)
+    (put-put (omega arith) (put-same (ap signed (toZ-ofZ w64 (start .args .span) (start .fits .span))) (number .put-signed .ensures)) (newline .put-text2 .ensures))
 
 pub put-span-spec : {M : Type 1} → statement M
 put-span-spec =

@@ -9,41 +9,48 @@ use lib.ListN.{length, take}
 use lib.Seq.{length-take-le}
 use Rattle.outputs.proofs.Parts.{rest-is}
 use Rattle.ratio_format.specs.declared.Cursor.{Cursor}
-use Rattle.ratio_format.specs.Windows.{held}
+use Rattle.ratio_format.specs.Windows.{windowSize, held}
 use Rattle.ratio_format.specs.Open.{strictRead}
 use Rattle.ratio_format.specs.Stepping.{badCursor, nextRead}
 use Rattle.ratio_format.proofs.Lives.{good-fill}
 use Rattle.ratio_format.proofs.Stepping.{Good, good-cursor, left-bad, left-end, left-over, left-no, left-ratio}
 use Rattle.live.specs.States.{stateOf}
-use Rattle.live.proofs.Found.{is-none, is-ratio}
+use Rattle.live.proofs.States.{is-none, is-ratio}
 use Rattle.live.proofs.stepping.seek.Statement.{statement}
 use Rattle.live.proofs.stepping.seek.Tie as tie
 
--- the body and the reader's state
-abbrev body : tie.Start → List ℕ
-body s = s .args .body .now
+-- the places: the start, before the first test, and where both tests passed, before the reading
+abbrev start : tie.After-bad-state → tie.Start
+start c = c .before .before .before
 
-abbrev state : tie.Start → Cursor
-state s = let a = s .args in stateOf (a .place) (a .count) (a .seen) (a .ratios .now) (a .fill)
+abbrev tested : tie.After-read-strict → tie.Else2
+tested c = c .before .before .before
+
+-- the body and the reader's state
+abbrev body : tie.After-bad-state → List ℕ
+body c = start c .args .body .now
+
+abbrev state : tie.After-bad-state → Cursor
+state c = let a = start c .args in stateOf (a .place) (a .count) (a .seen) (a .ratios .now) (a .fill)
 
 -- what the first test says, and what is known after it
-is-bad : (c : tie.Then1) → let s = c .before .before .before .before in badCursor (body s) (state s) ≡ true
+is-bad : (c : tie.Then1) → let s = c .before in badCursor (body s) (state s) ≡ true
 is-bad c = sym (c .before .bad-state .ensures) ∙ c .if1 .taken
 
-not-bad : (c : tie.Else1) → let s = c .before .before .before .before in badCursor (body s) (state s) ≡ false
+not-bad : (c : tie.Else1) → let s = c .before in badCursor (body s) (state s) ≡ false
 not-bad c = sym (c .before .bad-state .ensures) ∙ c .if1 .left
 
-good : (c : tie.Else1) → let s = c .before .before .before .before in Good (body s) (state s)
-good c = let s = c .before .before .before .before in good-cursor (body s) (state s) (not-bad c)
+good : (c : tie.Else1) → let s = c .before in Good (body s) (state s)
+good c = let s = c .before in good-cursor (body s) (state s) (not-bad c)
 
-fits : (c : tie.Else1) → c .before .before .before .before .args .fill ≤ 127
+fits : (c : tie.Else1) → start (c .before) .args .fill ≤ windowSize
 fits c =
-    let s = state (c .before .before .before .before) in
+    let s = state (c .before) in
     omega (arith, good-fill (s .window) (s .seen) (good c .window))
 
-part : (c : tie.Else1) → let a = c .before .before .before .before .args in length (take (a .fill) (a .ratios .now)) ≡ a .fill
+part : (c : tie.Else1) → let a = start (c .before) .args in length (take (a .fill) (a .ratios .now)) ≡ a .fill
 part c =
-    let s = c .before .before .before .before in
+    let s = start (c .before) in
     length-take-le (s .args .fill) (s .args .ratios .now) (omega (arith, fits c, s .pre))
 
 bad-state-requires : tie.Need-bad-state-requires
@@ -54,7 +61,7 @@ nothing-requires c κs = search needs
 
 returns : tie.Need-returns
 returns c =
-    let s = c .before .before .before .before .before in
+    let s = c .before .before in
     is-none (body s) (state s) (c .nothing .result) 7 (c .nothing .ensures) (left-bad (body s) (state s) (is-bad (c .before)))
 
 nothing-requires-2 : tie.Need-nothing-requires-2
@@ -63,7 +70,7 @@ nothing-requires-2 c κs = search needs
 returns-2 : tie.Need-returns-2
 returns-2 c =
     let d = c .before .before .before in
-    let s = d .before .before .before .before in
+    let s = d .before in
     is-none (body s) (state s) (c .nothing2 .result) 8 (c .nothing2 .ensures) (left-end (body s) (state s) (not-bad d) (c .before .before .if2 .taken) (c .before .if3 .taken))
 
 nothing-requires-3 : tie.Need-nothing-requires-3
@@ -72,7 +79,7 @@ nothing-requires-3 c κs = search needs
 returns-3 : tie.Need-returns-3
 returns-3 c =
     let d = c .before .before .before in
-    let s = d .before .before .before .before in
+    let s = d .before in
     is-none (body s) (state s) (c .nothing3 .result) 18 (c .nothing3 .ensures) (left-over (body s) (state s) (not-bad d) (c .before .before .if2 .taken) (c .before .if3 .left))
 
 slice-aggregate-read-strict : tie.Need-slice-aggregate-read-strict
@@ -91,10 +98,10 @@ read-strict-requires : tie.Need-read-strict-requires
 read-strict-requires c κs = let d = c .before .before .before in omega (arith, fits d, part d)
 
 -- what was read
-reads : (c : tie.After-read-strict) → let s = c .before .before .before .before .before .before .before .before in nextRead (body s) (state s) ≡ c .read-strict .result
+reads : (c : tie.After-read-strict) → let s = tested c .before .before in nextRead (body s) (state s) ≡ c .read-strict .result
 reads c =
-    let s = c .before .before .before .before .before .before .before .before in
-    sym (c .read-strict .ensures ∙ ap (strictRead (held (state s .window))) (rest-is (s .args .place) (body s)))
+    let s = tested c .before .before in
+    sym (c .read-strict .ensures ∙ ap (strictRead (held (state s .window))) (rest-is (start s .args .place) (body s)))
 
 enum-known-read : tie.Need-enum-known-read
 enum-known-read c = search needs
@@ -108,15 +115,15 @@ nothing-requires-4 c κs = search needs
 returns-4 : tie.Need-returns-4
 returns-4 c =
     let r = c .before .before .before in
-    let e = r .before .before .before in
-    let s = e .before .before .before .before .before in
+    let e = tested r in
+    let s = e .before .before in
     is-none (body s) (state s) (c .nothing4 .result) 18 (c .nothing4 .ensures) (left-no (body s) (state s) (not-bad (e .before)) (e .if2 .left) (reads r ∙ c .before .enum-told .given .1))
 
 returns-5 : tie.Need-returns-5
 returns-5 c =
     let r = c .before .before .before in
-    let e = r .before .before .before in
-    let s = e .before .before .before .before .before in
+    let e = tested r in
+    let s = e .before .before in
     let g = c .before .read .given in
     is-ratio (body s) (state s) (g .0 .0) (g .0 .1 .0) (left-ratio (body s) (state s) (g .0 .0) (g .0 .1 .0) (not-bad (e .before)) (e .if2 .left) (reads r ∙ g .1))
 

@@ -6,9 +6,13 @@ use Prim.Native.Nat.{ℕ, _^_}
 use native.Mathlib.Omega.{arith}
 use borrow.Author.Needs.{needs}
 use Rattle.ratio_format.specs.declared.Window.{Window}
-use Rattle.live.proofs.Found.{place-within, seen-within, answer-of, state-none, state-ratio}
+use Rattle.live.proofs.States.{place-within, seen-within, answer-of, state-none, state-ratio}
 use Rattle.live.proofs.stepping.step_at.Statement.{statement}
 use Rattle.live.proofs.stepping.step_at.Tie as tie
+
+-- the start, seen from what was found: past the place where the window was taken apart
+abbrev start : tie.After-seek → tie.Start
+start c = let apart = c .before .before .before in apart .before .before
 
 -- a window by its cells and its fill
 window : {l m : List ℕ} {j n : ℕ} → l ≡ m → j ≡ n → _≡_ {A = Window} (record { ratios = l; fill = j }) (record { ratios = m; fill = n })
@@ -26,19 +30,19 @@ push-cells-requires c κs = search needs
 add-seen : tie.Need-add-seen
 add-seen c =
     let k = c .before .before .before .before in
-    let a = k .before .before .before .before .before .args in
+    let a = start k .args in
     omega (arith, seen-within (a .body .now) (a .cursor) (k .seek .result) (k .seek .ensures) (c .before .before .if1 .taken))
 
 add-t18 : tie.Need-add-t18
 add-t18 c =
     let k = c .before .before .before in
-    let s = k .before .before .before .before .before in
+    let s = start k in
     record { fits = place-within (s .args .body .now) (s .args .cursor) (k .seek .result) (k .seek .ensures) (2 ^ 64) (omega (arith, s .good)) (omega (arith, s .good)) }
 
 returns : tie.Need-returns
 returns c =
     let k = c .before .before .before in
-    let a = k .before .before .before .before .before .args in
+    let a = start k .args in
     let f = k .seek .result in
     let e = k .seek .ensures in
     let i = c .before .if1 in (

@@ -7,7 +7,7 @@ use Rattle.lists.specs.Compare.{begins}
 use Rattle.lists.proofs.Below.{below-of}
 use Rattle.ratio_format.specs.declared.RatioForm.{RatioForm}
 use Rattle.ratio_format.specs.Forms.{coded}
-use Rattle.ratio_format.proofs.Reading.{strict-refused, strict-good, strict-other}
+use Rattle.ratio_format.proofs.Open.{strict-nothing, strict-good, strict-other}
 use Rattle.ratio_codec.specs.Heads.{formHead}
 use Rattle.ratio_codec.proofs.Chosen.{chosen-fit}
 use Rattle.ratio_codec.proofs.Heads.{head-decides}
@@ -28,7 +28,7 @@ returns : tie.Need-returns
 returns c =
     let o = c .before .before .read-open in
     let a = c .before .before .before .before .before .args in
-    strict-refused (reverse (a .window .now)) (a .s .now) (o .result) (o .ensures) (c .enum-told .given .1)
+    strict-nothing (reverse (a .window .now)) (a .s .now) (o .result) (o .ensures) (c .enum-told .given .1)
 
 choose-requires : tie.Need-choose-requires
 choose-requires c κs = search needs

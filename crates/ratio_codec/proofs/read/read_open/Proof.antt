@@ -5,7 +5,7 @@ use Prim.Native.Nat.{_-_}
 use native.Mathlib.Omega.{arith}
 use lib.ListN.{length, getD, length-reverse}
 use Rattle.ratio_format.specs.Open.{openXor}
-use Rattle.ratio_format.proofs.Reading.{open-empty, open-reference, open-far, open-xor, open-away, open-exception, open-cut}
+use Rattle.ratio_format.proofs.Open.{open-empty, open-reference, open-far, open-xor, open-away, open-exception, open-cut}
 use Rattle.ratio_format.proofs.Windows.{back}
 use Rattle.outputs.proofs.Parts.{rest-is}
 use borrow.Author.Needs.{needs}

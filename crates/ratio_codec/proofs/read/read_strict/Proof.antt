@@ -7,7 +7,7 @@ use lib.ListN.{length, getD, length-reverse}
 use Rattle.ratio_format.specs.declared.Read.the-variants.{Nothing}
 use Rattle.ratio_format.specs.Choice.{find}
 use Rattle.ratio_format.proofs.Windows.{back}
-use Rattle.ratio_format.proofs.Reading.{open-empty, strict-refused}
+use Rattle.ratio_format.proofs.Open.{open-empty, strict-nothing}
 use Rattle.ratio_codec.proofs.Named.{Named, named-good, named-other}
 use borrow.Author.Needs.{needs}
 use Rattle.ratio_codec.proofs.read.read_strict.Statement.{statement}
@@ -17,7 +17,7 @@ returns : tie.Need-returns
 returns c =
     let a = c .before .before .before .args in
     let w = reverse (a .window .now) in
-    strict-refused w (a .s .now) Nothing (open-empty w (a .s .now) (c .if1 .taken)) refl
+    strict-nothing w (a .s .now) Nothing (open-empty w (a .s .now) (c .if1 .taken)) refl
 
 shared-slice-read-b : tie.Need-shared-slice-read-b
 shared-slice-read-b c = search needs

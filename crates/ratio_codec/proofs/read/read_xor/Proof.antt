@@ -3,7 +3,7 @@ use Prim.Native.Nat.{_/_, _%_}
 use native.Mathlib.Omega.{arith}
 use lib.ListN.{getD}
 use Rattle.ratio_format.proofs.Zeros.{raised-fits}
-use Rattle.ratio_format.proofs.Reading.{xor-empty, xor-high, xor-short, xor-good}
+use Rattle.ratio_format.proofs.Open.{xor-empty, xor-high, xor-short, xor-good}
 use borrow.Author.Needs.{needs}
 use Rattle.ratio_codec.proofs.read.read_xor.Statement.{statement}
 use Rattle.ratio_codec.proofs.read.read_xor.Tie as tie

@@ -6,7 +6,7 @@ use native.Mathlib.Omega.{arith}
 use borrow.Author.Needs.{needs}
 use lib.ListN.{length, getD}
 use Rattle.ratio_format.specs.Choice.{Best}
-use Rattle.ratio_format.proofs.Score.{sum-other}
+use Rattle.ratio_format.proofs.Sums.{sum-other}
 use Rattle.ratio_codec.proofs.Scan.{Scanned, scan-none, scan-wins, scan-loses, scan-pass, scan-equal, scan-all}
 use Rattle.ratio_codec.proofs.search.search.Statement.{statement}
 use Rattle.ratio_codec.proofs.search.search.Tie as tie

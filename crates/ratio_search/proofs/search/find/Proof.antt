@@ -7,7 +7,7 @@ use lib.Bits.{bitXor, xor-self}
 use lib.ListN.{getD}
 use Rattle.ratio_format.specs.Zeros.{sumOf}
 use Rattle.ratio_format.proofs.Zeros.{lead-le, trail-le}
-use Rattle.ratio_format.proofs.Score.{xor-zero, sum-other}
+use Rattle.ratio_format.proofs.Sums.{xor-zero, sum-other}
 use Rattle.ratio_search.proofs.Sought.{Sought, sought-none, sought-as, sought-pass, sought-all, sought-wins, sought-loses, sought-equal}
 use Rattle.ratio_search.proofs.search.find.Statement.{statement}
 use Rattle.ratio_search.proofs.search.find.Tie as tie

@@ -1,12 +1,13 @@
--- Laws of text put into an output: a text copied byte by byte, and one text after another.
+-- Laws of text put into an output: a text copied byte by byte, one text after another, and the digits of a number.
 use mathlib.Core.Path.{_≡_, refl, sym, ap, ap₂, _∙_}
 use mathlib.Core.List.{List, [], _++_, append-assoc}
 use Prim.Native.Nat.{ℕ, _+_, _≤_, _<_}
 use native.Mathlib.Nat.{le-refl, le-trans, add-zero}
 use native.Mathlib.Numerals.{add-one}
 use native.Mathlib.Omega.{arith}
-use lib.ListN.{length, getD, set, length-append, take-append-drop}
+use lib.ListN.{length, take, getD, set, length-append, take-append-drop}
 use lib.Seq.{take-length, paste, paste-suc}
+use Rattle.io.specs.Digits.{digits, Fewest}
 use Rattle.outputs.specs.Outputs.{overAt}
 use Rattle.outputs.proofs.Outputs.{overAt-overAt}
 use Rattle.text.specs.PlacedAt.{PlacedAt}
@@ -46,3 +47,18 @@ put-put {m} {n} {a} {b} {at} {e} {f} {o} {p} {q} room h g = record {
   after = g .after ∙ ap₂ (λ (x : List ℕ) (i : ℕ). overAt x i (length b) b) (h .after) (h .next)
       ∙ overAt-overAt o at (length a) a refl (omega (arith, h .most)) (length b) b ∙ ap (λ (k : ℕ). overAt o at k (a ++ b)) (sym (length-append a b));
 }
+
+-- A number n whose text is spelled by the fewest digits that hold it, in the base b and at least l of them: they stand at the front of d, and the
+-- text has at most m bytes.
+module _ (b l m n k : ℕ) (ts d : List ℕ) (spells : Fewest b l n k → digits b k n ≡ ts) (most : length ts ≤ m)
+    (found : Fewest b l n k × (take k d ≡ digits b k n)) where
+  digits-are : take k d ≡ ts
+  digits-are = found .1 ∙ spells (found .0)
+
+  -- there is room for them
+  pub digits-room : (at r : ℕ) → at + m ≤ r → at + length (take k d) ≤ r
+  digits-room at r h = rw digits-are (omega arith)
+
+  -- put there they are the text
+  pub put-digits : {at e : ℕ} {o p : List ℕ} → PlacedAt (length (take k d)) (take k d) at e o p → PlacedAt m ts at e o p
+  put-digits h = put-as most digits-are h

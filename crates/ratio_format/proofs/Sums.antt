@@ -1,4 +1,4 @@
--- The sum of two ratios' counts: 16 where they are equal, and below 8 where they are not.
+-- Laws of xor, and of the sum of two ratios' counts (sumOf): 16 where they are equal, and below 8 where they are not.
 use mathlib.Core.Path.{_≡_, refl, ap₂, _∙_}
 use Prim.Native.Nat.{ℕ, zero, suc, _+_, _*_, _/_, _%_, _^_, _≤_, _<_}
 use native.Mathlib.Nat.{lt-of-not-le, mod-lt, div-add-mod'}

@@ -4,8 +4,8 @@ use mathlib.Core.List.{List, [], _∷_}
 use mathlib.Core.Path.{_≡_, refl, sym, ap, _∙_}
 use Prim.Native.Nat.{ℕ, zero, suc, _+_, _≤_, _<_}
 use native.Mathlib.Omega.{arith}
-use borrow.Author.Tests.{leb-true}
-use lib.Dec.{leb}
+use borrow.Author.Tests.{lt-ltb, le-ltb, leb-true}
+use lib.Dec.{leb, ltb}
 use lib.IntN.{ℤ}
 use lib.ListN.{length, getD, length-append}
 use Rattle.lists.specs.Below.{Below}
@@ -15,8 +15,8 @@ use Rattle.lists.proofs.Below.{below-append}
 use Rattle.bits.proofs.Digits.{below-digits, two⁺, length-digits}
 use Rattle.lists.proofs.Compare.{both-true}
 use Rattle.lists.specs.Lists.{firstIndex}
-use Rattle.lists.proofs.Lists.{every, first-at, first-below}
-use Rattle.position_format.specs.Rows.{Row, rows, holds, inTable, residue, codeIn, code, rowOf, noRow}
+use Rattle.lists.proofs.Lists.{every, first-le, first-next, first-found, first-at, first-below}
+use Rattle.position_format.specs.Rows.{Row, holds, inTable, residue, codeIn, codeLength, code, rowOf, noRow}
 use Rattle.position_format.proofs.Lists.{every-at}
 use Rattle.position_format.proofs.Rows.{goodTable, good-bits}
 
@@ -41,6 +41,27 @@ unfolding inTable firstIndex
 first-in [] z h = absurd (omega arith)
 first-in (r ∷ rs) z h = there (holds r z) (inTable rs z) (rowOf rs z) (length rs) (first-in rs z) h
 
+-- so the index tells whether it does
+pub in-test : (rs : List Row) (z : ℤ) → ltb (rowOf rs z) (length rs) ≡ inTable rs z
+in-test rs z = go (inTable rs z) refl
+  where
+    go : (t : Bool) → inTable rs z ≡ t → ltb (rowOf rs z) (length rs) ≡ t
+    go true e = lt-ltb (rowOf rs z) (length rs) (in-first rs z e)
+    go false e =
+        let n : (rowOf rs z < length rs → ⊥) = λ h. false≢true (sym e ∙ first-in rs z h) in
+        le-ltb (rowOf rs z) (length rs) (omega arith)
+
+-- by the test of row i, where no row before it holds z: it is the first, or a later one is, or there is none
+module _ (rs : List Row) (z : ℤ) (i : ℕ) (i≤ : i ≤ rowOf rs z) where
+  pub row-found : i < length rs → holds (getD rs i noRow) z ≡ true → i ≡ rowOf rs z
+  row-found h e = sym (first-found (λ (r : Row). holds r z) noRow rs i h i≤ e)
+
+  pub row-later : i < length rs → holds (getD rs i noRow) z ≡ false → suc i ≤ rowOf rs z
+  row-later h e = first-next (λ (r : Row). holds r z) noRow rs i h i≤ e
+
+  pub row-none : length rs ≤ i → i ≡ rowOf rs z
+  row-none h = omega (arith, first-le (λ (r : Row). holds r z) rs)
+
 module _ (d : Row) (z : ℤ) where
   -- it is the row of index i when that row holds z and no row before it does
   pub row-is : (rs : List Row) (i : ℕ) → i < length rs → holds (getD rs i d) z ≡ true → ((j : ℕ) → j < i → holds (getD rs j d) z ≡ false) → rowOf rs z ≡ i
@@ -63,10 +84,10 @@ module _ (d : Row) (z : ℤ) where
   code-lead [] e = absurd (false≢true e)
   code-lead (r ∷ rs) e = lead r rs (code rs z) (inTable rs z) (holds r z) (rowOf rs z) (code-lead rs) e
 
-  length-in : (r : Row) → length (codeIn r z) ≡ length (r .prefix) + r .width
+  length-in : (r : Row) → length (codeIn r z) ≡ codeLength r
   length-in r = length-append (r .prefix) _ ∙ ap (λ (n : ℕ). length (r .prefix) + n) (length-digits 2 (r .width) (residue (r .width) z))
 
-  pub length-lead : (rs : List Row) → inTable rs z ≡ true → length (code rs z) ≡ length (getD rs (rowOf rs z) d .prefix) + getD rs (rowOf rs z) d .width
+  pub length-lead : (rs : List Row) → inTable rs z ≡ true → length (code rs z) ≡ codeLength (getD rs (rowOf rs z) d)
   length-lead rs e = ap length (code-lead rs e) ∙ length-in (getD rs (rowOf rs z) d)
 
 -- ---- its bits
@@ -80,21 +101,17 @@ code-below rs g z e =
     (good-bits noRow rs g (rowOf rs z) (in-first rs z e))
     (below-digits 2 two⁺ (r .width) (residue (r .width) z)))
 
+-- ---- how many they are
+
 -- the test that each row's codes have from lo to hi bits
 abbrev pub lengths : ℕ → ℕ → List Row → Bool
-lengths lo hi rs = every (λ (r : Row). both (leb lo (length (r .prefix) + r .width)) (leb (length (r .prefix) + r .width) hi)) rs
+lengths lo hi rs = every (λ (r : Row). both (leb lo (codeLength r)) (leb (codeLength r) hi)) rs
+
+pub row-within : (lo hi : ℕ) (rs : List Row) → lengths lo hi rs ≡ true → (i : ℕ) → i < length rs → (lo ≤ codeLength (getD rs i noRow)) × (codeLength (getD rs i noRow) ≤ hi)
+row-within lo hi rs g i h =
+    let n = codeLength (getD rs i noRow) in
+    let p = both-true (leb lo n) (leb n hi) (every-at (λ (r : Row). both (leb lo (codeLength r)) (leb (codeLength r) hi)) rs noRow g i h) in
+    (leb-true lo n (p .0), leb-true n hi (p .1))
 
 pub code-within : (lo hi : ℕ) (rs : List Row) → lengths lo hi rs ≡ true → (z : ℤ) → inTable rs z ≡ true → (lo ≤ length (code rs z)) × (length (code rs z) ≤ hi)
-code-within lo hi rs g z e =
-    let r = getD rs (rowOf rs z) noRow in
-    let n = length (r .prefix) + r .width in
-    let p = both-true (leb lo n) (leb n hi) (every-at (λ (r : Row). both (leb lo (length (r .prefix) + r .width)) (leb (length (r .prefix) + r .width) hi)) rs noRow g (rowOf rs z) (in-first rs z e)) in
-    rw (length-lead noRow z rs e) (leb-true lo n (p .0), leb-true n hi (p .1))
-
-pub rows-lengths : lengths 1 36 rows ≡ true
-unfolding rows
-rows-lengths = refl
-
--- document 01's codes have 1 to 36 bits
-pub code-length : (z : ℤ) → inTable rows z ≡ true → (1 ≤ length (code rows z)) × (length (code rows z) ≤ 36)
-code-length = code-within 1 36 rows rows-lengths
+code-within lo hi rs g z e = rw (length-lead noRow z rs e) (row-within lo hi rs g (rowOf rs z) (in-first rs z e))

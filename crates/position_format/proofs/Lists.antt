@@ -34,15 +34,6 @@ module _ {A : Type 0} (p : A → Bool) where
   unfolding firstIndex
   cons-none x l e f = rw (e, f)
 
-  -- of the first k elements
-  pub take-none : (k : ℕ) (l : List A) → firstIndex p l ≡ length l → firstIndex p (take k l) ≡ length (take k l)
-  unfolding firstIndex
-  take-none zero l e = refl
-  take-none (suc k) [] e = refl
-  take-none (suc k) (x ∷ l) e =
-      let c = none-cons x l e in
-      cons-none x (take k l) (c .0) (take-none k l (c .1))
-
   -- at each index
   pub none-at : (d : A) (l : List A) → firstIndex p l ≡ length l → (i : ℕ) → i < length l → p (getD l i d) ≡ false
   none-at d l e i h = first-below p d l i (omega arith)

@@ -16,7 +16,7 @@ use Rattle.outputs.specs.Outputs.{over, overAt}
 use Rattle.outputs.proofs.Outputs.{length-overAt}
 use Rattle.bits.specs.Digits.{digitsOf, bitsOf, bytesOf}
 use Rattle.bits.specs.Packing.{bits, fillOf, pack}
-use Rattle.bits.specs.Sinks.{Sound, Held, wordPut, PlacedBits, Laid}
+use Rattle.bits.specs.Sinks.{Sound, Held, overWord, PlacedBits, Laid}
 use Rattle.bits.specs.declared.fields.Sink.{Sink}
 use Rattle.bits.proofs.Digits.{two⁺, length-digits, digits-zero, digits-append, digits-join, digits-mod}
 use Rattle.bits.proofs.Packing.{bits-append, bits-bytes, bits-take, bits-drop, bits-same, length-pack, below-pack, bits-pack}
@@ -72,7 +72,7 @@ start-placed o = record { same = refl; front = λ r. refl }
 
 -- ---- a word written after the bits ds before byte `at`
 
-word-placed : (o p ds es : List ℕ) (at x : ℕ) → 8 * at ≤ length ds → take (8 * (at + 8)) es ≡ take (8 * at) ds ++ bitsOf 64 x → PlacedBits ds at o p → PlacedBits es (at + 8) o (wordPut p at x)
+word-placed : (o p ds es : List ℕ) (at x : ℕ) → 8 * at ≤ length ds → take (8 * (at + 8)) es ≡ take (8 * at) ds ++ bitsOf 64 x → PlacedBits ds at o p → PlacedBits es (at + 8) o (overWord p at x)
 word-placed o p ds es at x inside e s = go (leb (at + 8) (length p)) refl
   where
     go : (t : Bool) → leb (at + 8) (length p) ≡ t → PlacedBits es (at + 8) o (cond t (overAt p at 8 (bytesOf 8 x)) p)
@@ -187,7 +187,7 @@ module _ (s : Sink) (sound : Sound s) (n w : ℕ) (n≤ : n ≤ 64) (w< : w < 2 
     length-full : length (take (8 * s .at) ds ++ bitsOf 64 word) ≡ 8 * (s .at + 8)
     length-full = length-append (take (8 * s .at) ds) (bitsOf 64 word) ∙ omega (arith, length-front ds s h, length-digits 2 64 word)
 
-  pub past-laid : (p : List ℕ) → Laid (bitsOf n w) s past p (wordPut p (s .at) word)
+  pub past-laid : (p : List ℕ) → Laid (bitsOf n w) s past p (overWord p (s .at) word)
   past-laid p ds h = (
     record {
       size = length-append ds (bitsOf n w) ∙ omega (arith, h .size, length-digits 2 n w);

@@ -1,7 +1,7 @@
 -- Bits on their way into an output, field after field (document 01, "Positions"). The standard term for a sink is a bit writer.
 --   Sound s                fewer than 64 bits are held, and `held` has no others
 --   Held ds s              of the bits ds, all that were laid, those from byte `at` on are held: they are the lower `width` bits of `held`
---   wordPut p at x         the output p with the eight bytes of x at `at`, if there is room for them
+--   overWord p at x         the output p with the eight bytes of x at `at`, if there is room for them
 --   PlacedBits ds at o p   the bits ds before byte `at` were put at the front of o, which is now p, if there is room for them
 --   Laid es s r p q        from the sink s and the output p to r and q: the bits es come after all that were laid
 use mathlib.Core.Bool.{cond}
@@ -26,8 +26,8 @@ pub record Held (ds : List ℕ) (s : Sink) : Type 0 where
   pub tail : bitsOf (s .width) (s .held) ≡ drop (8 * s .at) ds
 
 -- eight bytes, or nothing
-abbrev pub wordPut : List ℕ → ℕ → ℕ → List ℕ
-wordPut p at x = cond (leb (at + 8) (length p)) (overAt p at 8 (bytesOf 8 x)) p
+abbrev pub overWord : List ℕ → ℕ → ℕ → List ℕ
+overWord p at x = cond (leb (at + 8) (length p)) (overAt p at 8 (bytesOf 8 x)) p
 
 -- whole bytes; without room nothing is said of the output but its length
 pub record PlacedBits (ds : List ℕ) (at : ℕ) (o p : List ℕ) : Type 0 where

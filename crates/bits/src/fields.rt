@@ -7,7 +7,7 @@ ghost use lib.ListN.{length, take, drop};
 ghost use Rattle.lists.specs.Below.{Below};
 ghost use Rattle.bits.specs.Digits.{bitsOf, numberOf};
 ghost use Rattle.bits.specs.Packing.{bits, pack, ahead};
-ghost use Rattle.bits.specs.Sinks.{Sound, Held, wordPut, PlacedBits, Laid};
+ghost use Rattle.bits.specs.Sinks.{Sound, Held, overWord, PlacedBits, Laid};
 ghost use Rattle.outputs.specs.Outputs.{Placed};
 use crate::get_bytes;
 use crate::put_bytes;
@@ -64,7 +64,7 @@ pub struct Sink {
 // The eight bytes of x are written at `at`, if there is room for them.
 fn put_word(out: &mut [u8], at: usize, x: u64)
     requires { ⌜ at ≤ 2 ^ 32 ⌝ }
-    ensures { λ _. ⌜ now (out .exit) ≡ wordPut (now (out .entry)) at x ⌝ }
+    ensures { λ _. ⌜ now (out .exit) ≡ overWord (now (out .entry)) at x ⌝ }
 {
     if at + 8 <= out.len() {
         put_bytes(out, at, 8, x);

@@ -6,7 +6,7 @@ use Prim.Native.Nat.{ℕ, _^_, _≤_, _<_}
 use lib.IntN.{ℤ}
 use lib.ListN.{getD}
 use Rattle.bits.specs.Digits.{bitsOf}
-use Rattle.position_format.specs.Rows.{Row, inTable, residue, codeIn, code, noRow, rowOf}
+use Rattle.position_format.specs.Rows.{Row, inTable, residue, codeIn, noRow, rowOf}
 use Rattle.position_format.proofs.Rows.{residue-lt}
 use Rattle.position_format.proofs.Codes.{code-lead}
 use Rattle.position_codec.specs.declared.table.Code.{Code}

@@ -1,6 +1,6 @@
 -- Laws of a step found at the front of bits, for any table that passes the test of a table and whose prefixes are short: by the row that the
 -- first bits lead to.
-use mathlib.Core.Bool.{Bool, true, false}
+use mathlib.Core.Bool.{Bool, true}
 use mathlib.Core.List.{List}
 use mathlib.Core.Path.{_≡_, sym, ap, ap₂, _∙_}
 use Prim.Native.Nat.{ℕ, _+_, _-_, _*_, _/_, _%_, _^_, _≤_, _<_}

@@ -2,10 +2,10 @@
 use mathlib.Core.Bool.{true, false≢true}
 use mathlib.Core.List.{List, [], _∷_, _++_, append-assoc}
 use mathlib.Core.Path.{_≡_, refl, sym, ap, ap₂, _∙_}
-use Prim.Native.Nat.{ℕ, zero, suc, _+_, _^_, _≤_, _<_}
+use Prim.Native.Nat.{ℕ, zero, suc, _^_, _≤_, _<_}
 use native.Mathlib.Omega.{arith}
 use lib.IntN.{ℤ}
-use lib.ListN.{length, getD, take, drop, length-append, length-drop}
+use lib.ListN.{length, getD, take, drop, length-drop}
 use lib.Seq.{take-at, drop-at, length-take-le, take-add}
 use Rattle.lists.specs.Below.{Below}
 use Rattle.lists.specs.Compare.{begins}
@@ -17,8 +17,8 @@ use Rattle.position_format.specs.Rows.{Row, holds, inTable, residue, rea
 use Rattle.position_format.specs.Positions.{Taken, stepAt}
 use Rattle.position_format.proofs.Lists.{every-at}
 use Rattle.position_format.proofs.Prefixes.{apart-not, begins-take}
-use Rattle.position_format.proofs.Rows.{goodTable, full, apart, good-cons, good-full, residue-lt, reading-residue, reading-held, residue-reading}
-use Rattle.position_format.proofs.Codes.{in-first, first-in, row-holds, code-lead, length-lead}
+use Rattle.position_format.proofs.Rows.{goodTable, full, apart, good-cons, good-full, residue-lt, reading-residue, residue-reading}
+use Rattle.position_format.proofs.Codes.{in-first, first-in, row-holds, code-lead}
 
 -- a step and the bits after it
 abbrev pub taken : ℤ → List ℕ → Taken

@@ -1,19 +1,15 @@
 -- A beginning of bits: prefixes that are apart, and what the bits of a beginning are.
 use mathlib.Core.Bool.{Bool, true, false, not, false≢true}
 use mathlib.Core.List.{List, [], _∷_, _++_}
-use mathlib.Core.Path.{_≡_, refl, sym, ap, ap₂, _∙_}
-use Prim.Native.Nat.{ℕ, _≤_, _<_}
+use mathlib.Core.Path.{_≡_, refl, sym, ap, _∙_}
+use Prim.Native.Nat.{ℕ, _<_}
 use native.Mathlib.Omega.{arith}
 use borrow.Author.Tests.{eqb-true, eq-eqb}
 use lib.Dec.{eqb}
 use lib.ListN.{length, take, drop, length-append, take-append-drop}
-use lib.Seq.{take-at, length-take-le}
-use Rattle.lists.specs.Below.{Below}
+use lib.Seq.{take-at}
 use Rattle.lists.specs.Compare.{both, begins}
-use Rattle.bits.specs.Digits.{bitsOf, numberOf}
-use Rattle.lists.proofs.Below.{below-take}
 use Rattle.lists.proofs.Compare.{begins-own, begins-rest}
-use Rattle.bits.proofs.Digits.{digits-number}
 use Rattle.position_format.proofs.Lists.{not-so}
 use Rattle.position_format.proofs.Rows.{apart}
 

@@ -2,7 +2,7 @@
 -- it, and a row's reading by counting from its lowest step.
 use mathlib.Core.Bool.{Bool, true, false, cond, false≢true}
 use mathlib.Core.List.{List, [], _∷_}
-use mathlib.Core.Path.{_≡_, refl, sym, ap, ap₂, _∙_}
+use mathlib.Core.Path.{_≡_, refl, sym, ap, _∙_}
 use Prim.Native.Nat.{ℕ, zero, suc, _+_, _-_, _/_, _%_, _^_, _≤_, _<_}
 use native.Mathlib.Nat.{mod-eq-of-lt, mod-eq-sub-mod}
 use native.Mathlib.Omega.{arith}
@@ -13,12 +13,12 @@ use lib.ListN.{length, getD}
 use lib.Signed.{leZ}
 use Rattle.lists.specs.Compare.{both}
 use Rattle.lists.proofs.Compare.{both-true}
-use Rattle.lists.proofs.Lists.{every, first-below}
+use Rattle.lists.proofs.Lists.{first-below}
 use Rattle.position_format.specs.Rows.{Row, neg, holds, reading, noRow, rowOf}
 use Rattle.integers.proofs.Integers.{diff-pos, diff-neg}
 use Rattle.position_format.proofs.Integers.{neg-holds, neg-le-pos, neg-le-neg}
-use Rattle.position_format.proofs.Lists.{not-so, every-at}
-use Rattle.position_format.proofs.Rows.{goodTable, full, good-cons, good-full, full-is, reading-ends, holds-ends}
+use Rattle.position_format.proofs.Lists.{not-so}
+use Rattle.position_format.proofs.Rows.{goodTable, full, good-full, full-is, reading-ends, holds-ends}
 use Rattle.position_format.proofs.Codes.{row-is}
 
 -- ---- the test

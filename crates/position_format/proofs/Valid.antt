@@ -1,14 +1,13 @@
 -- Steps by index, and what it says of each position and of each step that positions are valid.
 use mathlib.Core.Bool.{true}
 use mathlib.Core.List.{List, [], _∷_}
-use mathlib.Core.Path.{_≡_, refl, sym, ap, _∙_}
+use mathlib.Core.Path.{_≡_, refl, ap}
 use Prim.Native.Nat.{ℕ, zero, suc, _-_, _≤_, _<_}
 use native.Mathlib.Omega.{arith}
 use borrow.Author.Tests.{eqb-true, eq-eqb, ltb-false, le-ltb, not-false}
 use lib.Dec.{eqb}
 use lib.IntN.{ℤ, pos}
-use lib.ListN.{length, getD, take}
-use lib.Seq.{take-nil}
+use lib.ListN.{length, getD}
 use Rattle.lists.proofs.Compare.{both-true}
 use Rattle.lists.specs.Lists.{firstIndex}
 use Rattle.limits.specs.Points.{maxPosition, tooHigh}

@@ -1,5 +1,4 @@
 -- `field_ahead` meets its contract: the bits stand in the word, or in the body.
-use mathlib.Core.Path.{_≡_}
 use Prim.Native.Nat.{_≤_, _<_}
 use native.Mathlib.Omega.{arith}
 use borrow.Author.Needs.{needs}
@@ -7,7 +6,7 @@ use lib.ListN.{length, getD, drop}
 use Rattle.bits.specs.Packing.{bits}
 use Rattle.bits.proofs.Packing.{length-left}
 use Rattle.bits.proofs.Word.{mask-pos}
-use Rattle.position_format.specs.Rows.{rows, codeLength, noRow}
+use Rattle.position_format.specs.Rows.{rows, noRow}
 use Rattle.position_format.proofs.Codes.{row-within}
 use Rattle.position_codec.proofs.Rows.{rows-count, rows-lengths, row-narrow}
 use Rattle.position_codec.proofs.StepFound.{field-word, field-body}

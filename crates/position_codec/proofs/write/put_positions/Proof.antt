@@ -1,8 +1,7 @@
 -- `put_positions` meets its contract. The loop's invariant: the bits of the points passed are written or held.
 -- The measure is what is left of the length.
-use mathlib.Core.List.{List}
 use mathlib.Core.Path.{_≡_, refl, _∙_}
-use Prim.Native.Nat.{ℕ, _-_, _≤_}
+use Prim.Native.Nat.{_-_}
 use native.Mathlib.Omega.{arith}
 use borrow.Author.Needs.{needs}
 use lib.ListN.{length, take}

@@ -27,8 +27,8 @@ module _ (s : List ℕ) (b r k pad e : ℕ) (whole : r + k + pad ≡ 8 * e) (roo
       ap bits (sym (rw n at (digits-number 256 (take e (drop b s)) (below-take 256 e (drop b s) (below-drop 256 b s bytes)))))
       ∙ bits-bytes e held
 
-  pub get-field : take k (drop (8 * b + r) (bits s)) ≡ bitsOf k (held / 2 ^ pad)
-  get-field =
+  pub bits-field : take k (drop (8 * b + r) (bits s)) ≡ bitsOf k (held / 2 ^ pad)
+  bits-field =
       let A : List ℕ = bitsOf r (held / 2 ^ pad / 2 ^ k) in
       let K : List ℕ = bitsOf k (held / 2 ^ pad) in
       let Z : List ℕ = bits (drop e (drop b s)) in
@@ -49,7 +49,7 @@ module _ (s : List ℕ) (b r k pad e : ℕ) (whole : r + k + pad ≡ 8 * e) (roo
       regroup a k p z = simp append-assoc
 
   pub number-field : numberOf 2 (take k (drop (8 * b + r) (bits s))) ≡ held / 2 ^ pad % 2 ^ k
-  number-field = ap (numberOf 2) get-field ∙ number-digits two⁺ k (held / 2 ^ pad)
+  number-field = ap (numberOf 2) bits-field ∙ number-digits two⁺ k (held / 2 ^ pad)
 
 -- the code's own terms: the field of k bits from bit `at` on
 
@@ -61,10 +61,10 @@ abbrev pub padAfter : ℕ → ℕ → ℕ
 padAfter at k = 8 * bytesFor at k - (at % 8 + k)
 
 -- of the number x of the bytes that hold the field
-pub get-is : (s : List ℕ) (at k x : ℕ) → k ≤ 57 → at + k ≤ 8 * length s → Below 256 s
+pub field-one : (s : List ℕ) (at k x : ℕ) → k ≤ 57 → at + k ≤ 8 * length s → Below 256 s
     → x ≡ numberOf 256 (take (bytesFor at k) (drop (at / 8) s))
     → (x / 2 ^ padAfter at k % (1 * 2 ^ k % 2 ^ 64) ≡ numberOf 2 (take k (drop at (bits s)))) × (x / 2 ^ padAfter at k % (1 * 2 ^ k % 2 ^ 64) < 2 ^ k)
-get-is s at k x k≤ room bytes ex =
+field-one s at k x k≤ room bytes ex =
     let place : 8 * (at / 8) + at % 8 ≡ at = omega arith in
     rw (mask k (omega arith)) (
       ap (λ (y : ℕ). y / 2 ^ padAfter at k % 2 ^ k) ex

@@ -8,7 +8,7 @@ use lib.ListN.{getD}
 use Rattle.bits.specs.Digits.{bitsOf}
 use Rattle.position_format.specs.Rows.{Row, inTable, residue, codeIn, noRow, rowOf}
 use Rattle.position_format.proofs.Rows.{residue-lt}
-use Rattle.position_format.proofs.Codes.{code-lead}
+use Rattle.position_format.proofs.Codes.{code-row}
 use Rattle.position_codec.specs.declared.table.Code.{Code}
 use Rattle.position_codec.specs.Codes.{Coded}
 
@@ -28,5 +28,5 @@ coded-by rs z e i is p x k y some short x< narrow prefix width ey = record {
   bits = ap₂ (λ (q : List ℕ) (m : ℕ). q ++ bitsOf k m) (sym prefix) ey
       ∙ ap (λ (m : ℕ). getD rs i noRow .prefix ++ bitsOf m (residue m z)) (sym width)
       ∙ ap (λ (j : ℕ). codeIn (getD rs j noRow) z) (sym is)
-      ∙ sym (code-lead noRow z rs e);
+      ∙ sym (code-row noRow z rs e);
 }

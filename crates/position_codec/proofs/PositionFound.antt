@@ -101,8 +101,8 @@ module _ (a b : ℕ) (a< : a < 2 ^ 62) (b< : b < 2 ^ 62) where
     regroup = sym (+ℤ-assoc (pos b) (pos b -ℤ pos a) z)
 
     -- there is no such position in range
-    pub next-none : t ≡ false → (v : ℕ) → v ≤ maxPosition → stepOf a b v ≡ z → ⊥
-    next-none e v h s = outside maxPosition (centre +ℤ z) (sym tested ∙ e) v h (sym regroup ∙ of-step a b v z s)
+    pub position-none : t ≡ false → (v : ℕ) → v ≤ maxPosition → stepOf a b v ≡ z → ⊥
+    position-none e v h s = outside maxPosition (centre +ℤ z) (sym tested ∙ e) v h (sym regroup ∙ of-step a b v z s)
 
     -- or it is their sum
     module _ (e : t ≡ true) where
@@ -124,8 +124,8 @@ module _ (a b : ℕ) (a< : a < 2 ^ 62) (b< : b < 2 ^ 62) where
       pub total-back : toZ w64 (ofZ w64 total) ≡ pos next
       total-back = toZ-ofZ w64 total total-fits ∙ total-is
 
-      pub next-small : next < 2 ^ 62
-      next-small = omega (arith, place .1)
+      pub position-small : next < 2 ^ 62
+      position-small = omega (arith, place .1)
 
-      pub next-is : (natAbs (toZ w64 (ofZ w64 total)) ≤ maxPosition) × (stepOf a b (natAbs (toZ w64 (ofZ w64 total))) ≡ z)
-      next-is = rw total-back (place .1, step-of a b next z (regroup ∙ place .0))
+      pub position-is : (natAbs (toZ w64 (ofZ w64 total)) ≤ maxPosition) × (stepOf a b (natAbs (toZ w64 (ofZ w64 total))) ≡ z)
+      position-is = rw total-back (place .1, step-of a b next z (regroup ∙ place .0))

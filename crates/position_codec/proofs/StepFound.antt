@@ -24,7 +24,7 @@ use Rattle.position_format.specs.Rows.{Row, inTable, reading, code, codeLength,
 use Rattle.position_format.proofs.Lists.{not-so, every-at}
 use Rattle.position_format.proofs.Prefixes.{begins-take, take-begins, begins-short}
 use Rattle.position_format.proofs.Rows.{goodTable}
-use Rattle.position_format.proofs.Codes.{in-first, length-lead, lengths, code-within}
+use Rattle.position_format.proofs.Codes.{inTable-row, length-code, lengths, code-within}
 use Rattle.position_format.proofs.Decoding.{code-begins, prefix-one, front-step, front-table, front-code}
 use Rattle.position_codec.specs.declared.table.GotStep.{GotStep}
 use Rattle.position_codec.specs.declared.table.GotStep.the-variants.{Step, Nothing}
@@ -83,11 +83,11 @@ module _ (rs : List Row) (good : goodTable rs ≡ true) (q : ℕ) (short : short
       let t = begins-rest (code rs z) ds b in
       let p = getD rs (rowOf rs z) noRow .prefix in
       let bp : begins p ds ≡ true = rw (t .1) (code-begins noRow rs z e (t .0)) in
-      prefix-one noRow rs good (ahead q ds) (rowOf rs z) i (in-first rs z e) (lead .row)
-      (begins-ahead q p ds (prefix-short q rs short (rowOf rs z) (in-first rs z e)) bp) (lead .front)
+      prefix-one noRow rs good (ahead q ds) (rowOf rs z) i (inTable-row rs z e) (lead .row)
+      (begins-ahead q p ds (prefix-short q rs short (rowOf rs z) (inTable-row rs z e)) bp) (lead .front)
 
   size-by : (z : ℤ) → inTable rs z ≡ true → rowOf rs z ≡ i → length (code rs z) ≡ n
-  size-by z e is = length-lead noRow z rs e ∙ ap (λ (j : ℕ). codeLength (getD rs j noRow)) is ∙ sym (lead .len)
+  size-by z e is = length-code noRow z rs e ∙ ap (λ (j : ℕ). codeLength (getD rs j noRow)) is ∙ sym (lead .len)
 
   -- so there is none where there are fewer bits than its codes have
   pub found-few : length ds < n → StepFound rs ds Nothing

@@ -1,4 +1,5 @@
-// The table of steps: its data, the first row that holds a step, a step's code, and the step that a code's bits stand for.
+// The table of steps: its data, the first row that holds a step, a step's code, and the step that a code's bits stand for. A code may have
+// 64 bits after its prefix; only the reading of a row's bits, at the end, goes by what the rows' widths and ranges have in common.
 ghost use mathlib.Core.Bool.{true};
 ghost use mathlib.Core.Path.{_≡_};
 ghost use Prim.Native.Nat.{_-_, _^_, _≤_, _<_};
@@ -69,20 +70,12 @@ fn in_row(row: usize, z: i64) -> bool
 fn row_of(z: i64) -> usize
     ensures { λ r. ⌜ r ≡ rowOf rows z ⌝ }
 {
-    if in_row(0, z) {
-        return 0;
-    }
-    if in_row(1, z) {
-        return 1;
-    }
-    if in_row(2, z) {
-        return 2;
-    }
-    if in_row(3, z) {
-        return 3;
-    }
-    if in_row(4, z) {
-        return 4;
+    let mut row = 0;
+    while row < ROWS {
+        if in_row(row, z) {
+            return row;
+        }
+        row += 1;
     }
     ROWS
 }
@@ -165,7 +158,7 @@ pub(crate) fn lead_of(four: u64) -> Lead
     }
 }
 
-// How many steps a row holds: 2^width.
+// How many steps a row holds: 2^width. No row has more than 32 bits.
 fn size_of(row: usize) -> u64
     requires { ⌜ row < 5 ⌝ }
     ensures { λ r. ⌜ (r ≡ 2 ^ getD rows row noRow .width) × (0 < r) × (r ≤ 2 ^ 32) ⌝ }
@@ -173,7 +166,8 @@ fn size_of(row: usize) -> u64
     1 << width_of(row)
 }
 
-// The one number in a row's range that is x modulo 2^width: counted from the lowest, and not by a test of x, which is hard to foretell.
+// The one number in a row's range, which is even around 0, that is x modulo 2^width: counted from the lowest, and not by a test of x,
+// which is hard to foretell.
 fn reading_in(row: usize, x: u64) -> i64
     requires { ⌜ (row < 5) × (x < 2 ^ getD rows row noRow .width) ⌝ }
     ensures { λ r. ⌜ r ≡ reading (getD rows row noRow) x ⌝ }
@@ -184,7 +178,7 @@ fn reading_in(row: usize, x: u64) -> i64
     y as i64 - below as i64
 }
 
-// Whether the row before this one holds that number too.
+// Whether the row before this one, whose range lies within its range, holds that number too.
 fn early(row: usize, x: u64) -> bool
     requires { ⌜ (0 < row) × (row < 5) × (x < 2 ^ getD rows row noRow .width) ⌝ }
     ensures { λ r. ⌜ r ≡ holds (getD rows (row - 1) noRow) (reading (getD rows row noRow) x) ⌝ }

@@ -47,17 +47,35 @@ pub fn first_outside(positions: &[u64]) -> usize
     i
 }
 
-// The bits of point i come after those of the points before it: 64 for each of the first two, and then the code of its step. The step 0 is
-// the usual one, and its code one bit.
+// The bits of the first two points, 64 for each, or of so many as there are.
+fn put_first(positions: &[u64], out: &mut [u8]) -> Sink
+    ensures { λ r. ⌜ Sound r × Held (positionBits rows (take 2 (now (positions .entry)))) r
+        × PlacedBits (positionBits rows (take 2 (now (positions .entry)))) (r .at) (now (out .entry)) (now (out .exit)) ⌝ }
+{
+    let none = Sink {
+        at: 0,
+        held: 0,
+        width: 0,
+    };
+    let n = positions.len();
+    if n == 0 {
+        return none;
+    }
+    let one = bits::lay(out, none, 64, positions[0]);
+    if n == 1 {
+        return one;
+    }
+    bits::lay(out, one, 64, positions[1])
+}
+
+// The bits of point i, from the third on, come after those of the points before it: the code of its step. The step 0 is the usual one, and
+// its code one bit.
 fn put_point(positions: &[u64], i: usize, out: &mut [u8], s: Sink) -> Sink
-    requires { ⌜ Point rows (now positions) i × Sound s × Held (positionBits rows (take i (now positions))) s ⌝ }
+    requires { ⌜ (2 ≤ i) × Point rows (now positions) i × Sound s × Held (positionBits rows (take i (now positions))) s ⌝ }
     ensures { λ r. ⌜ Sound r × Held (positionBits rows (take (i + 1) (now (positions .entry)))) r
         × ((o : List ℕ) → PlacedBits (positionBits rows (take i (now (positions .entry)))) (s .at) o (now (out .entry))
         → PlacedBits (positionBits rows (take (i + 1) (now (positions .entry)))) (r .at) o (now (out .exit))) ⌝ }
 {
-    if i < 2 {
-        return bits::lay(out, s, 64, positions[i]);
-    }
     let z = step_at(positions, i);
     if z == 0 {
         return bits::lay(out, s, 1, 0);
@@ -71,12 +89,8 @@ pub fn put_positions(positions: &[u64], out: &mut [u8]) -> Wrote
     requires { ⌜ (validPositions rows (now positions) ≡ true) × (length (now positions) ≤ 4096) ⌝ }
     ensures { λ r. ⌜ Placed (codedPositions rows (now (positions .entry))) r (now (out .entry)) (now (out .exit)) ⌝ }
 {
-    let mut s = Sink {
-        at: 0,
-        held: 0,
-        width: 0,
-    };
-    let mut i = 0;
+    let mut s = put_first(positions, out);
+    let mut i = 2;
     while i < positions.len() {
         s = put_point(positions, i, out, s);
         i += 1;

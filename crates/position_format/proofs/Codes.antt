@@ -27,28 +27,28 @@ found true b m n f e = omega arith
 found false b m n f e = let h : m < n = f e in omega arith
 
 -- the table holds a step when there is such a row
-pub in-first : (rs : List Row) (z : ℤ) → inTable rs z ≡ true → rowOf rs z < length rs
+pub inTable-row : (rs : List Row) (z : ℤ) → inTable rs z ≡ true → rowOf rs z < length rs
 unfolding inTable firstIndex
-in-first [] z e = absurd (false≢true e)
-in-first (r ∷ rs) z e = found (holds r z) (inTable rs z) (rowOf rs z) (length rs) (in-first rs z) e
+inTable-row [] z e = absurd (false≢true e)
+inTable-row (r ∷ rs) z e = found (holds r z) (inTable rs z) (rowOf rs z) (length rs) (inTable-row rs z) e
 
 there : (t b : Bool) (m n : ℕ) → (m < n → b ≡ true) → cond t zero (suc m) < suc n → cond t true b ≡ true
 there true b m n f h = refl
 there false b m n f h = f (omega arith)
 
-pub first-in : (rs : List Row) (z : ℤ) → rowOf rs z < length rs → inTable rs z ≡ true
+pub row-inTable : (rs : List Row) (z : ℤ) → rowOf rs z < length rs → inTable rs z ≡ true
 unfolding inTable firstIndex
-first-in [] z h = absurd (omega arith)
-first-in (r ∷ rs) z h = there (holds r z) (inTable rs z) (rowOf rs z) (length rs) (first-in rs z) h
+row-inTable [] z h = absurd (omega arith)
+row-inTable (r ∷ rs) z h = there (holds r z) (inTable rs z) (rowOf rs z) (length rs) (row-inTable rs z) h
 
 -- so the index tells whether it does
-pub in-test : (rs : List Row) (z : ℤ) → ltb (rowOf rs z) (length rs) ≡ inTable rs z
-in-test rs z = go (inTable rs z) refl
+pub inTable-test : (rs : List Row) (z : ℤ) → ltb (rowOf rs z) (length rs) ≡ inTable rs z
+inTable-test rs z = go (inTable rs z) refl
   where
     go : (t : Bool) → inTable rs z ≡ t → ltb (rowOf rs z) (length rs) ≡ t
-    go true e = lt-ltb (rowOf rs z) (length rs) (in-first rs z e)
+    go true e = lt-ltb (rowOf rs z) (length rs) (inTable-row rs z e)
     go false e =
-        let n : (rowOf rs z < length rs → ⊥) = λ h. false≢true (sym e ∙ first-in rs z h) in
+        let n : (rowOf rs z < length rs → ⊥) = λ h. false≢true (sym e ∙ row-inTable rs z h) in
         le-ltb (rowOf rs z) (length rs) (omega arith)
 
 -- by the test of row i, where no row before it holds z: it is the first, or a later one is, or there is none
@@ -71,7 +71,7 @@ module _ (d : Row) (z : ℤ) where
       omega arith
 
   pub row-holds : (rs : List Row) → inTable rs z ≡ true → holds (getD rs (rowOf rs z) d) z ≡ true
-  row-holds rs e = first-at (λ (r : Row). holds r z) d rs (in-first rs z e)
+  row-holds rs e = first-at (λ (r : Row). holds r z) d rs (inTable-row rs z e)
 
   lead : (r : Row) (rs : List Row) (c : List ℕ) (b t : Bool) (m : ℕ) → (b ≡ true → c ≡ codeIn (getD rs m d) z)
       → cond t true b ≡ true → cond t (codeIn r z) c ≡ codeIn (getD (r ∷ rs) (cond t zero (suc m)) d) z
@@ -79,16 +79,16 @@ module _ (d : Row) (z : ℤ) where
   lead r rs c b false m f e = f e
 
   -- the code is by that row: its prefix, then its bits
-  pub code-lead : (rs : List Row) → inTable rs z ≡ true → code rs z ≡ codeIn (getD rs (rowOf rs z) d) z
+  pub code-row : (rs : List Row) → inTable rs z ≡ true → code rs z ≡ codeIn (getD rs (rowOf rs z) d) z
   unfolding inTable code firstIndex
-  code-lead [] e = absurd (false≢true e)
-  code-lead (r ∷ rs) e = lead r rs (code rs z) (inTable rs z) (holds r z) (rowOf rs z) (code-lead rs) e
+  code-row [] e = absurd (false≢true e)
+  code-row (r ∷ rs) e = lead r rs (code rs z) (inTable rs z) (holds r z) (rowOf rs z) (code-row rs) e
 
   length-in : (r : Row) → length (codeIn r z) ≡ codeLength r
   length-in r = length-append (r .prefix) _ ∙ ap (λ (n : ℕ). length (r .prefix) + n) (length-digits 2 (r .width) (residue (r .width) z))
 
-  pub length-lead : (rs : List Row) → inTable rs z ≡ true → length (code rs z) ≡ codeLength (getD rs (rowOf rs z) d)
-  length-lead rs e = ap length (code-lead rs e) ∙ length-in (getD rs (rowOf rs z) d)
+  pub length-code : (rs : List Row) → inTable rs z ≡ true → length (code rs z) ≡ codeLength (getD rs (rowOf rs z) d)
+  length-code rs e = ap length (code-row rs e) ∙ length-in (getD rs (rowOf rs z) d)
 
 -- ---- its bits
 
@@ -96,9 +96,9 @@ module _ (d : Row) (z : ℤ) where
 pub code-below : (rs : List Row) → goodTable rs ≡ true → (z : ℤ) → inTable rs z ≡ true → Below 2 (code rs z)
 code-below rs g z e =
     let r = getD rs (rowOf rs z) noRow in
-    rw (code-lead noRow z rs e)
+    rw (code-row noRow z rs e)
     (below-append 2 (r .prefix) (bitsOf (r .width) (residue (r .width) z))
-    (good-bits noRow rs g (rowOf rs z) (in-first rs z e))
+    (good-bits noRow rs g (rowOf rs z) (inTable-row rs z e))
     (below-digits 2 two⁺ (r .width) (residue (r .width) z)))
 
 -- ---- how many they are
@@ -114,4 +114,4 @@ row-within lo hi rs g i h =
     (leb-true lo n (p .0), leb-true n hi (p .1))
 
 pub code-within : (lo hi : ℕ) (rs : List Row) → lengths lo hi rs ≡ true → (z : ℤ) → inTable rs z ≡ true → (lo ≤ length (code rs z)) × (length (code rs z) ≤ hi)
-code-within lo hi rs g z e = rw (length-lead noRow z rs e) (row-within lo hi rs g (rowOf rs z) (in-first rs z e))
+code-within lo hi rs g z e = rw (length-code noRow z rs e) (row-within lo hi rs g (rowOf rs z) (inTable-row rs z e))

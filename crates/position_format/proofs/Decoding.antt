@@ -18,7 +18,7 @@ use Rattle.position_format.specs.Positions.{Taken, stepAt}
 use Rattle.position_format.proofs.Lists.{every-at}
 use Rattle.position_format.proofs.Prefixes.{apart-not, begins-take}
 use Rattle.position_format.proofs.Rows.{goodTable, full, apart, good-cons, good-full, residue-lt, reading-residue, residue-reading}
-use Rattle.position_format.proofs.Codes.{in-first, first-in, row-holds, code-lead}
+use Rattle.position_format.proofs.Codes.{inTable-row, row-inTable, row-holds, code-row}
 
 -- a step and the bits after it
 abbrev pub taken : ℤ → List ℕ → Taken
@@ -52,8 +52,8 @@ takenBy-code r f z e ds =
 pub stepAt-code : (rs : List Row) → goodTable rs ≡ true → (z : ℤ) → inTable rs z ≡ true → (ds : List ℕ) → stepAt rs (code rs z ++ ds) ≡ record { step = z; rest = ds }
 stepAt-code rs g z e ds =
     let r = getD rs (rowOf rs z) noRow in
-    let h : rowOf rs z < length rs = in-first rs z e in
-    ap (λ (l : List ℕ). stepAt rs (l ++ ds)) (code-lead noRow z rs e)
+    let h : rowOf rs z < length rs = inTable-row rs z e in
+    ap (λ (l : List ℕ). stepAt rs (l ++ ds)) (code-row noRow z rs e)
     ∙ ap (stepAt rs) (append-assoc (r .prefix) (bitsOf (r .width) (residue (r .width) z)) ds)
     ∙ stepAt-row noRow rs g (rowOf rs z) h (bitsOf (r .width) (residue (r .width) z) ++ ds)
     ∙ takenBy-code r (good-full noRow rs g (rowOf rs z) h) z (row-holds noRow z rs e) ds
@@ -62,7 +62,7 @@ stepAt-code rs g z e ds =
 pub code-begins : (d : Row) (rs : List Row) (z : ℤ) → inTable rs z ≡ true → (ds : List ℕ) → begins (getD rs (rowOf rs z) d .prefix) (code rs z ++ ds) ≡ true
 code-begins d rs z e ds =
     let r = getD rs (rowOf rs z) d in
-    rw (code-lead d z rs e, append-assoc (r .prefix) (bitsOf (r .width) (residue (r .width) z)) ds) (begins-own (r .prefix) (bitsOf (r .width) (residue (r .width) z) ++ ds))
+    rw (code-row d z rs e, append-assoc (r .prefix) (bitsOf (r .width) (residue (r .width) z)) ds) (begins-own (r .prefix) (bitsOf (r .width) (residue (r .width) z) ++ ds))
 
 -- ---- bits that begin with the prefix of the row of index k
 
@@ -93,11 +93,8 @@ module _ (d : Row) (rs : List Row) (good : goodTable rs ≡ true) (k : ℕ) (k< 
   pub stepAt-front : stepAt rs ds ≡ takenBy here (drop (length (here .prefix)) ds)
   stepAt-front = ap (stepAt rs) (sym after-prefix) ∙ stepAt-row d rs good k k< (drop (length (here .prefix)) ds)
 
-  -- where the code of a step stands there, it is by this row, and the bits are read as that step
+  -- where the code of a step stands there, the bits are read as that step
   module _ (z : ℤ) (e : inTable rs z ≡ true) (es : List ℕ) (is : ds ≡ code rs z ++ es) where
-    pub front-row : rowOf rs z ≡ k
-    front-row = prefix-one d rs good ds (rowOf rs z) k (in-first rs z e) k< (rw is (code-begins d rs z e es)) front
-
     pub front-step : reading here (numberOf 2 (take (here .width) (drop (length (here .prefix)) ds))) ≡ z
     front-step = ap (λ (t : Taken). t .step) (sym stepAt-front ∙ ap (stepAt rs) is ∙ stepAt-code rs good z e es)
 
@@ -125,9 +122,9 @@ module _ (d : Row) (rs : List Row) (good : goodTable rs ≡ true) (k : ℕ) (k< 
     -- so they are its code where no row before this one holds it
     module _ (lead : rowOf rs (reading here (numberOf 2 field)) ≡ k) where
       pub front-table : inTable rs (reading here (numberOf 2 field)) ≡ true
-      front-table = first-in rs (reading here (numberOf 2 field)) (omega arith)
+      front-table = row-inTable rs (reading here (numberOf 2 field)) (omega arith)
 
       pub front-code : code rs (reading here (numberOf 2 field)) ≡ take (codeLength here) ds
       front-code =
-          code-lead d (reading here (numberOf 2 field)) rs front-table
+          code-row d (reading here (numberOf 2 field)) rs front-table
           ∙ ap (λ (i : ℕ). codeIn (getD rs i d) (reading here (numberOf 2 field))) lead ∙ front-in

@@ -162,10 +162,25 @@ module _ (rs : List Row) where
       bits-more (a ∷ b ∷ ts) (suc (suc i)) (omega arith) h rs
       ∙ ap (λ (l : List ℕ). positionBits rs (take (suc (suc i)) (a ∷ b ∷ ts)) ++ l) (sym (next-step rs (suc (suc i)) (getD (a ∷ b ∷ ts) (suc (suc i) - 2) 0) (getD (a ∷ b ∷ ts) (suc (suc i) - 1) 0) (getD ts i 0) (omega arith)))
 
-  -- it is one of the first two, or has the code of its step
-  pub point-raw : (ts : List ℕ) (i : ℕ) → i < 2 → i < length ts → positionBits rs (take (i + 1) ts) ≡ positionBits rs (take i ts) ++ bitsOf 64 (getD ts i 0)
-  point-raw ts i h here = point-more ts i here ∙ ap (λ (l : List ℕ). positionBits rs (take i ts) ++ l) (next-raw rs i (getD ts (i - 2) 0) (getD ts (i - 1) 0) (getD ts i 0) h)
+  -- the first two, or as many as there are
+  pub first-none : (ts : List ℕ) → length ts ≡ 0 → positionBits rs (take 2 ts) ≡ []
+  unfolding positionBits
+  first-none [] h = refl
+  first-none (a ∷ ts) h = absurd (omega arith)
 
+  pub first-one : (ts : List ℕ) → length ts ≡ 1 → positionBits rs (take 2 ts) ≡ bitsOf 64 (getD ts 0 0)
+  unfolding positionBits
+  first-one [] h = absurd (omega arith)
+  first-one (a ∷ []) h = refl
+  first-one (a ∷ b ∷ ts) h = absurd (omega arith)
+
+  pub first-two : (ts : List ℕ) → 2 ≤ length ts → positionBits rs (take 2 ts) ≡ bitsOf 64 (getD ts 0 0) ++ bitsOf 64 (getD ts 1 0)
+  unfolding positionBits stepBits stepsFrom
+  first-two [] h = absurd (omega arith)
+  first-two (a ∷ []) h = absurd (omega arith)
+  first-two (a ∷ b ∷ ts) h = ap (λ (l : List ℕ). bitsOf 64 a ++ l) (append-nil (bitsOf 64 b))
+
+  -- from the third on it has the code of its step
   pub point-step : (ts : List ℕ) (i : ℕ) → 2 ≤ i → i < length ts → positionBits rs (take (i + 1) ts) ≡ positionBits rs (take i ts) ++ code rs (stepHere ts i)
   point-step ts i h here = bits-more ts i h here rs
 

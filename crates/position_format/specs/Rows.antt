@@ -11,7 +11,8 @@
 --   rowOf rs z      the index of the first row that holds z
 --   reading r x     the one number inside the row's range that is x modulo 2 ^ width, of a row that holds 2 ^ width numbers, 0 among them
 -- The definitions that go by a table take it as an argument, and their laws are proved of every table that passes one computed test: no
--- prefix begins another, and each row holds 2 ^ width numbers, 0 among them (proofs/Rows, goodTable).
+-- prefix begins another, and each row holds 2 ^ width numbers, 0 among them (proofs/Rows, goodTable). The coder asks two more computed tests
+-- of a table: how many bits its codes have (proofs/Codes, lengths), and that its ranges widen from row to row (proofs/Ranges, widening).
 use mathlib.Core.Bool.{Bool, true, false, cond}
 use mathlib.Core.List.{List, [], _∷_, _++_}
 use Prim.Native.Nat.{ℕ, suc, _+_, _-_, _%_, _^_}

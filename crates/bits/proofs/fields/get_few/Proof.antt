@@ -2,7 +2,7 @@
 use native.Mathlib.Omega.{arith}
 use borrow.Author.Needs.{needs}
 use Rattle.lists.proofs.Below.{below-of}
-use Rattle.bits.proofs.Field.{get-is}
+use Rattle.bits.proofs.Field.{field-one}
 use Rattle.bits.proofs.Word.{mask-pos}
 use Rattle.bits.proofs.fields.get_few.Statement.{statement}
 use Rattle.bits.proofs.fields.get_few.Tie as tie
@@ -38,7 +38,7 @@ returns : tie.Need-returns
 returns c =
     let s = c .before .before in
     let a = s .args in
-    get-is (a .s .now) (a .at) (a .k) (c .get-bytes .result) (s .pre .0) (s .pre .1) (below-of 256 (a .s .now) (λ i. c .before .shared-slice-known .given i .fits)) (c .get-bytes .ensures .0)
+    field-one (a .s .now) (a .at) (a .k) (c .get-bytes .result) (s .pre .0) (s .pre .1) (below-of 256 (a .s .now) (λ i. c .before .shared-slice-known .given i .fits)) (c .get-bytes .ensures .0)
 
 pub get-few-spec : {M : Type 1} → statement M
 get-few-spec =

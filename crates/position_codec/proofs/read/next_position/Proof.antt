@@ -2,7 +2,7 @@
 use native.Mathlib.Omega.{arith}
 use borrow.Author.Tests.{not-true, not-false}
 use Rattle.position_codec.proofs.Differences.{diff-fits}
-use Rattle.position_codec.proofs.PositionFound.{sum-fits, low-fits, high-fits, next-none, total-fits, total-back, next-small, next-is}
+use Rattle.position_codec.proofs.PositionFound.{sum-fits, low-fits, high-fits, position-none, total-fits, total-back, position-small, position-is}
 use borrow.Author.Needs.{needs}
 use Rattle.position_codec.proofs.read.next_position.Statement.{statement}
 use Rattle.position_codec.proofs.read.next_position.Tie as tie
@@ -35,7 +35,7 @@ within-requires : tie.Need-within-requires
 within-requires c κs = search needs
 
 returns : tie.Need-returns
-returns c = let s = c .before .before in next-none (s .args .a) (s .args .b) (s .pre .0) (s .pre .1) (s .args .z) (s .fits .z) (c .before .within .result) (c .before .within .ensures) (not-true _ (c .if1 .taken))
+returns c = let s = c .before .before in position-none (s .args .a) (s .args .b) (s .pre .0) (s .pre .1) (s .args .z) (s .fits .z) (c .before .within .result) (c .before .within .ensures) (not-true _ (c .if1 .taken))
 
 add-t6 : tie.Need-add-t6
 add-t6 c = let s = c .before .before in total-fits (s .args .a) (s .args .b) (s .pre .0) (s .pre .1) (s .args .z) (s .fits .z) (c .before .within .result) (c .before .within .ensures) (not-false _ (c .if1 .left))
@@ -44,10 +44,10 @@ cast-t11 : tie.Need-cast-t11
 cast-t11 c =
     let s = c .before .before in
     rw (total-back (s .args .a) (s .args .b) (s .pre .0) (s .pre .1) (s .args .z) (s .fits .z) (c .before .within .result) (c .before .within .ensures) (not-false _ (c .if1 .left)))
-    (tt, record { fits = omega (arith, next-small (s .args .a) (s .args .b) (s .pre .0) (s .pre .1) (s .args .z) (s .fits .z) (c .before .within .result) (c .before .within .ensures) (not-false _ (c .if1 .left))) })
+    (tt, record { fits = omega (arith, position-small (s .args .a) (s .args .b) (s .pre .0) (s .pre .1) (s .args .z) (s .fits .z) (c .before .within .result) (c .before .within .ensures) (not-false _ (c .if1 .left))) })
 
 returns-2 : tie.Need-returns-2
-returns-2 c = let s = c .before .before in next-is (s .args .a) (s .args .b) (s .pre .0) (s .pre .1) (s .args .z) (s .fits .z) (c .before .within .result) (c .before .within .ensures) (not-false _ (c .if1 .left))
+returns-2 c = let s = c .before .before in position-is (s .args .a) (s .args .b) (s .pre .0) (s .pre .1) (s .args .z) (s .fits .z) (c .before .within .result) (c .before .within .ensures) (not-false _ (c .if1 .left))
 
 pub next-position-spec : {M : Type 1} → statement M
 next-position-spec =

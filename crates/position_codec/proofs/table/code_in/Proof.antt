@@ -5,7 +5,7 @@ use native.Mathlib.Omega.{arith}
 use mir.Syntax.{w64}
 use mir.ValLaws.{toZ-ofZ}
 use Rattle.position_format.specs.Rows.{Row, rows, residue}
-use Rattle.position_format.proofs.Codes.{in-first}
+use Rattle.position_format.proofs.Codes.{inTable-row}
 use Rattle.position_codec.proofs.Codes.{coded-by}
 use Rattle.position_codec.proofs.Rows.{rows-count, prefixOf, prefixLenOf, row-at, row-small, row-narrow}
 use Rattle.position_codec.proofs.table.code_in.Statement.{statement}
@@ -13,7 +13,7 @@ use Rattle.position_codec.proofs.table.code_in.Tie as tie
 
 -- the row is one of the five
 inside : (s : tie.Start) → s .args .row < 5
-inside s = omega (arith, s .pre .1, in-first rows (s .args .z) (s .pre .0), rows-count)
+inside s = omega (arith, s .pre .1, inTable-row rows (s .args .z) (s .pre .0), rows-count)
 
 width-of-requires : tie.Need-width-of-requires
 width-of-requires c κs = inside c

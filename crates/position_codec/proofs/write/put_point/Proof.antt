@@ -15,7 +15,7 @@ use Rattle.position_format.specs.Steps.{stepHere}
 use Rattle.position_format.specs.Positions.{positionBits}
 use Rattle.position_format.proofs.Valid.{valid-parts}
 use Rattle.position_format.proofs.Sizes.{bits-most}
-use Rattle.position_format.proofs.Points.{valid-here, point-raw, point-step, point-place}
+use Rattle.position_format.proofs.Points.{valid-here, point-step, point-place}
 use Rattle.position_codec.proofs.Rows.{rows-lengths, rows-zero-code}
 use Rattle.position_codec.proofs.write.put_point.Statement.{statement}
 use Rattle.position_codec.proofs.write.put_point.Tie as tie
@@ -30,20 +30,28 @@ before-it s = positionBits rows (take (s .args .i) (positions s))
 -- there are not too many bits
 small : (s : tie.Start) → s .args .s .at + 8 ≤ 2 ^ 32
 small s =
-    let p = s .pre .0 in
-    omega (arith, s .pre .2 .size, p .many, point-place rows (positions s) (s .args .i) (omega (arith, p .here)), bits-most 1 69 rows rows-lengths (positions s) (p .valid))
+    let p = s .pre .1 in
+    omega (arith, s .pre .3 .size, p .many, point-place rows (positions s) (s .args .i) (omega (arith, p .here)), bits-most 1 69 rows rows-lengths (positions s) (p .valid))
 
-mul-lay : tie.Need-mul-lay
-mul-lay c = search needs
+step-at-requires : tie.Need-step-at-requires
+step-at-requires c κs =
+    let s = c .before .before in
+    let p = s .pre .1 in
+    (s .pre .0, p .here, omega (arith, valid-parts rows (positions s) (p .valid) .0))
 
-shared-slice-read-lay : tie.Need-shared-slice-read-lay
-shared-slice-read-lay c = omega (arith, (c .before .before .before .before) .before .pre .0 .here)
+-- where the step is known: the start, and the step, read back from its bits
+abbrev start : tie.After-step-at → tie.Start
+start c = c .before .before .before
+
+step-is : (c : tie.After-step-at) → toZ w64 (ofZ w64 (c .step-at .result)) ≡ stepHere (positions (start c)) (start c .args .i)
+step-is c = toZ-ofZ w64 (c .step-at .result) (record { sfits = c .step-at .ok }) ∙ c .step-at .ensures
+
+-- its code comes after the bits before it
+after-it : (c : tie.After-step-at) → let s = start c in positionBits rows (take (s .args .i + 1) (positions s)) ≡ before-it s ++ code rows (stepHere (positions s) (s .args .i))
+after-it c = let s = start c in point-step rows (positions s) (s .args .i) (s .pre .0) (s .pre .1 .here)
 
 lay-requires : tie.Need-lay-requires
-lay-requires c κs =
-    let at-test = c .before .before in
-    let s = at-test .before .before .before in
-    (omega (arith, small s), s .pre .1, omega arith, c .shared-slice-known2 .given (s .args .i) .fits)
+lay-requires c κs = let s = start (c .before .before) in (omega (arith, small s), s .pre .2, omega arith, omega arith)
 
 same-length : tie.Need-same-length
 same-length c = search needs
@@ -51,34 +59,27 @@ same-length c = search needs
 returns : tie.Need-returns
 returns c =
     let laid = c .before .before in
-    let at-test = laid .before .before .before in
-    let s = at-test .before .before .before in
+    let at-test = laid .before .before in
+    let k = at-test .before in
+    let s = start k in
     let e = laid .lay .ensures in
-    let f = rw (← point-raw rows (positions s) (s .args .i) (at-test .if1 .taken) (s .pre .0 .here)) at (e .2 (before-it s) (s .pre .2)) in
+    let zero : pos 0 ≡ stepHere (positions s) (s .args .i) = sym (ap (toZ w64) (at-test .if1 .taken)) ∙ step-is k in
+    let bits : bitsOf 1 0 ≡ code rows (stepHere (positions s) (s .args .i)) = rows-zero-code ∙ ap (code rows) zero in
+    let f = rw (bits, ← after-it k) at (e .2 (before-it s) (s .pre .3)) in
     (e .1, f .0, f .1)
 
-step-at-requires : tie.Need-step-at-requires
-step-at-requires c κs =
-    let s = c .before .before .before in
-    let p = s .pre .0 in
-    (c .if1 .left, p .here, omega (arith, valid-parts rows (positions s) (p .valid) .0))
+code-of-requires : tie.Need-code-of-requires
+code-of-requires c κs =
+    let k = c .before in
+    let s = start k in
+    ap (inTable rows) (step-is k) ∙ valid-here (positions s) (s .args .i) (s .pre .0) (s .pre .1 .here) rows (s .pre .1 .valid)
 
--- where the step is known: the start, that it is one of the later points, and the step, read back from its bits
-abbrev start : tie.After-step-at → tie.Start
-start c = c .before .before .before .before
-
-two : (c : tie.After-step-at) → 2 ≤ start c .args .i
-two c = c .before .if1 .left
-
-step-is : (c : tie.After-step-at) → toZ w64 (ofZ w64 (c .step-at .result)) ≡ stepHere (positions (start c)) (start c .args .i)
-step-is c = toZ-ofZ w64 (c .step-at .result) (record { sfits = c .step-at .ok }) ∙ c .step-at .ensures
-
--- its code comes after the bits before it
-after-it : (c : tie.After-step-at) → let s = start c in positionBits rows (take (s .args .i + 1) (positions s)) ≡ before-it s ++ code rows (stepHere (positions s) (s .args .i))
-after-it c = let s = start c in point-step rows (positions s) (s .args .i) (two c) (s .pre .0 .here)
-
-lay-requires-2 : tie.Need-lay-requires-2
-lay-requires-2 c κs = let s = start (c .before .before) in (omega (arith, small s), s .pre .1, omega arith, omega arith)
+lay-both-requires : tie.Need-lay-both-requires
+lay-both-requires c κs =
+    let coded = c .before in
+    let s = start (coded .before .before) in
+    let e = coded .code-of .ensures in
+    (small s, s .pre .2, e .some, e .short, e .prefix, e .narrow, e .rest)
 
 same-length-2 : tie.Need-same-length-2
 same-length-2 c = search needs
@@ -86,55 +87,22 @@ same-length-2 c = search needs
 returns-2 : tie.Need-returns-2
 returns-2 c =
     let laid = c .before .before in
-    let at-test = laid .before .before in
-    let k = at-test .before in
-    let s = start k in
-    let e = laid .lay2 .ensures in
-    let zero : pos 0 ≡ stepHere (positions s) (s .args .i) = sym (ap (toZ w64) (at-test .if2 .taken)) ∙ step-is k in
-    let bits : bitsOf 1 0 ≡ code rows (stepHere (positions s) (s .args .i)) = rows-zero-code ∙ ap (code rows) zero in
-    let f = rw (bits, ← after-it k) at (e .2 (before-it s) (s .pre .2)) in
-    (e .1, f .0, f .1)
-
-code-of-requires : tie.Need-code-of-requires
-code-of-requires c κs =
-    let k = c .before in
-    let s = start k in
-    ap (inTable rows) (step-is k) ∙ valid-here (positions s) (s .args .i) (two k) (s .pre .0 .here) rows (s .pre .0 .valid)
-
-lay-both-requires : tie.Need-lay-both-requires
-lay-both-requires c κs =
-    let coded = c .before in
-    let s = start (coded .before .before) in
-    let e = coded .code-of .ensures in
-    (small s, s .pre .1, e .some, e .short, e .prefix, e .narrow, e .rest)
-
-same-length-3 : tie.Need-same-length-3
-same-length-3 c = search needs
-
-returns-3 : tie.Need-returns-3
-returns-3 c =
-    let laid = c .before .before in
     let coded = laid .before .before in
     let k = coded .before .before in
     let s = start k in
     let e = laid .lay-both .ensures in
-    let f = rw (coded .code-of .ensures .bits, step-is k, ← after-it k) at (e .2 (before-it s) (s .pre .2)) in
+    let f = rw (coded .code-of .ensures .bits, step-is k, ← after-it k) at (e .2 (before-it s) (s .pre .3)) in
     (e .1, f .0, f .1)
 
 pub put-point-spec : {M : Type 1} → statement M
 put-point-spec =
     tie.close
     (tie.spec
-    mul-lay
-    shared-slice-read-lay
+    step-at-requires
     lay-requires
     same-length
     returns
-    step-at-requires
-    lay-requires-2
-    same-length-2
-    returns-2
     code-of-requires
     lay-both-requires
-    same-length-3
-    returns-3)
+    same-length-2
+    returns-2)

@@ -1,14 +1,14 @@
 -- `put_positions` meets its contract. The loop's invariant: the bits of the points passed are written or held.
 -- The measure is what is left of the length.
+use mathlib.Core.List.{List}
 use mathlib.Core.Path.{_≡_, refl, _∙_}
-use Prim.Native.Nat.{_-_}
+use Prim.Native.Nat.{ℕ, _-_, _≤_}
 use native.Mathlib.Omega.{arith}
 use borrow.Author.Needs.{needs}
 use lib.ListN.{length, take}
 use lib.Seq.{take-all}
 use Rattle.lists.proofs.Below.{below-of}
 use Rattle.bits.specs.Sinks.{Sound, Held, PlacedBits}
-use Rattle.bits.proofs.Sinks.{start-sound, start-held, start-placed}
 use Rattle.position_format.specs.Rows.{rows}
 use Rattle.position_format.specs.Positions.{positionBits, codedPositions}
 use Rattle.position_format.proofs.Rows.{rows-good}
@@ -20,25 +20,31 @@ use Rattle.position_codec.proofs.write.put_positions.Tie as tie
 
 abbrev Inv-loop : tie.InvT-loop
 Inv-loop positions out₀ s₀ i₀ out s i =
-    (length out ≡ length out₀) × Sound s × Held (positionBits rows (take i positions)) s × PlacedBits (positionBits rows (take i positions)) (s .at) out₀ out
+    (2 ≤ i) × (length out ≡ length out₀) × Sound s × Held (positionBits rows (take i positions)) s
+    × ((o : List ℕ) → PlacedBits (positionBits rows (take 2 positions)) (s₀ .at) o out₀ → PlacedBits (positionBits rows (take i positions)) (s .at) o out)
 
 abbrev μ-loop : tie.MeasureT-loop
 μ-loop positions out₀ s₀ i₀ out s i = length positions - i
 
-loop-holds : tie.Need-loop-holds Inv-loop μ-loop
-unfolding positionBits
-loop-holds c = (refl, start-sound, start-held, start-placed (c .before .before .args .out .now))
+put-first-requires : tie.Need-put-first-requires Inv-loop μ-loop
+put-first-requires c κs = search needs
 
--- at the loop's head, the start
+loop-holds : tie.Need-loop-holds Inv-loop μ-loop
+loop-holds c = let f = c .before .before .put-first .ensures in (omega arith, refl, f .0, f .1, λ o t. t)
+
+-- at the loop's head: where the first two points are written, and the start
+abbrev first : tie.At-loop Inv-loop μ-loop → tie.After-put-first Inv-loop μ-loop
+first c = c .before .before .before
+
 abbrev start : tie.At-loop Inv-loop μ-loop → tie.Start Inv-loop μ-loop
-start c = c .before .before .before
+start c = first c .before .before .before .before
 
 put-point-requires : tie.Need-put-point-requires Inv-loop μ-loop
 put-point-requires c κs =
     let head = c .before .before in
     let p = start head .pre in
     let l = head .loop .inv in
-    (record { valid = p .0; many = p .1; here = c .before .loop-test .taken }, l .1, l .2)
+    (l .0, record { valid = p .0; many = p .1; here = c .before .loop-test .taken }, l .2, l .3)
 
 add-i : tie.Need-add-i Inv-loop μ-loop
 add-i c = omega arith
@@ -52,7 +58,7 @@ loop-again c =
     let head = put .before .before .before in
     let l = head .loop in
     let e = put .put-point .ensures in
-    (put .put-point .kept .1 .1 .0 ∙ l .inv .0, e .0, e .1, e .2 (start head .args .out .now) (l .inv .3))
+    (omega arith, put .put-point .kept .1 .1 .0 ∙ l .inv .1, e .0, e .1, λ o t. e .2 o (l .inv .4 o t))
 
 -- all points are passed
 done : (c : tie.After-loop Inv-loop μ-loop) → let head = c .before in let ts = start head .args .positions .now in
@@ -60,14 +66,14 @@ done : (c : tie.After-loop Inv-loop μ-loop) → let head = c .before in let ts 
 done c =
     let head = c .before in
     let all = take-all (head .loop .i) (start head .args .positions .now) (c .loop-test .left) in
-    (rw all at (head .loop .inv .2), rw all at (head .loop .inv .3))
+    (rw all at (head .loop .inv .3), rw all at (head .loop .inv .4 (start head .args .out .now) (first head .put-first .ensures .2)))
 
 put-last-requires : tie.Need-put-last-requires Inv-loop μ-loop
 put-last-requires c κs =
     let end = c .before in
     let s = start (end .before) in
     let ts = s .args .positions .now in
-    (omega (arith, done end .0 .size, bits-most 1 69 rows rows-lengths ts (s .pre .0), s .pre .1), end .before .loop .inv .1)
+    (omega (arith, done end .0 .size, bits-most 1 69 rows rows-lengths ts (s .pre .0), s .pre .1), end .before .loop .inv .2)
 
 same-length : tie.Need-same-length Inv-loop μ-loop
 same-length c = search needs
@@ -81,7 +87,7 @@ returns c =
     let s = start head in
     let o = s .args .out .now in
     let ts = s .args .positions .now in
-    put .put-last .ensures o (positionBits rows ts) (below-of 256 o (λ i. head .before .slice-known .given i .fits)) (positions-below rows rows-good ts (s .pre .0)) (done end .0) (done end .1)
+    put .put-last .ensures o (positionBits rows ts) (below-of 256 o (λ i. first head .before .before .slice-known .given i .fits)) (positions-below rows rows-good ts (s .pre .0)) (done end .0) (done end .1)
 
 pub put-positions-spec : {M : Type 1} → statement M
 put-positions-spec =
@@ -89,6 +95,7 @@ put-positions-spec =
     (tie.spec
     Inv-loop
     μ-loop
+    put-first-requires
     loop-holds
     put-point-requires
     add-i

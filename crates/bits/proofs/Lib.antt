@@ -4,3 +4,5 @@ pub mod Write
 pub mod Read
 pub mod Word
 pub mod Field
+pub mod Ahead
+pub mod Sinks

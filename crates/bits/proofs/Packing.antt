@@ -1,7 +1,7 @@
--- Laws of bits packed to bytes: lengths, bounds, and that packing and the bits of bytes undo each other.
+-- Laws of bits packed to bytes: lengths, bounds, parts, and that packing and the bits of bytes undo each other.
 use mathlib.Core.Path.{_≡_, refl, sym, ap, ap₂, _∙_}
 use mathlib.Core.List.{List, [], _∷_, _++_, append-assoc, append-nil}
-use Prim.Native.Nat.{ℕ, zero, suc, _+_, _*_, _/_, _^_, _<_}
+use Prim.Native.Nat.{ℕ, zero, suc, _+_, _-_, _*_, _/_, _^_, _≤_}
 use native.Mathlib.Nat.{add-comm, mul-suc, mod-eq-of-lt}
 use native.Mathlib.Omega.{arith}
 use lib.ListN.{length, take, drop, replicate, length-append, length-drop, length-replicate, take-append-drop}
@@ -109,3 +109,39 @@ pub pack-bits : (xs : List ℕ) → Below 256 xs → pack (bits xs) ≡ xs
 pack-bits xs h =
     let f : fillOf (length (bits xs)) ≡ 0 = omega (arith, length-bits xs) in
     pack-is (bits xs) xs h (rw (f, append-nil))
+
+-- bytes are known by their bits
+pub bits-same : (xs ys : List ℕ) → Below 256 xs → Below 256 ys → bits xs ≡ bits ys → xs ≡ ys
+bits-same xs ys h g e = sym (pack-bits xs h) ∙ ap pack e ∙ pack-bits ys g
+
+-- the bits of a part of a list of bytes
+
+module _ (xs : List ℕ) (k : ℕ) (k≤ : k ≤ length xs) where
+  split : bits xs ≡ bits (take k xs) ++ bits (drop k xs)
+  split = ap bits (sym (take-append-drop k xs)) ∙ bits-append (take k xs) (drop k xs)
+
+  len : length (bits (take k xs)) ≡ 8 * k
+  len = length-bits (take k xs) ∙ ap (λ (m : ℕ). 8 * m) (length-take-le k xs k≤)
+
+  pub bits-take : bits (take k xs) ≡ take (8 * k) (bits xs)
+  bits-take = sym (ap (take (8 * k)) split ∙ take-at (bits (take k xs)) (bits (drop k xs)) (8 * k) len)
+
+  pub bits-drop : bits (drop k xs) ≡ drop (8 * k) (bits xs)
+  bits-drop = sym (ap (drop (8 * k)) split ∙ drop-at (bits (take k xs)) (bits (drop k xs)) (8 * k) len)
+
+-- the number x of eight bytes from k on
+pub bits-eight : (xs : List ℕ) (k x : ℕ) → Below 256 xs → k + 8 ≤ length xs → x ≡ numberOf 256 (take 8 (drop k xs)) → take 64 (drop (8 * k) (bits xs)) ≡ bitsOf 64 x
+bits-eight xs k x bytes room ex =
+    let l = drop k xs in
+    let n : length (take 8 l) ≡ 8 = length-take-le 8 l (omega (arith, length-drop k xs)) in
+    ap (take 64) (sym (bits-drop xs k (omega arith))) ∙ sym (bits-take l 8 (omega (arith, length-drop k xs)))
+    ∙ ap bits (sym (rw n at (digits-number 256 (take 8 l) (below-take 256 8 l (below-drop 256 k xs bytes)))) ∙ ap (bytesOf 8) (sym ex))
+    ∙ bits-bytes 8 x
+
+-- the bits from the offset `at` on
+module _ (xs : List ℕ) (at : ℕ) where
+  pub length-left : length (drop at (bits xs)) ≡ 8 * length xs - at
+  length-left = omega (arith, length-drop at (bits xs), length-bits xs)
+
+  pub below-left : Below 2 (drop at (bits xs))
+  below-left = below-drop 2 at (bits xs) (below-bits xs)

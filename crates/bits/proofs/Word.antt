@@ -1,10 +1,13 @@
 -- Numbers put together in a word of 64 bits by shifts, as the code computes them: nothing is shifted out.
-use mathlib.Core.Path.{_≡_, _∙_}
+use mathlib.Core.List.{_++_}
+use mathlib.Core.Path.{_≡_, ap, _∙_}
 use Prim.Native.Nat.{ℕ, _+_, _*_, _%_, _^_, _≤_, _<_}
 use native.Mathlib.Nat.{one-mul, lt-of-lt-of-le}
 use native.Mathlib.Omega.{arith}
 use lib.Arith.{digits-lt}
 use lib.Pow.{pow-pos, pow-add, pow-mono, shl-exact}
+use Rattle.bits.specs.Digits.{bitsOf}
+use Rattle.bits.proofs.Digits.{two⁺, digits-join}
 
 -- a mask's modulus
 pub mask : (k : ℕ) → k < 64 → 1 * 2 ^ k % 2 ^ 64 ≡ 2 ^ k
@@ -21,5 +24,12 @@ module _ (j k : ℕ) {h l : ℕ} (h< : h < 2 ^ j) (l< : l < 2 ^ k) (fits : j + k
   pub shl-is : h * 2 ^ k % 2 ^ 64 ≡ h * 2 ^ k
   shl-is = shl-exact j k 64 h< fits
 
-  pub join-fits : h * 2 ^ k % 2 ^ 64 + l < 2 ^ 64
-  join-fits = rw shl-is (lt-of-lt-of-le join-lt (pow-mono fits))
+  -- as the code has it
+  pub two-lt : h * 2 ^ k % 2 ^ 64 + l < 2 ^ (j + k)
+  two-lt = rw shl-is join-lt
+
+  pub two-fits : h * 2 ^ k % 2 ^ 64 + l < 2 ^ 64
+  two-fits = lt-of-lt-of-le two-lt (pow-mono fits)
+
+  pub two-bits : bitsOf (j + k) (h * 2 ^ k % 2 ^ 64 + l) ≡ bitsOf j h ++ bitsOf k l
+  two-bits = ap (λ (w : ℕ). bitsOf (j + k) (w + l)) shl-is ∙ digits-join two⁺ j k h l<

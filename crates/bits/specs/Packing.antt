@@ -3,6 +3,7 @@
 --   eights n ds  n bytes of eight bits each, taken from ds
 --   fillOf n     how many 0 bits fill the last byte after n bits
 --   pack ds      the bytes that the bits ds are laid in
+--   ahead n ds   the first n of the bits ds, with 0 bits past their end
 use mathlib.Core.List.{List, [], _∷_, _++_}
 use Prim.Native.Nat.{ℕ, zero, suc, _+_, _-_, _/_, _%_}
 use lib.ListN.{length, take, drop, replicate}
@@ -25,3 +26,7 @@ fillOf n = (8 - n % 8) % 8
 -- bits to bytes, the last byte filled
 unfoldable pub pack : List ℕ → List ℕ
 pack ds = eights ((length ds + 7) / 8) (ds ++ replicate (fillOf (length ds)) 0)
+
+-- bits to look at, however few there are
+abbrev pub ahead : ℕ → List ℕ → List ℕ
+ahead n ds = take n ds ++ replicate (n - length ds) 0

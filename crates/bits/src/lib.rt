@@ -2,10 +2,18 @@
 // The definitions stand in specs/, their laws in proofs/. Internal: callers meet each `requires`.
 ghost use mathlib.Core.Path.{_≡_};
 ghost use Prim.Native.Nat.{_+_, _*_, _^_, _≤_, _<_};
-ghost use lib.ListN.{length, take, drop, replicate};
+ghost use lib.ListN.{length, take, drop};
 ghost use Rattle.bits.specs.Digits.{bytesOf, numberOf};
-ghost use Rattle.bits.specs.Packing.{bits};
 ghost use Rattle.outputs.specs.Outputs.{overAt};
+
+mod fields; // fields of bits
+
+pub use fields::Sink;
+pub use fields::get_ahead;
+pub use fields::get_bits;
+pub use fields::lay;
+pub use fields::lay_both;
+pub use fields::put_last;
 
 // A byte as a wider number.
 fn wide(x: u8) -> u64
@@ -51,17 +59,4 @@ pub fn get_first(s: &[u8], at: usize, n: usize) -> u64
         return 0;
     }
     get_bytes(s, at, 8) >> (8 * (8 - n))
-}
-
-// The number of the k bits from the bit offset `at` on.
-pub fn get_bits(s: &[u8], at: usize, k: usize) -> u64
-    requires { ⌜ (k ≤ 57) × (at + k ≤ 8 * length (now s)) ⌝ }
-    ensures { λ r. ⌜ (r ≡ numberOf 2 (take k (drop at (bits (now (s .entry)))))) × (r < 2 ^ k) ⌝ }
-{
-    let b = at / 8;
-    let r = at % 8;
-    let e = (r + k + 7) / 8;
-    let pad = 8 * e - (r + k);
-    let x = get_bytes(s, b, e);
-    (x >> pad) % (1 << k)
 }

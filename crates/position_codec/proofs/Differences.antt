@@ -1,46 +1,12 @@
 -- Sums and differences of integers as the machine holds them: by their absolute values they fit, so they are read back as they are.
-use mathlib.Core.Path.{_≡_, refl, ap₂, _∙_}
-use mathlib.Core.Bool.{Bool, true, false, cond}
-use Prim.Native.Nat.{ℕ, zero, suc, _+_, _-_, _≤_, _<_, _^_}
+use mathlib.Core.Path.{_≡_, ap₂, _∙_}
+use Prim.Native.Nat.{ℕ, _-_, _≤_, _<_, _^_}
 use native.Mathlib.Omega.{arith}
-use borrow.Author.Tests.{ltb-true}
-use lib.Dec.{ltb}
-use lib.IntN.{ℤ, pos, negsuc, negℤ, natAbs, subℕ, _+ℤ_, _-ℤ_}
-use lib.Signed.{mag}
+use lib.IntN.{ℤ, pos, negℤ, natAbs, _-ℤ_}
 use mir.Syntax.{w64}
 use mir.Val.{toZ, ofZ, SFits}
 use mir.ValLaws.{toZ-ofZ, toZ-pos}
-
--- ---- absolute values
-
-mag-abs : (z : ℤ) → mag z ≤ natAbs z
-mag-abs (pos n) = omega arith
-mag-abs (negsuc n) = omega arith
-
-abs-neg : (z : ℤ) → natAbs (negℤ z) ≡ natAbs z
-abs-neg (pos zero) = refl
-abs-neg (pos (suc n)) = refl
-abs-neg (negsuc n) = refl
-
-abs-test : (a b n : ℕ) → a ≤ n → b ≤ n → (t : Bool) → ltb a b ≡ t → natAbs (cond t (negsuc (b - suc a)) (pos (a - b))) ≤ n
-abs-test a b n ha hb true e = omega (arith, ltb-true)
-abs-test a b n ha hb false e = omega arith
-
-abs-sub : (a b n : ℕ) → a ≤ n → b ≤ n → natAbs (subℕ a b) ≤ n
-abs-sub a b n ha hb = abs-test a b n ha hb (ltb a b) refl
-
--- a difference of two numbers is at most the larger
-abs-diff : (a b n : ℕ) → a ≤ n → b ≤ n → natAbs (pos a -ℤ pos b) ≤ n
-abs-diff a zero n ha hb = omega arith
-abs-diff a (suc b) n ha hb = abs-sub a (suc b) n ha hb
-
-pub abs-add : (x y : ℤ) → natAbs (x +ℤ y) ≤ natAbs x + natAbs y
-abs-add (pos a) (pos b) = omega arith
-abs-add (pos a) (negsuc b) = abs-sub a (suc b) (a + suc b) (omega arith) (omega arith)
-abs-add (negsuc a) (pos b) = abs-sub b (suc a) (suc a + b) (omega arith) (omega arith)
-abs-add (negsuc a) (negsuc b) = omega arith
-
--- ---- what fits
+use Rattle.integers.proofs.Integers.{mag-abs, abs-neg, abs-diff, abs-add}
 
 pub abs-fits : (z : ℤ) → natAbs z < 2 ^ 63 → SFits w64 z
 abs-fits z h = record { sfits = omega (arith, mag-abs z) }

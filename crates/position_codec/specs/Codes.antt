@@ -1,37 +1,28 @@
 -- What the internal functions say of codes and of points (document 01, "Positions").
---   Coded n w z         the n bits that w has are the code of the step z
---   nextBits i a b t    the bits of a position t at point i, after the positions a and b
---   pointBits ts i      the bits of point i of the positions ts
---   Point ts i          ts are valid positions, not too many, and i is the index of one
-use mathlib.Core.Bool.{true, cond}
-use mathlib.Core.List.{List}
+--   Coded rs z c    c is the code of the step z by the table rs
+--   Point rs ts i   ts are valid positions, not too many, and i is the index of one
+use mathlib.Core.Bool.{true}
+use mathlib.Core.List.{List, _++_}
 use mathlib.Core.Path.{_≡_}
-use Prim.Native.Nat.{ℕ, _-_, _^_, _≤_, _<_}
-use lib.Dec.{ltb}
+use Prim.Native.Nat.{ℕ, _^_, _≤_, _<_}
 use lib.IntN.{ℤ}
-use lib.ListN.{length, getD}
+use lib.ListN.{length}
 use Rattle.bits.specs.Digits.{bitsOf}
-use Rattle.position_format.specs.Rows.{rows, code}
-use Rattle.position_format.specs.Steps.{stepOf}
+use Rattle.position_format.specs.Rows.{Row, code}
 use Rattle.position_format.specs.Positions.{validPositions}
+use Rattle.position_codec.specs.declared.table.Code.{Code}
 
--- a code as one word: 1 to 36 bits
-pub record Coded (n w : ℕ) (z : ℤ) : Type 0 where
-  pub some : 0 < n
-  pub few : n ≤ 36
-  pub fits : w < 2 ^ n
-  pub bits : bitsOf n w ≡ code rows z
-
--- the first two points take 64 bits each, every other the code of its step
-abbrev pub nextBits : ℕ → ℕ → ℕ → ℕ → List ℕ
-nextBits i a b t = cond (ltb i 2) (bitsOf 64 t) (code rows (stepOf a b t))
-
--- after the two points before it
-abbrev pub pointBits : List ℕ → ℕ → List ℕ
-pointBits ts i = nextBits i (getD ts (i - 2) 0) (getD ts (i - 1) 0) (getD ts i 0)
+-- a prefix and the bits after it, as two numbers
+pub record Coded (rs : List Row) (z : ℤ) (c : Code) : Type 0 where
+  pub some : 0 < c .size
+  pub short : c .size ≤ 64
+  pub prefix : c .prefix < 2 ^ c .size
+  pub narrow : c .width ≤ 64
+  pub rest : c .rest < 2 ^ c .width
+  pub bits : bitsOf (c .size) (c .prefix) ++ bitsOf (c .width) (c .rest) ≡ code rs z
 
 -- a point of a run that can be coded
-pub record Point (ts : List ℕ) (i : ℕ) : Type 0 where
-  pub valid : validPositions rows ts ≡ true
+pub record Point (rs : List Row) (ts : List ℕ) (i : ℕ) : Type 0 where
+  pub valid : validPositions rs ts ≡ true
   pub many : length ts ≤ 4096
   pub here : i < length ts

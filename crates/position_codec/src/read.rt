@@ -1,34 +1,24 @@
 // Positions read: point by point, each in the one form that it is written in, and then the fill.
+ghost use mathlib.Core.List.{List};
 ghost use mathlib.Core.Path.{_≡_};
-ghost use mathlib.Core.List.{_++_};
-ghost use Prim.Native.Nat.{ℕ, _+_, _-_, _*_, _^_, _≤_, _<_};
-ghost use lib.IntN.{natAbs};
-ghost use lib.ListN.{length, getD, drop, replicate};
+ghost use Prim.Native.Nat.{ℕ, _*_, _^_, _≤_, _<_};
+ghost use lib.ListN.{length, getD, take, drop, replicate};
 ghost use Rattle.lists.specs.Compare.{same};
-ghost use Rattle.bits.specs.Digits.{bitsOf};
+ghost use Rattle.bits.specs.Digits.{numberOf};
 ghost use Rattle.bits.specs.Packing.{bits, fillOf};
 ghost use Rattle.outputs.specs.Outputs.{Filled};
-ghost use Rattle.position_format.specs.Rows.{rows, holds, reading};
+ghost use Rattle.position_format.specs.Rows.{Row, rows, noRow, codeLength};
 ghost use Rattle.position_format.specs.Positions.{readPositions};
-ghost use Rattle.position_format.specs.Rows.{noRow};
-ghost use Rattle.position_codec.specs.Found.{Within, StepFound, PositionFound, PointFound};
-use crate::table::WIDTHS;
+ghost use Rattle.position_codec.specs.Found.{Within, Ahead, StepFound, PositionFound, PointFound};
+use crate::table::GotStep;
+use crate::table::lead_of;
+use crate::table::step_by;
+use crate::table::width_of;
 use crate::table::within;
 use limits::MAX_POSITION;
 
 // The most bytes that the coding of 4,096 positions has.
 const MAX_BYTES: usize = 18439;
-
-// Tables as one word, as in `table`: by the three bits after a first bit 1 a code's row, and how many bits it has.
-const ROWS_BY: u64 = 0x0403020201010101;
-
-const LENS_BY: u64 = 0x24100c0c09090909;
-
-// The step whose code stands at the front of bits, and how many bits that has.
-pub enum GotStep {
-    Step(i64, usize),
-    Nothing,
-}
 
 // The position at which a step leads.
 pub enum GotPosition {
@@ -42,119 +32,66 @@ pub enum GotPoint {
     Nothing,
 }
 
-// The bits from the bit offset `at` on, which lies in the last eight bytes, at the top of a word, with 0 bits past the end.
-fn peek(body: &[u8], at: usize) -> u64
-    requires { ⌜ (8 ≤ length (now body)) × (length (now body) ≤ 18439) × (8 * length (now body) ≤ at + 64) × (at < 8 * length (now body)) ⌝ }
-    ensures { λ r. ⌜ bitsOf 64 r ≡ drop at (bits (now (body .entry))) ++ replicate (at + 64 - 8 * length (now (body .entry))) 0 ⌝ }
+// The number of the bits after the prefix of a code of n bits by the row, which stands at the bit offset `at`: they stand in the word of
+// the bits ahead, unless the code is longer than it is sure to hold.
+fn field_ahead(body: &[u8], at: usize, w: u64, row: usize, n: usize) -> u64
+    requires { ⌜ Within (now body) at × Ahead (now body) at w × (row < 5) × (n ≡ codeLength (getD rows row noRow)) × (n ≤ length (drop at (bits (now body)))) ⌝ }
+    ensures { λ r. ⌜ (r ≡ numberOf 2 (take (getD rows row noRow .width) (drop (length (getD rows row noRow .prefix)) (drop at (bits (now (body .entry)))))))
+        × (r < 2 ^ getD rows row noRow .width) ⌝ }
 {
-    let last = body.len() - 8;
-    bits::get_bytes(body, last, 8) << (at - 8 * last)
-}
-
-// How many steps a row holds: 2^width.
-fn size_of(row: usize) -> u64
-    requires { ⌜ row < 5 ⌝ }
-    ensures { λ r. ⌜ (r ≡ 2 ^ getD rows row noRow .width) × (0 < r) × (r ≤ 2 ^ 32) ⌝ }
-{
-    1 << ((WIDTHS >> (8 * row)) % 256)
-}
-
-// The one number in a row's range that is x modulo 2^width: counted from the lowest, and not by a test of x, which is hard to foretell.
-fn reading_in(row: usize, x: u64) -> i64
-    requires { ⌜ (row < 5) × (x < 2 ^ getD rows row noRow .width) ⌝ }
-    ensures { λ r. ⌜ r ≡ reading (getD rows row noRow) x ⌝ }
-{
-    let size = size_of(row);
-    let below = (size - 1) / 2;
-    let y = (x + below) % size;
-    y as i64 - below as i64
-}
-
-// Whether the row before this one holds that number too.
-fn early(row: usize, x: u64) -> bool
-    requires { ⌜ (0 < row) × (row < 5) × (x < 2 ^ getD rows row noRow .width) ⌝ }
-    ensures { λ r. ⌜ r ≡ holds (getD rows (row - 1) noRow) (reading (getD rows row noRow) x) ⌝ }
-{
-    let size = size_of(row);
-    let before = size_of(row - 1);
-    (x + (before - 1) / 2) % size < before
-}
-
-// The step of more than one bit whose code stands at the top of w: by the row of its first bits, if the row before that one does not
-// hold it, and so no earlier one.
-fn long_ahead(w: u64) -> GotStep
-    requires { ⌜ 2 ^ 63 ≤ w ⌝ }
-    ensures { λ r. ⌜ StepFound (bitsOf 64 w) r ⌝ }
-{
-    let top = (w >> 60) - 8;
-    let row = ((ROWS_BY >> (8 * top)) % 256) as usize;
-    let n = ((LENS_BY >> (8 * top)) % 256) as usize;
-    let x = (w >> (64 - n)) % size_of(row);
-    if early(row, x) {
-        return GotStep::Nothing;
+    let width = width_of(row);
+    if n <= 57 {
+        return (w >> (64 - n)) % (1 << width);
     }
-    let z = reading_in(row, x);
-    GotStep::Step(z, n)
+    bits::get_bits(body, at + (n - width), width)
 }
 
-// The step whose code stands at the top of w: one bit, 0, for the step 0.
-fn step_ahead(w: u64) -> GotStep
-    ensures { λ r. ⌜ StepFound (bitsOf 64 w) r ⌝ }
+// The step whose code stands at the bit offset `at`, by the word w of the bits ahead: one bit, 0, for the step 0, or by the row of its first
+// four bits, if there are as many bits as its codes have.
+fn step_ahead(body: &[u8], at: usize, w: u64) -> GotStep
+    requires { ⌜ Within (now body) at × Ahead (now body) at w × (at < 8 * length (now body)) ⌝ }
+    ensures { λ r. ⌜ StepFound rows (drop at (bits (now (body .entry)))) r ⌝ }
 {
     if w < 9223372036854775808 {
         return GotStep::Step(0, 1);
     }
-    long_ahead(w)
-}
-
-// The step whose code stands at the bit offset `at`, which lies in the last eight bytes: there may be fewer bits than the code has.
-fn last_step(body: &[u8], at: usize) -> GotStep
-    requires { ⌜ Within (now body) at × (8 ≤ length (now body)) × (8 * length (now body) ≤ at + 64) ⌝ }
-    ensures { λ r. ⌜ StepFound (drop at (bits (now (body .entry)))) r ⌝ }
-{
-    let left = 8 * body.len() - at;
-    if left == 0 {
+    let l = lead_of(w >> 60);
+    let row = l.row;
+    let n = l.len;
+    if 8 * body.len() - at < n {
         return GotStep::Nothing;
     }
-    let got = step_ahead(peek(body, at));
-    let GotStep::Step(_, n) = got else {
-        return GotStep::Nothing;
-    };
-    if left < n {
-        return GotStep::Nothing;
-    }
-    got
+    step_by(row, n, field_ahead(body, at, w, row, n))
 }
 
-// The step whose code stands at the bit offset `at`. Eight bytes from the offset's own on hold at least 57 bits from it on, and a code
-// has at most 36: where so many bytes stand there, nothing else is tested.
+// The step whose code stands at the bit offset `at`.
 fn get_step(body: &[u8], at: usize) -> GotStep
     requires { ⌜ Within (now body) at × (128 ≤ at) ⌝ }
-    ensures { λ r. ⌜ StepFound (drop at (bits (now (body .entry)))) r ⌝ }
+    ensures { λ r. ⌜ StepFound rows (drop at (bits (now (body .entry)))) r ⌝ }
 {
-    let b = at / 8;
-    if b + 8 <= body.len() {
-        return step_ahead(bits::get_bytes(body, b, 8) << (at % 8));
+    if at == 8 * body.len() {
+        return GotStep::Nothing;
     }
-    last_step(body, at)
+    step_ahead(body, at, bits::get_ahead(body, at))
 }
 
-// The position after a and b whose step is z. What z adds to b is compared with the room on either side, since the sum can leave 64 bits.
+// The position after a and b whose step is z, any i64. Where z is 0 the position fits an i64, and z is compared with the room on either
+// side of that one, since the sum can leave 64 bits.
 fn next_position(a: u64, b: u64, z: i64) -> GotPosition
-    requires { ⌜ (a < 2 ^ 62) × (b < 2 ^ 62) × (natAbs z ≤ 2 ^ 32) ⌝ }
+    requires { ⌜ (a < 2 ^ 62) × (b < 2 ^ 62) ⌝ }
     ensures { λ r. ⌜ PositionFound a b z r ⌝ }
 {
-    let d = (b as i64 - a as i64) + z;
-    if !within(d, -(b as i64), (MAX_POSITION - b) as i64) {
+    let c = b as i64 + (b as i64 - a as i64);
+    if !within(z, -c, MAX_POSITION as i64 - c) {
         return GotPosition::Nothing;
     }
-    GotPosition::At((b as i64 + d) as u64)
+    GotPosition::At((c + z) as u64)
 }
 
-// The position of 64 bits at point i, one of the first two.
+// The position of 64 bits at point i, one of the first two: no table has a part in it.
 fn get_raw(body: &[u8], i: usize) -> GotPoint
     requires { ⌜ Within (now body) (64 * i) × (i < 2) ⌝ }
-    ensures { λ r. ⌜ ((a b : ℕ) → PointFound i a b (drop (64 * i) (bits (now (body .entry)))) r) ⌝ }
+    ensures { λ r. ⌜ ((rs : List Row) (a b : ℕ) → PointFound rs i a b (drop (64 * i) (bits (now (body .entry)))) r) ⌝ }
 {
     let at = 8 * i;
     if body.len() < at + 8 {
@@ -170,7 +107,7 @@ fn get_raw(body: &[u8], i: usize) -> GotPoint
 // The position of point i, which stands at the bit offset `at`, after the positions a and b.
 fn get_point(body: &[u8], at: usize, i: usize, a: u64, b: u64) -> GotPoint
     requires { ⌜ Within (now body) at × (i < 2 → at ≡ 64 * i) × (2 ≤ i → 128 ≤ at) × (a < 2 ^ 62) × (b < 2 ^ 62) ⌝ }
-    ensures { λ r. ⌜ PointFound i a b (drop at (bits (now (body .entry)))) r ⌝ }
+    ensures { λ r. ⌜ PointFound rows i a b (drop at (bits (now (body .entry)))) r ⌝ }
 {
     if i < 2 {
         return get_raw(body, i);

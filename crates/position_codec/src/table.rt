@@ -1,15 +1,15 @@
-// The table of steps: the step at a point, the first row that holds it, and its code as one word.
+// The table of steps: its data, the first row that holds a step, a step's code, and the step that a code's bits stand for. A code may have
+// 64 bits after its prefix; only the reading of a row's bits, at the end, goes by what the rows' widths and ranges have in common.
 ghost use mathlib.Core.Bool.{true};
 ghost use mathlib.Core.Path.{_≡_};
-ghost use Prim.Native.Nat.{_^_, _≤_, _<_};
-ghost use lib.IntN.{natAbs};
+ghost use Prim.Native.Nat.{_-_, _^_, _≤_, _<_};
 ghost use lib.ListN.{getD};
 ghost use lib.Signed.{leZ};
 ghost use Rattle.lists.specs.Compare.{both};
-ghost use Rattle.position_format.specs.Rows.{rows, holds, inTable, residue};
-ghost use Rattle.position_format.specs.Steps.{stepOf};
-ghost use Rattle.position_format.specs.Rows.{noRow, rowOf};
+ghost use Rattle.bits.specs.Digits.{bitsOf};
+ghost use Rattle.position_format.specs.Rows.{rows, holds, inTable, residue, reading, noRow, rowOf};
 ghost use Rattle.position_codec.specs.Codes.{Coded};
+ghost use Rattle.position_codec.specs.Found.{Leads, ReadBy};
 
 // How many rows there are, and of each row the lowest and the highest step.
 const ROWS: usize = 5;
@@ -24,20 +24,31 @@ const PREFIXES: u64 = 0x0f0e060200;
 
 const PREFIX_LENS: u64 = 0x0404030201;
 
-pub const WIDTHS: u64 = 0x200c090700;
+const WIDTHS: u64 = 0x200c090700;
 
-// A code: the lower len bits of word.
+// Where a code begins, by the three bits after a first bit 1: its row, and how many bits it has.
+const ROWS_BY: u64 = 0x0403020201010101;
+
+const LENS_BY: u64 = 0x24100c0c09090909;
+
+// A code: the `size` bits of the prefix, and then the `width` bits of `rest`.
 pub struct Code {
-    pub len: usize,
-    pub word: u64,
+    pub size: usize,
+    pub prefix: u64,
+    pub width: usize,
+    pub rest: u64,
 }
 
-// The step at the point t after the points a and b.
-pub(crate) fn step(a: u64, b: u64, t: u64) -> i64
-    requires { ⌜ (a < 2 ^ 62) × (b < 2 ^ 62) × (t < 2 ^ 62) ⌝ }
-    ensures { λ r. ⌜ r ≡ stepOf a b t ⌝ }
-{
-    (t as i64 - b as i64) - (b as i64 - a as i64)
+// Where a code begins: its row, and how many bits it has.
+pub struct Lead {
+    pub row: usize,
+    pub len: usize,
+}
+
+// The step whose code stands at the front of bits, and how many bits that has.
+pub enum GotStep {
+    Step(i64, usize),
+    Nothing,
 }
 
 // Whether z is from low to high.
@@ -59,20 +70,12 @@ fn in_row(row: usize, z: i64) -> bool
 fn row_of(z: i64) -> usize
     ensures { λ r. ⌜ r ≡ rowOf rows z ⌝ }
 {
-    if in_row(0, z) {
-        return 0;
-    }
-    if in_row(1, z) {
-        return 1;
-    }
-    if in_row(2, z) {
-        return 2;
-    }
-    if in_row(3, z) {
-        return 3;
-    }
-    if in_row(4, z) {
-        return 4;
+    let mut row = 0;
+    while row < ROWS {
+        if in_row(row, z) {
+            return row;
+        }
+        row += 1;
     }
     ROWS
 }
@@ -84,33 +87,54 @@ pub(crate) fn in_table(z: i64) -> bool
     row_of(z) < ROWS
 }
 
-// z modulo 2^k, for a k up to 32 and a z from -2^32 to 2^32: 2^32 is added first, which changes none of the lower k bits.
+// How many bits follow the row's prefix.
+pub(crate) fn width_of(row: usize) -> usize
+    requires { ⌜ row < 5 ⌝ }
+    ensures { λ r. ⌜ r ≡ getD rows row noRow .width ⌝ }
+{
+    ((WIDTHS >> (8 * row)) % 256) as usize
+}
+
+// z in two's complement of 64 bits: a cast of a number below zero is refused, so it is turned round -1 first.
+fn twos(z: i64) -> u64
+    ensures { λ r. ⌜ r ≡ residue 64 z ⌝ }
+{
+    if z < 0 {
+        return 18446744073709551615 - (-1 - z) as u64;
+    }
+    z as u64
+}
+
+// z modulo 2^k.
 fn modulo(z: i64, k: usize) -> u64
-    requires { ⌜ (k ≤ 32) × (natAbs z ≤ 2 ^ 32) ⌝ }
+    requires { ⌜ k ≤ 64 ⌝ }
     ensures { λ r. ⌜ r ≡ residue k z ⌝ }
 {
-    ((z + 4294967296) as u64) % (1 << k)
+    let y = twos(z);
+    if k < 64 {
+        return y % (1 << k);
+    }
+    y
 }
 
 // The code of z by the row, which is the first that holds it.
 fn code_in(row: usize, z: i64) -> Code
     requires { ⌜ (inTable rows z ≡ true) × (rowOf rows z ≡ row) ⌝ }
-    ensures { λ r. ⌜ Coded (r .len) (r .word) z ⌝ }
+    ensures { λ r. ⌜ Coded rows z r ⌝ }
 {
-    let k = ((WIDTHS >> (8 * row)) % 256) as usize;
-    let p = ((PREFIX_LENS >> (8 * row)) % 256) as usize;
-    let x = (PREFIXES >> (8 * row)) % 256;
-    let y = modulo(z, k);
+    let width = width_of(row);
     Code {
-        len: p + k,
-        word: (x << k) + y,
+        size: ((PREFIX_LENS >> (8 * row)) % 256) as usize,
+        prefix: (PREFIXES >> (8 * row)) % 256,
+        width,
+        rest: modulo(z, width),
     }
 }
 
 // The code of z, which the table holds. Each row has a call of its own, whose numbers are then known.
 pub(crate) fn code_of(z: i64) -> Code
     requires { ⌜ inTable rows z ≡ true ⌝ }
-    ensures { λ r. ⌜ Coded (r .len) (r .word) z ⌝ }
+    ensures { λ r. ⌜ Coded rows z r ⌝ }
 {
     let row = row_of(z);
     match row {
@@ -120,4 +144,59 @@ pub(crate) fn code_of(z: i64) -> Code
         3 => code_in(3, z),
         _ => code_in(4, z),
     }
+}
+
+// The row of a code of more than one bit by its first four bits.
+pub(crate) fn lead_of(four: u64) -> Lead
+    requires { ⌜ (8 ≤ four) × (four < 16) ⌝ }
+    ensures { λ r. ⌜ Leads rows (bitsOf 4 four) (r .row) (r .len) × (0 < r .row) ⌝ }
+{
+    let top = four - 8;
+    Lead {
+        row: ((ROWS_BY >> (8 * top)) % 256) as usize,
+        len: ((LENS_BY >> (8 * top)) % 256) as usize,
+    }
+}
+
+// How many steps a row holds: 2^width. No row has more than 32 bits.
+fn size_of(row: usize) -> u64
+    requires { ⌜ row < 5 ⌝ }
+    ensures { λ r. ⌜ (r ≡ 2 ^ getD rows row noRow .width) × (0 < r) × (r ≤ 2 ^ 32) ⌝ }
+{
+    1 << width_of(row)
+}
+
+// The one number in a row's range, which is even around 0, that is x modulo 2^width: counted from the lowest, and not by a test of x,
+// which is hard to foretell.
+fn reading_in(row: usize, x: u64) -> i64
+    requires { ⌜ (row < 5) × (x < 2 ^ getD rows row noRow .width) ⌝ }
+    ensures { λ r. ⌜ r ≡ reading (getD rows row noRow) x ⌝ }
+{
+    let size = size_of(row);
+    let below = (size - 1) / 2;
+    let y = (x + below) % size;
+    y as i64 - below as i64
+}
+
+// Whether the row before this one, whose range lies within its range, holds that number too.
+fn early(row: usize, x: u64) -> bool
+    requires { ⌜ (0 < row) × (row < 5) × (x < 2 ^ getD rows row noRow .width) ⌝ }
+    ensures { λ r. ⌜ r ≡ holds (getD rows (row - 1) noRow) (reading (getD rows row noRow) x) ⌝ }
+{
+    let size = size_of(row);
+    let before = size_of(row - 1);
+    (x + (before - 1) / 2) % size < before
+}
+
+// The step that the bits x stand for in a row but the first, whose codes have n bits: if the row before that one does not hold it, and so
+// no earlier one.
+pub(crate) fn step_by(row: usize, n: usize, x: u64) -> GotStep
+    requires { ⌜ (0 < row) × (row < 5) × (x < 2 ^ getD rows row noRow .width) ⌝ }
+    ensures { λ r. ⌜ ReadBy rows row n x r ⌝ }
+{
+    if early(row, x) {
+        return GotStep::Nothing;
+    }
+    let z = reading_in(row, x);
+    GotStep::Step(z, n)
 }

@@ -1,24 +1,28 @@
-// Positions written: the bits of one point after the other, by way of a word that holds those that fill no eight bytes yet, then the fill.
+// Positions written: the bits of one point after the other, and then the fill.
 ghost use mathlib.Core.Bool.{true};
-ghost use mathlib.Core.List.{List, _++_};
+ghost use mathlib.Core.List.{List};
 ghost use mathlib.Core.Path.{_≡_};
 ghost use Prim.Native.Nat.{ℕ, _+_, _^_, _≤_, _<_};
 ghost use lib.ListN.{length, take};
-ghost use Rattle.lists.specs.Below.{Below};
-ghost use Rattle.bits.specs.Digits.{bitsOf};
-ghost use Rattle.bits.specs.Packing.{pack};
+ghost use Rattle.bits.specs.Sinks.{Sound, Held, PlacedBits};
 ghost use Rattle.outputs.specs.Outputs.{Placed};
 ghost use Rattle.limits.specs.Points.{firstHigh};
 ghost use Rattle.position_format.specs.Rows.{rows};
-ghost use Rattle.position_format.specs.Steps.{firstOutside};
+ghost use Rattle.position_format.specs.Steps.{stepOf, firstOutside, stepHere};
 ghost use Rattle.position_format.specs.Positions.{positionBits, codedPositions, validPositions};
-ghost use Rattle.position_format.specs.Steps.{stepHere};
 ghost use Rattle.position_codec.specs.Codes.{Point};
-ghost use Rattle.position_codec.specs.Sinks.{Held, wordPut, Stored};
 use crate::table::code_of;
 use crate::table::in_table;
-use crate::table::step;
+use bits::Sink;
 use outputs::Wrote;
+
+// The step at the point t after the points a and b.
+fn step(a: u64, b: u64, t: u64) -> i64
+    requires { ⌜ (a < 2 ^ 62) × (b < 2 ^ 62) × (t < 2 ^ 62) ⌝ }
+    ensures { λ r. ⌜ r ≡ stepOf a b t ⌝ }
+{
+    (t as i64 - b as i64) - (b as i64 - a as i64)
+}
 
 // The step at point i, from the third on.
 fn step_at(positions: &[u64], i: usize) -> i64
@@ -43,108 +47,41 @@ pub fn first_outside(positions: &[u64]) -> usize
     i
 }
 
-// Bits on their way into an output: whole bytes stand before `at`, and `held` has the `width` bits after them.
-pub struct Sink {
-    pub at: usize,
-    pub held: u64,
-    pub width: usize,
-}
-
-// The eight bytes of x are written at `at`, if there is room for them.
-fn put_word(out: &mut [u8], at: usize, x: u64)
-    requires { ⌜ at ≤ 2 ^ 32 ⌝ }
-    ensures { λ _. ⌜ now (out .exit) ≡ wordPut (now (out .entry)) at x ⌝ }
-{
-    if at + 8 <= out.len() {
-        bits::put_bytes(out, at, 8, x);
-    }
-}
-
-// The n bits of w come after those of s: eight bytes are written when there are so many.
-fn lay(out: &mut [u8], s: Sink, n: usize, w: u64) -> Sink
-    requires { ⌜ (s .at ≤ 2 ^ 32) × (s .width < 64) × (s .held < 2 ^ s .width) × (n ≤ 36) × (w < 2 ^ n) ⌝ }
-    ensures { λ r. ⌜ ((ds : List ℕ) → Held ds (s .at) (s .held) (s .width) →
-        Held (ds ++ bitsOf n w) (r .at) (r .held) (r .width)
-        × ((o : List ℕ) → Stored o (now (out .entry)) ds (s .at) → Stored o (now (out .exit)) (ds ++ bitsOf n w) (r .at))) ⌝ }
-{
-    let at = s.at;
-    let held = s.held;
-    let width = s.width + n;
-    if width < 64 {
-        return Sink {
-            at,
-            held: (held << n) + w,
-            width,
-        };
-    }
-    let more = width - 64;
-    put_word(out, at, (held << (n - more)) + (w >> more));
-    Sink {
-        at: at + 8,
-        held: w % (1 << more),
-        width: more,
-    }
-}
-
-// The bits of the first two points, or of so many as there are.
+// The bits of the first two points, 64 for each, or of so many as there are.
 fn put_first(positions: &[u64], out: &mut [u8]) -> Sink
-    ensures { λ r. ⌜ Held (positionBits rows (take 2 (now (positions .entry)))) (r .at) (r .held) (r .width)
-        × Stored (now (out .entry)) (now (out .exit)) (positionBits rows (take 2 (now (positions .entry)))) (r .at) ⌝ }
+    ensures { λ r. ⌜ Sound r × Held (positionBits rows (take 2 (now (positions .entry)))) r
+        × PlacedBits (positionBits rows (take 2 (now (positions .entry)))) (r .at) (now (out .entry)) (now (out .exit)) ⌝ }
 {
-    let n = positions.len();
-    if n == 0 {
-        return Sink {
-            at: 0,
-            held: 0,
-            width: 0,
-        };
-    }
-    put_word(out, 0, positions[0]);
-    if n == 1 {
-        return Sink {
-            at: 8,
-            held: 0,
-            width: 0,
-        };
-    }
-    put_word(out, 8, positions[1]);
-    Sink {
-        at: 16,
+    let none = Sink {
+        at: 0,
         held: 0,
         width: 0,
+    };
+    let n = positions.len();
+    if n == 0 {
+        return none;
     }
+    let one = bits::lay(out, none, 64, positions[0]);
+    if n == 1 {
+        return one;
+    }
+    bits::lay(out, one, 64, positions[1])
 }
 
-// The bits of point i, from the third on, come after those of the points before it. The step 0 is the usual one, and its code one bit.
+// The bits of point i, from the third on, come after those of the points before it: the code of its step. The step 0 is the usual one, and
+// its code one bit.
 fn put_point(positions: &[u64], i: usize, out: &mut [u8], s: Sink) -> Sink
-    requires { ⌜ (2 ≤ i) × Point (now positions) i × Held (positionBits rows (take i (now positions))) (s .at) (s .held) (s .width) ⌝ }
-    ensures { λ r. ⌜ Held (positionBits rows (take (i + 1) (now (positions .entry)))) (r .at) (r .held) (r .width)
-        × ((o : List ℕ) → Stored o (now (out .entry)) (positionBits rows (take i (now (positions .entry)))) (s .at)
-        → Stored o (now (out .exit)) (positionBits rows (take (i + 1) (now (positions .entry)))) (r .at)) ⌝ }
+    requires { ⌜ (2 ≤ i) × Point rows (now positions) i × Sound s × Held (positionBits rows (take i (now positions))) s ⌝ }
+    ensures { λ r. ⌜ Sound r × Held (positionBits rows (take (i + 1) (now (positions .entry)))) r
+        × ((o : List ℕ) → PlacedBits (positionBits rows (take i (now (positions .entry)))) (s .at) o (now (out .entry))
+        → PlacedBits (positionBits rows (take (i + 1) (now (positions .entry)))) (r .at) o (now (out .exit))) ⌝ }
 {
     let z = step_at(positions, i);
     if z == 0 {
-        return lay(out, s, 1, 0);
+        return bits::lay(out, s, 1, 0);
     }
     let c = code_of(z);
-    let n = c.len;
-    lay(out, s, n, c.word)
-}
-
-// The bits that are held come after those that are written, and 0 bits fill the last byte, if there is room.
-fn put_last(out: &mut [u8], s: Sink) -> Wrote
-    requires { ⌜ (s .at ≤ 2 ^ 32) × (s .width < 64) × (s .held < 2 ^ s .width) ⌝ }
-    ensures { λ r. ⌜ ((o ds : List ℕ) → Below 256 o → Below 2 ds → Held ds (s .at) (s .held) (s .width)
-        → Stored o (now (out .entry)) ds (s .at) → Placed (pack ds) r o (now (out .exit))) ⌝ }
-{
-    let at = s.at;
-    let width = s.width;
-    let n = (width + 7) / 8;
-    if out.len() < at + n {
-        return Wrote::NoRoom;
-    }
-    bits::put_bytes(out, at, n, s.held << (8 * n - width));
-    Wrote::Done(at + n)
+    bits::lay_both(out, s, c.size, c.prefix, c.width, c.rest)
 }
 
 // The coding of the positions is written at the front of the output, whose rest stays, if there is room.
@@ -158,5 +95,5 @@ pub fn put_positions(positions: &[u64], out: &mut [u8]) -> Wrote
         s = put_point(positions, i, out, s);
         i += 1;
     }
-    put_last(out, s)
+    bits::put_last(out, s)
 }

@@ -1,24 +1,49 @@
--- The fill: the bits left after the last position are 0 to the end of the last byte, by the body's length and the number of these bits.
+-- Laws of the fill: whether the bits left after the last position are 0 to the end of the last byte, by how many they are and by their number.
+use mathlib.Core.Bool.{Bool, true, false}
 use mathlib.Core.List.{List}
-use mathlib.Core.Path.{_≡_, sym, ap, ap₂, _∙_}
-use Prim.Native.Nat.{ℕ, _+_, _*_, _/_, _^_, _≤_}
+use mathlib.Core.Path.{_≡_, refl, sym, ap, ap₂, _∙_}
+use Prim.Native.Nat.{ℕ, _-_, _*_, _^_, _≤_, _<_}
 use native.Mathlib.Nat.{zero-mod}
 use native.Mathlib.Omega.{arith}
-use lib.ListN.{length, drop, replicate, length-drop, length-replicate}
+use borrow.Author.Tests.{eqb-true, eqb-false}
+use lib.Dec.{eqb}
+use lib.ListN.{length, take, drop, replicate, length-replicate}
+use lib.Seq.{take-all}
+use Rattle.lists.specs.Compare.{same}
+use Rattle.lists.proofs.Compare.{same-own, same-not}
 use Rattle.bits.specs.Digits.{bitsOf, numberOf}
 use Rattle.bits.specs.Packing.{bits, fillOf}
-use Rattle.lists.proofs.Below.{below-drop}
 use Rattle.bits.proofs.Digits.{two⁺, digits-zero, digits-number, number-digits}
-use Rattle.bits.proofs.Packing.{length-bits, below-bits}
+use Rattle.bits.proofs.Packing.{length-left, below-left}
 
-module _ (body : List ℕ) (p : ℕ) where
-  pub fill-on : length body ≡ (p + 7) / 8 → numberOf 2 (drop p (bits body)) ≡ 0 → drop p (bits body) ≡ replicate (fillOf p) 0
-  fill-on l e =
-      let n : length (drop p (bits body)) ≡ fillOf p = omega (arith, length-drop p (bits body), length-bits body) in
-      sym (digits-number 2 (drop p (bits body)) (below-drop 2 p (bits body) (below-bits body))) ∙ ap₂ bitsOf n e ∙ digits-zero 2 (fillOf p)
+module _ (body : List ℕ) (at : ℕ) (inside : at ≤ 8 * length body) where
+  -- the bits left, and the fill
+  abbrev ds : List ℕ
+  ds = drop at (bits body)
 
-  pub fill-length : p ≤ 8 * length body → drop p (bits body) ≡ replicate (fillOf p) 0 → length body ≡ (p + 7) / 8
-  fill-length h e = omega (arith, ap length e, length-drop p (bits body), length-bits body, length-replicate {A = ℕ} (fillOf p) 0)
+  abbrev zeros : List ℕ
+  zeros = replicate (fillOf at) 0
 
-  pub fill-zero : drop p (bits body) ≡ replicate (fillOf p) 0 → numberOf 2 (drop p (bits body)) ≡ 0
-  fill-zero e = ap (numberOf 2) (e ∙ sym (digits-zero 2 (fillOf p))) ∙ number-digits two⁺ (fillOf p) 0 ∙ zero-mod (2 ^ fillOf p)
+  -- a byte or more is too many
+  pub fill-long : 7 < 8 * length body - at → same ds zeros ≡ false
+  fill-long h = same-not ds zeros (λ e. omega (arith, ap length e, length-left body at, length-replicate {A = ℕ} (fillOf at) 0))
+
+  -- fewer are as many as they should be, and are the fill when their number x is 0
+  module _ (few : 8 * length body - at ≤ 7) (x : ℕ) (ex : x ≡ numberOf 2 (take (8 * length body - at) ds)) where
+    number-left : x ≡ numberOf 2 ds
+    number-left = ex ∙ ap (numberOf 2) (take-all (8 * length body - at) ds (omega (arith, length-left body at)))
+
+    fill-on : x ≡ 0 → ds ≡ zeros
+    fill-on e =
+        let n : length ds ≡ fillOf at = omega (arith, length-left body at) in
+        sym (digits-number 2 ds (below-left body at)) ∙ ap₂ bitsOf n (sym number-left ∙ e) ∙ digits-zero 2 (fillOf at)
+
+    fill-zero : ds ≡ zeros → x ≡ 0
+    fill-zero e = number-left ∙ ap (numberOf 2) (e ∙ sym (digits-zero 2 (fillOf at))) ∙ number-digits two⁺ (fillOf at) 0 ∙ zero-mod (2 ^ fillOf at)
+
+    pub fill-by : eqb x 0 ≡ same ds zeros
+    fill-by = go (eqb x 0) refl
+      where
+        go : (t : Bool) → eqb x 0 ≡ t → t ≡ same ds zeros
+        go true e = sym (ap (λ (l : List ℕ). same l zeros) (fill-on (eqb-true x 0 e)) ∙ same-own zeros)
+        go false e = sym (same-not ds zeros (λ f. eqb-false x 0 e (fill-zero f)))

@@ -1,4 +1,4 @@
--- Integers as differences of numbers, what their order tests say, and that a step added back gives the position.
+-- Integers as differences of numbers, what their order tests say, and that a step added sub-add gives the position.
 use mathlib.Core.Bool.{true}
 use mathlib.Core.Path.{_≡_, refl, sym, ap, _∙_}
 use Prim.Native.Nat.{ℕ, zero, suc, _<_}
@@ -35,16 +35,16 @@ neg-le-neg zero n h = absurd (omega arith)
 neg-le-neg (suc l) n h = le-leb n l (omega arith)
 
 -- y and what x lacks of y
-pub back : (x y : ℤ) → y +ℤ (x -ℤ y) ≡ x
-back x y = +ℤ-comm y (x -ℤ y) ∙ -ℤ-+ℤ-cancel x y
+sub-add : (x y : ℤ) → y +ℤ (x -ℤ y) ≡ x
+sub-add x y = +ℤ-comm y (x -ℤ y) ∙ -ℤ-+ℤ-cancel x y
 
 less : (x y : ℤ) → (x +ℤ y) -ℤ x ≡ y
 less x y = ap (λ (z : ℤ). z -ℤ x) (+ℤ-comm x y) ∙ +ℤ-negℤ-cancel y x
 
--- a step added back gives the position
+-- a step added sub-add gives the position
 pub after-step : (a b t : ℕ) → after a b (stepOf a b t) ≡ t
 after-step a b t =
-    ap (λ (z : ℤ). atLeastZero (pos b +ℤ z)) (back (pos t -ℤ pos b) (pos b -ℤ pos a)) ∙ ap atLeastZero (back (pos t) (pos b))
+    ap (λ (z : ℤ). atLeastZero (pos b +ℤ z)) (sub-add (pos t -ℤ pos b) (pos b -ℤ pos a)) ∙ ap atLeastZero (sub-add (pos t) (pos b))
 
 -- and the step at a position is what it adds
 pub step-of : (a b t : ℕ) (z : ℤ) → pos b +ℤ ((pos b -ℤ pos a) +ℤ z) ≡ pos t → stepOf a b t ≡ z
@@ -55,4 +55,4 @@ step-of a b t z e =
 pub of-step : (a b t : ℕ) (z : ℤ) → stepOf a b t ≡ z → pos b +ℤ ((pos b -ℤ pos a) +ℤ z) ≡ pos t
 of-step a b t z e =
     ap (λ (x : ℤ). pos b +ℤ ((pos b -ℤ pos a) +ℤ x)) (sym e)
-    ∙ ap (λ (x : ℤ). pos b +ℤ x) (back (pos t -ℤ pos b) (pos b -ℤ pos a)) ∙ back (pos t) (pos b)
+    ∙ ap (λ (x : ℤ). pos b +ℤ x) (sub-add (pos t -ℤ pos b) (pos b -ℤ pos a)) ∙ sub-add (pos t) (pos b)

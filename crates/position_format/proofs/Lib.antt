@@ -3,12 +3,13 @@ pub mod Lists
 pub mod Rows
 pub mod Codes
 pub mod Prefixes
-pub mod Steps
+pub mod Decoding
 pub mod Valid
 pub mod Raw
 pub mod Positions
 pub mod Sizes
-pub mod Parts
+pub mod Points
+pub mod Stands
 pub mod Fill
-pub mod Turns
-pub mod Table
+pub mod Reading
+pub mod Ranges

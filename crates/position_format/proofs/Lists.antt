@@ -4,7 +4,7 @@ use mathlib.Core.List.{List, [], _∷_, _++_}
 use mathlib.Core.Path.{_≡_, refl}
 use Prim.Native.Nat.{ℕ, zero, suc, _<_}
 use native.Mathlib.Omega.{arith}
-use lib.ListN.{length, getD, take}
+use lib.ListN.{length, getD}
 use Rattle.lists.specs.Lists.{firstIndex}
 use Rattle.lists.proofs.Lists.{every, every-cons, first-below}
 
@@ -33,15 +33,6 @@ module _ {A : Type 0} (p : A → Bool) where
   pub cons-none : (x : A) (l : List A) → p x ≡ false → firstIndex p l ≡ length l → firstIndex p (x ∷ l) ≡ suc (length l)
   unfolding firstIndex
   cons-none x l e f = rw (e, f)
-
-  -- of the first k elements
-  pub take-none : (k : ℕ) (l : List A) → firstIndex p l ≡ length l → firstIndex p (take k l) ≡ length (take k l)
-  unfolding firstIndex
-  take-none zero l e = refl
-  take-none (suc k) [] e = refl
-  take-none (suc k) (x ∷ l) e =
-      let c = none-cons x l e in
-      cons-none x (take k l) (c .0) (take-none k l (c .1))
 
   -- at each index
   pub none-at : (d : A) (l : List A) → firstIndex p l ≡ length l → (i : ℕ) → i < length l → p (getD l i d) ≡ false

@@ -2,7 +2,7 @@
 use mathlib.Core.Bool.{Bool, true, false, cond}
 use mathlib.Core.List.{List, [], _∷_, _++_, append-assoc}
 use mathlib.Core.Option.{none, some}
-use mathlib.Core.Path.{_≡_, refl, sym, ap, ap₂, _∙_}
+use mathlib.Core.Path.{_≡_, refl, sym, ap, _∙_}
 use Prim.Native.Nat.{ℕ, zero, suc}
 use native.Mathlib.Omega.{arith}
 use borrow.Author.Tests.{not-false}
@@ -24,7 +24,7 @@ use Rattle.position_format.proofs.Integers.{after-step}
 use Rattle.position_format.proofs.Lists.{none-cons}
 use Rattle.position_format.proofs.Rows.{goodTable}
 use Rattle.position_format.proofs.Codes.{code-below}
-use Rattle.position_format.proofs.Steps.{stepAt-code}
+use Rattle.position_format.proofs.Decoding.{stepAt-code}
 use Rattle.position_format.proofs.Raw.{raw-first, raw-rest, raw-both}
 use Rattle.position_format.proofs.Valid.{valid-parts, valid-low}
 
@@ -80,10 +80,6 @@ module _ (rs : List Row) (good : goodTable rs ≡ true) where
   decoded-coded ts e =
       ap (decodedBits rs (length ts)) (bits-pack (positionBits rs ts) (positions-below ts e))
       ∙ bits-decoded ts e (replicate (fillOf (length (positionBits rs ts))) 0)
-
-  -- as many valid positions with the same coding are the same
-  pub coded-same : (ts us : List ℕ) → validPositions rs ts ≡ true → validPositions rs us ≡ true → length ts ≡ length us → codedPositions rs ts ≡ codedPositions rs us → ts ≡ us
-  coded-same ts us v w l e = sym (decoded-coded ts v) ∙ ap₂ (decoded rs) l e ∙ decoded-coded us w
 
   -- the bits of a coding: those of the positions, and the fill
   pub bits-coded : (ts : List ℕ) → validPositions rs ts ≡ true → bits (codedPositions rs ts) ≡ positionBits rs ts ++ replicate (fillOf (length (positionBits rs ts))) 0
@@ -150,3 +146,20 @@ module _ (rs : List Row) where
           let p = both-true (validPositions rs us) _ s in
           absurd (f us (length-decoded rs n body) (p .0) (same-is (codedPositions rs us) body (p .1)))
       go false s = refl
+
+-- ---- codings
+
+-- the body is the coding of the n positions ts
+pub record Coding (rs : List Row) (n : ℕ) (body ts : List ℕ) : Type 0 where
+  pub many : length ts ≡ n
+  pub valid : validPositions rs ts ≡ true
+  pub coded : codedPositions rs ts ≡ body
+
+module _ (rs : List Row) (n : ℕ) (body : List ℕ) where
+  -- a body that is none is refused
+  pub coding-none : ((ts : List ℕ) → Coding rs n body ts → ⊥) → readPositions rs n body ≡ none
+  coding-none f = read-none rs n body (λ ts l v c. f ts (record { many = l; valid = v; coded = c }))
+
+  -- its bits
+  pub coding-bits : goodTable rs ≡ true → (ts : List ℕ) → Coding rs n body ts → bits body ≡ positionBits rs ts ++ replicate (fillOf (length (positionBits rs ts))) 0
+  coding-bits good ts c = ap bits (sym (c .coded)) ∙ bits-coded rs good ts (c .valid)

@@ -1,19 +1,15 @@
--- A beginning of bits: prefixes that are apart, and the test of a beginning by the number of the first bits.
+-- A beginning of bits: prefixes that are apart, and what the bits of a beginning are.
 use mathlib.Core.Bool.{Bool, true, false, not, false≢true}
 use mathlib.Core.List.{List, [], _∷_, _++_}
-use mathlib.Core.Path.{_≡_, refl, sym, ap, ap₂, _∙_}
-use Prim.Native.Nat.{ℕ, _≤_, _<_}
+use mathlib.Core.Path.{_≡_, refl, sym, ap, _∙_}
+use Prim.Native.Nat.{ℕ, _<_}
 use native.Mathlib.Omega.{arith}
 use borrow.Author.Tests.{eqb-true, eq-eqb}
 use lib.Dec.{eqb}
 use lib.ListN.{length, take, drop, length-append, take-append-drop}
-use lib.Seq.{take-at, length-take-le}
-use Rattle.lists.specs.Below.{Below}
+use lib.Seq.{take-at}
 use Rattle.lists.specs.Compare.{both, begins}
-use Rattle.bits.specs.Digits.{bitsOf, numberOf}
-use Rattle.lists.proofs.Below.{below-take}
 use Rattle.lists.proofs.Compare.{begins-own, begins-rest}
-use Rattle.bits.proofs.Digits.{digits-number}
 use Rattle.position_format.proofs.Lists.{not-so}
 use Rattle.position_format.proofs.Rows.{apart}
 
@@ -45,13 +41,3 @@ begins-short p ds h = not-so (begins p ds) go
     go e =
         let t = begins-rest p ds e in
         omega (arith, ap length (t .1), length-append p (t .0))
-
--- bits that are as many begin with it when their number is the same
-module _ (p ds : List ℕ) (below : Below 2 ds) (bits : Below 2 p) (enough : length p ≤ length ds) where
-  pub begins-number : numberOf 2 (take (length p) ds) ≡ numberOf 2 p → begins p ds ≡ true
-  begins-number e =
-      let n : length (take (length p) ds) ≡ length p = length-take-le (length p) ds enough in
-      take-begins p ds (sym (digits-number 2 (take (length p) ds) (below-take 2 (length p) ds below)) ∙ ap₂ bitsOf n e ∙ digits-number 2 p bits)
-
-  pub begins-other : (numberOf 2 (take (length p) ds) ≡ numberOf 2 p → ⊥) → begins p ds ≡ false
-  begins-other f = not-so (begins p ds) (λ e. f (ap (numberOf 2) (begins-take p ds e)))

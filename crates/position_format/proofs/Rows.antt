@@ -82,21 +82,17 @@ module _ (d : Row) where
   good-bits (r ∷ rs) e zero h = bits-below (r .prefix) (good-cons r rs e .bits)
   good-bits (r ∷ rs) e (suc i) h = good-bits rs (good-cons r rs e .rest) i (omega arith)
 
--- a row that holds 2 ^ width numbers, from -l to h
+-- a row that holds 2 ^ width numbers, none of its ends on the other side of 0
 pub record Full (r : Row) : Type 0 where
-  pub l : ℕ
-  pub h : ℕ
-  pub low : r .low ≡ neg l
-  pub high : r .high ≡ pos h
-  pub size : suc (l + h) ≡ 2 ^ r .width
+  pub low : r .low ≡ neg (natAbs (r .low))
+  pub high : r .high ≡ pos (natAbs (r .high))
+  pub size : suc (natAbs (r .low) + natAbs (r .high)) ≡ 2 ^ r .width
 
 pub full-is : (r : Row) → full r ≡ true → Full r
 full-is r e =
     let p = both-true (both (leZ (r .low) (pos 0)) (leZ (pos 0) (r .high))) _ e in
     let q = both-true (leZ (r .low) (pos 0)) _ (p .0) in
     record {
-      l = natAbs (r .low);
-      h = natAbs (r .high);
       low = at-most (r .low) (q .0);
       high = at-least (r .high) (q .1);
       size = eqb-true (suc (natAbs (r .low) + natAbs (r .high))) (2 ^ r .width) (p .1);
@@ -162,25 +158,32 @@ module _ (l h m : ℕ) (size : suc (l + h) ≡ m) where
 -- ---- of a row
 
 module _ (r : Row) (good : full r ≡ true) where
+  abbrev l : ℕ
+  l = natAbs (r .low)
+
+  abbrev h : ℕ
+  h = natAbs (r .high)
+
   f : Full r
   f = full-is r good
 
-  as-read : (x : ℕ) → reading r x ≡ read (f .l) (f .h) (2 ^ r .width) (f .size) x
-  as-read x = ap (λ (z : ℤ). cond (leZ (pos x) z) (pos x) (pos x -ℤ pos (2 ^ r .width))) (f .high)
+  -- by the absolute values of its ends
+  pub reading-ends : (x : ℕ) → reading r x ≡ cond (leZ (pos x) (pos h)) (pos x) (pos x -ℤ pos (2 ^ r .width))
+  reading-ends x = ap (λ (z : ℤ). cond (leZ (pos x) z) (pos x) (pos x -ℤ pos (2 ^ r .width))) (f .high)
 
-  as-held : (z : ℤ) → holds r z ≡ both (leZ (neg (f .l)) z) (leZ z (pos (f .h)))
-  as-held z = ap₂ (λ (u v : ℤ). both (leZ u z) (leZ z v)) (f .low) (f .high)
+  pub holds-ends : (z : ℤ) → holds r z ≡ both (leZ (neg l) z) (leZ z (pos h))
+  holds-ends z = ap₂ (λ (u v : ℤ). both (leZ u z) (leZ z v)) (f .low) (f .high)
 
   -- the reading of a step's bits is the step
   pub reading-residue : (z : ℤ) → holds r z ≡ true → reading r (residue (r .width) z) ≡ z
   reading-residue z e =
-      let p = both-true (leZ (neg (f .l)) z) _ (sym (as-held z) ∙ e) in
-      as-read (residue (r .width) z) ∙ read-back (f .l) (f .h) (2 ^ r .width) (f .size) (r .width) refl z (p .0) (p .1)
+      let p = both-true (leZ (neg l) z) _ (sym (holds-ends z) ∙ e) in
+      reading-ends (residue (r .width) z) ∙ read-back l h (2 ^ r .width) (f .size) (r .width) refl z (p .0) (p .1)
 
   -- the row holds what its bits are read as
   pub reading-held : (x : ℕ) → x < 2 ^ r .width → holds r (reading r x) ≡ true
-  reading-held x x< = ap (holds r) (as-read x) ∙ as-held (read (f .l) (f .h) (2 ^ r .width) (f .size) x) ∙ read-held (f .l) (f .h) (2 ^ r .width) (f .size) x x<
+  reading-held x x< = ap (holds r) (reading-ends x) ∙ holds-ends (read l h (2 ^ r .width) (f .size) x) ∙ read-held l h (2 ^ r .width) (f .size) x x<
 
   -- and the bits are those of what they are read as
   pub residue-reading : (x : ℕ) → x < 2 ^ r .width → residue (r .width) (reading r x) ≡ x
-  residue-reading x x< = ap (residue (r .width)) (as-read x) ∙ read-residue (f .l) (f .h) (2 ^ r .width) (f .size) x x< (r .width) refl
+  residue-reading x x< = ap (residue (r .width)) (reading-ends x) ∙ read-residue l h (2 ^ r .width) (f .size) x x< (r .width) refl

@@ -1,21 +1,20 @@
 -- Steps by index, and what it says of each position and of each step that positions are valid.
 use mathlib.Core.Bool.{true}
 use mathlib.Core.List.{List, [], _∷_}
-use mathlib.Core.Path.{_≡_, refl, sym, ap, _∙_}
+use mathlib.Core.Path.{_≡_, refl, ap}
 use Prim.Native.Nat.{ℕ, zero, suc, _-_, _≤_, _<_}
 use native.Mathlib.Omega.{arith}
 use borrow.Author.Tests.{eqb-true, eq-eqb, ltb-false, le-ltb, not-false}
 use lib.Dec.{eqb}
 use lib.IntN.{ℤ, pos}
-use lib.ListN.{length, getD, take}
-use lib.Seq.{take-nil}
+use lib.ListN.{length, getD}
 use Rattle.lists.proofs.Compare.{both-true}
 use Rattle.lists.specs.Lists.{firstIndex}
 use Rattle.limits.specs.Points.{maxPosition, tooHigh}
 use Rattle.position_format.specs.Rows.{Row, inTable}
 use Rattle.position_format.specs.Steps.{stepOf, stepsFrom, steps, outside}
 use Rattle.position_format.specs.Positions.{validPositions}
-use Rattle.position_format.proofs.Lists.{cons-none, take-none, none-at}
+use Rattle.position_format.proofs.Lists.{cons-none, none-at}
 
 -- ---- steps by index
 
@@ -42,24 +41,6 @@ unfolding steps
 step-at d [] i h = absurd (omega arith)
 step-at d (a ∷ []) i h = absurd (omega arith)
 step-at d (a ∷ b ∷ ts) i h = from-at d a b ts i (omega arith)
-
-pub take-from : (k a b : ℕ) (ts : List ℕ) → stepsFrom a b (take k ts) ≡ take k (stepsFrom a b ts)
-unfolding stepsFrom
-take-from zero a b ts = refl
-take-from (suc k) a b [] = refl
-take-from (suc k) a b (t ∷ ts) = ap (λ (l : List ℤ). stepOf a b t ∷ l) (take-from k b t ts)
-
--- the steps of the first k positions are the first steps
-pub take-steps : (k : ℕ) (ts : List ℕ) → steps (take k ts) ≡ take (k - 2) (steps ts)
-unfolding steps
-take-steps zero ts = refl
-take-steps (suc zero) [] = refl
-take-steps (suc zero) (a ∷ ts) = refl
-take-steps (suc (suc k)) [] = sym (take-nil (suc (suc k) - 2))
-take-steps (suc (suc k)) (a ∷ []) = sym (take-nil (suc (suc k) - 2))
-take-steps (suc (suc k)) (a ∷ b ∷ ts) =
-    let e : suc (suc k) - 2 ≡ k = omega arith in
-    take-from k a b ts ∙ ap (λ (n : ℕ). take n (stepsFrom a b ts)) (sym e)
 
 -- ---- valid positions
 
@@ -97,9 +78,3 @@ module _ (rs : List Row) where
     valid-step i h =
         rw (← step-at (pos 0) ts i h)
         (not-false _ (none-at (outside rs) (pos 0) (steps ts) (valid-parts ts valid .1) i (omega (arith, length-steps ts))))
-
-    -- and the first positions are valid
-    pub valid-take : (k : ℕ) → validPositions rs (take k ts) ≡ true
-    valid-take k =
-        let p = valid-parts ts valid in
-        valid-of (take k ts) (take-none tooHigh k ts (p .0)) (rw (take-steps k ts) (take-none (outside rs) (k - 2) (steps ts) (p .1)))

@@ -6,15 +6,18 @@
 --   inTable rs z    some row holds it
 --   residue k z     z modulo 2 ^ k
 --   codeIn r z      the code of z by the row r: the prefix, then z modulo 2 ^ width
+--   codeLength r    how many bits the codes by the row r have
 --   code rs z       the code of z by the first row that holds it
 --   rowOf rs z      the index of the first row that holds z
 --   reading r x     the one number inside the row's range that is x modulo 2 ^ width, of a row that holds 2 ^ width numbers, 0 among them
 -- The definitions that go by a table take it as an argument, and their laws are proved of every table that passes one computed test: no
--- prefix begins another, and each row holds 2 ^ width numbers, 0 among them (proofs/Rows, goodTable).
+-- prefix begins another, and each row holds 2 ^ width numbers, 0 among them (proofs/Rows, goodTable). The coder asks two more computed tests
+-- of a table: how many bits its codes have (proofs/Codes, lengths), and that its ranges widen from row to row (proofs/Ranges, widening).
 use mathlib.Core.Bool.{Bool, true, false, cond}
 use mathlib.Core.List.{List, [], _∷_, _++_}
-use Prim.Native.Nat.{ℕ, suc, _-_, _%_, _^_}
+use Prim.Native.Nat.{ℕ, suc, _+_, _-_, _%_, _^_}
 use lib.IntN.{ℤ, pos, negsuc, negℤ, _-ℤ_}
+use lib.ListN.{length}
 use lib.Signed.{leZ}
 use Rattle.lists.specs.Compare.{both}
 use Rattle.bits.specs.Digits.{bitsOf}
@@ -62,6 +65,10 @@ residue k (negsuc n) = 2 ^ k - suc (n % 2 ^ k)
 -- the code of z by one row
 abbrev pub codeIn : Row → ℤ → List ℕ
 codeIn r z = r .prefix ++ bitsOf (r .width) (residue (r .width) z)
+
+-- how many bits it has
+abbrev pub codeLength : Row → ℕ
+codeLength r = length (r .prefix) + r .width
 
 -- the code of z by the first row that holds it; no bits where none does, which test 5 shuts out
 unfoldable pub code : List Row → ℤ → List ℕ

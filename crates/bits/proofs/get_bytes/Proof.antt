@@ -44,8 +44,9 @@ loop-less c = omega arith
 
 loop-again : tie.Need-loop-again Inv-loop μ-loop
 loop-again c =
-    let l = c .before .before .before .loop in
-    let a = c .before .before .before .before .before .args in
+    let at-loop = c .before .before .before in
+    let l = at-loop .loop in
+    let a = at-loop .before .before .args in
     let w = c .wide in (
       omega arith,
       read-step (a .s .now) (a .at) (l .i) (l .y) (w .result) (omega arith) (w .ensures .0) (l .inv .1),

@@ -1,5 +1,6 @@
 -- `get_point` meets its contract: by 64 bits, or by the step that stands there and the position that it leads to.
 use mathlib.Core.Bool.{true}
+use mathlib.Core.List.{List}
 use mathlib.Core.Path.{_≡_, sym, _∙_, subst}
 use Prim.Native.Nat.{ℕ, _*_, _≤_}
 use native.Mathlib.Omega.{arith}
@@ -14,14 +15,17 @@ use Rattle.bits.specs.Packing.{bits}
 use Rattle.limits.specs.Points.{maxPosition}
 use Rattle.position_format.specs.Rows.{rows, inTable, code}
 use Rattle.position_format.specs.Steps.{stepOf}
-use Rattle.position_codec.specs.declared.read.GotStep.{GotStep}
+use Rattle.position_format.proofs.Rows.{rows-good}
+use Rattle.position_format.proofs.Stands.{step-none, step-high, step-stands}
+use Rattle.position_codec.specs.declared.table.GotStep.{GotStep}
 use Rattle.position_codec.specs.declared.read.GotPosition.{GotPosition}
 use Rattle.position_codec.specs.Found.{StepFound, PositionFound, PointFound}
-use Rattle.position_codec.proofs.Differences.{abs-fits}
-use Rattle.position_codec.proofs.Tables.{step-abs}
-use Rattle.position_codec.proofs.Stand.{step-none, step-high, step-stands}
 use Rattle.position_codec.proofs.read.get_point.Statement.{statement}
 use Rattle.position_codec.proofs.read.get_point.Tie as tie
+
+-- the bits from the offset on
+abbrev left : tie.Start → List ℕ
+left s = drop (s .args .at) (bits (s .args .body .now))
 
 get-raw-requires : tie.Need-get-raw-requires
 get-raw-requires c κs =
@@ -33,7 +37,7 @@ returns : tie.Need-returns
 returns c =
     let s = c .before .before .before in
     let a = s .args in
-    subst (λ (n : ℕ). PointFound (a .i) (a .a) (a .b) (drop n (bits (a .body .now))) (c .get-raw .result)) (sym (s .pre .1 (c .before .if1 .taken))) (c .get-raw .ensures (a .a) (a .b))
+    subst (λ (n : ℕ). PointFound rows (a .i) (a .a) (a .b) (drop n (bits (a .body .now))) (c .get-raw .result)) (sym (s .pre .1 (c .before .if1 .taken))) (c .get-raw .ensures rows (a .a) (a .b))
 
 get-step-requires : tie.Need-get-step-requires
 get-step-requires c κs = let p = c .before .before .pre in (p .0, p .2 (c .if1 .left))
@@ -46,29 +50,37 @@ enum-told c = search needs
 
 returns-2 : tie.Need-returns-2
 returns-2 c =
-    let a = c .before .before .before .before .before .args in
-    let ds = drop (a .at) (bits (a .body .now)) in
-    step-none (a .i) (a .a) (a .b) (c .before .before .before .if1 .left) ds (subst (λ (r : GotStep). StepFound ds r) (c .enum-told .given .1) (c .before .before .get-step .ensures))
+    let got = c .before .before in
+    let late = got .before in
+    let s = late .before .before in
+    let a = s .args in
+    step-none rows rows-good (a .i) (a .a) (a .b) (late .if1 .left) (left s) (subst (λ (r : GotStep). StepFound rows (left s) r) (c .enum-told .given .1) (got .get-step .ensures))
 
--- the step and what is known of it
+-- where the step is known: the call that found it, the start, the step, and how many bits its code has
+abbrev got : tie.After-known-told → tie.After-get-step
+got c = c .before .before .before
+
+abbrev start : tie.After-known-told → tie.Start
+start c = got c .before .before .before
+
 abbrev step : tie.After-known-told → ℤ
 step c = c .before .z .given .0 .0
 
-found : (c : tie.After-known-told)
-    → (inTable rows (step c) ≡ true)
-    × (begins (code rows (step c)) (drop (c .before .before .before .before .before .before .args .at) (bits (c .before .before .before .before .before .before .args .body .now))) ≡ true)
-    × (c .before .z .given .0 .1 .0 ≡ length (code rows (step c)))
-found c =
-    let a = c .before .before .before .before .before .before .args in
-    subst (λ (r : GotStep). StepFound (drop (a .at) (bits (a .body .now))) r) (c .before .z .given .1) (c .before .before .before .get-step .ensures)
+abbrev size : tie.After-known-told → ℕ
+size c = c .before .z .given .0 .1 .0
 
+found : (c : tie.After-known-told) → (inTable rows (step c) ≡ true) × (begins (code rows (step c)) (left (start c)) ≡ true) × (size c ≡ length (code rows (step c)))
+found c = subst (λ (r : GotStep). StepFound rows (left (start c)) r) (c .before .z .given .1) (got c .get-step .ensures)
+
+-- it is read back from its bits as it is
 back : (c : tie.After-known-told) → toZ w64 (ofZ w64 (step c)) ≡ step c
-back c = toZ-ofZ w64 (step c) (abs-fits (step c) (omega (arith, step-abs (step c) (found c .0))))
+back c = toZ-ofZ w64 (step c) (record { sfits = c .known-told .given .0 .1 })
+
+two : (c : tie.After-known-told) → 2 ≤ start c .args .i
+two c = got c .before .if1 .left
 
 next-position-requires : tie.Need-next-position-requires
-next-position-requires c κs =
-    let p = c .before .before .before .before .before .before .pre in
-    (p .3, p .4, rw (back c) (step-abs (step c) (found c .0)))
+next-position-requires c κs = let p = start c .pre in (p .3, p .4)
 
 enum-known-t : tie.Need-enum-known-t
 enum-known-t c = search needs
@@ -78,21 +90,23 @@ enum-told-2 c = search needs
 
 returns-3 : tie.Need-returns-3
 returns-3 c =
-    let k = c .before .before .before in
-    let a = k .before .before .before .before .before .before .args in
+    let next = c .before .before in
+    let k = next .before in
+    let a = start k .args in
     let f = found k in
-    step-high (a .i) (a .a) (a .b) (k .before .before .before .before .if1 .left) (drop (a .at) (bits (a .body .now))) (step k) (f .0) (f .1)
-    (rw (back k) at (subst (λ (r : GotPosition). PositionFound (a .a) (a .b) (toZ w64 (ofZ w64 (step k))) r) (c .enum-told2 .given .1) (c .before .before .next-position .ensures)))
+    step-high rows rows-good (a .i) (a .a) (a .b) (two k) (left (start k)) (step k) (f .0) (f .1)
+    (rw (back k) at (subst (λ (r : GotPosition). PositionFound (a .a) (a .b) (toZ w64 (ofZ w64 (step k))) r) (c .enum-told2 .given .1) (next .next-position .ensures)))
 
 returns-4 : tie.Need-returns-4
 returns-4 c =
-    let k = c .before .before .before .before in
-    let a = k .before .before .before .before .before .before .args in
+    let next = c .before .before .before in
+    let k = next .before in
+    let a = start k .args in
     let f = found k in
-    let q : (c .before .t .given .0 .0 ≤ maxPosition) × (stepOf (a .a) (a .b) (c .before .t .given .0 .0) ≡ toZ w64 (ofZ w64 (step k))) =
-    subst (λ (r : GotPosition). PositionFound (a .a) (a .b) (toZ w64 (ofZ w64 (step k))) r) (c .before .t .given .1) (c .before .before .before .next-position .ensures) in
-    step-stands (a .i) (a .a) (a .b) (k .before .before .before .before .if1 .left) (drop (a .at) (bits (a .body .now))) (step k) (f .0) (f .1)
-    (c .before .t .given .0 .0) (k .before .z .given .0 .1 .0) (q .0) (q .1 ∙ back k) (f .2)
+    let t = c .before .t .given .0 .0 in
+    let q : (t ≤ maxPosition) × (stepOf (a .a) (a .b) t ≡ toZ w64 (ofZ w64 (step k))) =
+    subst (λ (r : GotPosition). PositionFound (a .a) (a .b) (toZ w64 (ofZ w64 (step k))) r) (c .before .t .given .1) (next .next-position .ensures) in
+    step-stands rows rows-good (a .i) (a .a) (a .b) (two k) (left (start k)) (step k) (f .0) (f .1) t (size k) (q .0) (q .1 ∙ back k) (f .2)
 
 pub get-point-spec : {M : Type 1} → statement M
 get-point-spec =

@@ -8,20 +8,23 @@ use Prim.Native.Nat.{ℕ, _+_, _-_}
 use native.Mathlib.Omega.{arith}
 use borrow.Author.Needs.{needs}
 use lib.ListN.{length, take, drop, set}
-use Rattle.bits.specs.Packing.{bits}
 use Rattle.lists.proofs.Below.{below-of}
+use Rattle.bits.specs.Packing.{bits}
 use Rattle.outputs.specs.Outputs.{Filled}
 use Rattle.position_format.specs.Rows.{rows}
 use Rattle.position_format.specs.Positions.{readPositions}
+use Rattle.position_format.specs.Points.{nextBits, Stands}
+use Rattle.position_format.proofs.Rows.{rows-good}
+use Rattle.position_format.proofs.Sizes.{rows-size}
+use Rattle.position_format.proofs.Reading.{read-long, read-inside}
 use Rattle.position_codec.specs.declared.read.GotPoint.{GotPoint}
-use Rattle.position_codec.specs.Codes.{nextBits}
-use Rattle.position_codec.specs.Found.{Within, Stands, PointFound}
-use Rattle.position_codec.proofs.Reading.{State, read-long, read-inside, state-start, state-raw, state-far, state-none, state-more, state-end}
+use Rattle.position_codec.specs.Found.{Within, PointFound}
+use Rattle.position_codec.proofs.State.{State, state-start, state-raw, state-far, state-none, state-more, state-end}
 use Rattle.position_codec.proofs.read.get_positions.Statement.{statement}
 use Rattle.position_codec.proofs.read.get_positions.Tie as tie
 
 abbrev Inv-loop : tie.InvT-loop
-Inv-loop body count out₀ at₀ a₀ b₀ i₀ out at a b i = State count body out₀ out at a b i
+Inv-loop body count out₀ at₀ a₀ b₀ i₀ out at a b i = State rows count body out₀ out at a b i
 
 abbrev μ-loop : tie.MeasureT-loop
 μ-loop body count out₀ at₀ a₀ b₀ i₀ out at a b i = count - i
@@ -33,22 +36,34 @@ off n body o p e = rw e refl
 returns : tie.Need-returns Inv-loop μ-loop
 returns c =
     let s = c .before .before .before in
-    off (s .args .count) (s .args .body .now) _ _ (read-long (s .args .count) (s .args .body .now) (s .pre .1) (c .if1 .taken))
+    off (s .args .count) (s .args .body .now) _ _
+    (read-long rows rows-good (s .args .count) (s .args .body .now) (λ ts v l. omega (arith, s .pre .1, c .if1 .taken, rows-size ts v (omega (arith, s .pre .1)))))
 
 loop-holds : tie.Need-loop-holds Inv-loop μ-loop
-loop-holds c = let s = c .before .before .before in state-start (s .args .count) (s .args .body .now) (s .args .out .now) (s .pre .0)
+loop-holds c = let s = c .before .before .before in state-start rows rows-good (s .args .count) (s .args .body .now) (s .args .out .now) (s .pre .0)
 
--- the offset at the loop's head is in the body
-inside : (c : tie.At-loop Inv-loop μ-loop) → Within (c .before .before .before .before .args .body .now) (c .loop .at)
+-- at the loop's head: the start, and that the offset is in the body
+abbrev start : tie.At-loop Inv-loop μ-loop → tie.Start Inv-loop μ-loop
+start c = c .before .before .before .before
+
+inside : (c : tie.At-loop Inv-loop μ-loop) → Within (start c .args .body .now) (c .loop .at)
 inside c =
-    let s = c .before .before .before .before in
-    record { short = c .before .if1 .left; inside = read-inside (s .args .count) (s .args .body .now) (take (c .loop .i) (c .loop .out)) (c .loop .at) (c .loop .inv .read) }
+    let a = start c .args in
+    let l = c .loop in
+    record { short = omega (arith, c .before .if1 .left); inside = read-inside rows rows-good (a .count) (a .body .now) (take (l .i) (l .out)) (l .at) (l .inv .read) }
 
 get-point-requires : tie.Need-get-point-requires Inv-loop μ-loop
 get-point-requires c κs =
-    let s = c .before .before .before .before .before in
-    let l = c .before .loop in
-    (inside (c .before), state-raw (s .args .count) (s .args .body .now) (s .args .out .now) (s .pre .0) (l .out) (l .at) (l .a) (l .b) (l .i) (l .inv), state-far (s .args .count) (s .args .body .now) (s .args .out .now) (s .pre .0) (l .out) (l .at) (l .a) (l .b) (l .i) (l .inv), l .inv .a-small, l .inv .b-small)
+    let head = c .before in
+    let s = start head in
+    let a = s .args in
+    let l = head .loop in (
+      inside head,
+      state-raw rows rows-good (a .count) (a .body .now) (a .out .now) (s .pre .0) (l .out) (l .at) (l .a) (l .b) (l .i) (l .inv),
+      state-far rows rows-good (a .count) (a .body .now) (a .out .now) (s .pre .0) (l .out) (l .at) (l .a) (l .b) (l .i) (l .inv),
+      l .inv .a-small,
+      l .inv .b-small,
+    )
 
 enum-known-t : tie.Need-enum-known-t Inv-loop μ-loop
 enum-known-t c = search needs
@@ -61,37 +76,49 @@ same-length c = search needs
 
 returns-2 : tie.Need-returns-2 Inv-loop μ-loop
 returns-2 c =
-    let s = c .before .before .before .before .before .before .before .before in
-    let l = c .before .before .before .before .loop in
-    off (s .args .count) (s .args .body .now) _ _
-    (state-none (s .args .count) (s .args .body .now) (s .args .out .now) (s .pre .0) (l .out) (l .at) (l .a) (l .b) (l .i) (l .inv) (c .before .before .before .loop-test .taken)
-    (subst (λ (r : GotPoint). PointFound (l .i) (l .a) (l .b) (drop (l .at) (bits (s .args .body .now))) r) (c .enum-told .given .1) (c .before .before .get-point .ensures)))
+    let got = c .before .before in
+    let head = got .before .before in
+    let s = start head in
+    let a = s .args in
+    let l = head .loop in
+    off (a .count) (a .body .now) _ _
+    (state-none rows rows-good (a .count) (a .body .now) (a .out .now) (s .pre .0) (l .out) (l .at) (l .a) (l .b) (l .i) (l .inv) (got .before .loop-test .taken)
+    (subst (λ (r : GotPoint). PointFound rows (l .i) (l .a) (l .b) (drop (l .at) (bits (a .body .now))) r) (c .enum-told .given .1) (got .get-point .ensures)))
 
--- the state after a turn
-next : (c : tie.After-known-told Inv-loop μ-loop) → let s = c .before .before .before .before .before .before .before .before .before in let l = c .before .before .before .before .before .loop in
-    State (s .args .count) (s .args .body .now) (s .args .out .now) (set (l .out) (l .i) (c .before .t .given .0 .0)) (l .at + c .before .t .given .0 .1 .0) (l .b) (c .before .t .given .0 .0) (l .i + 1)
+-- in a turn: the loop's test, its head, the position read, and how many bits it takes
+abbrev tested : tie.After-known-told Inv-loop μ-loop → tie.In-loop Inv-loop μ-loop
+tested c = c .before .before .before .before
+
+abbrev head : tie.After-known-told Inv-loop μ-loop → tie.At-loop Inv-loop μ-loop
+head c = tested c .before
+
+abbrev position : tie.After-known-told Inv-loop μ-loop → ℕ
+position c = c .before .t .given .0 .0
+
+abbrev size : tie.After-known-told Inv-loop μ-loop → ℕ
+size c = c .before .t .given .0 .1 .0
+
+-- the state after it
+next : (c : tie.After-known-told Inv-loop μ-loop) → let a = start (head c) .args in let l = head c .loop in
+    State rows (a .count) (a .body .now) (a .out .now) (set (l .out) (l .i) (position c)) (l .at + size c) (l .b) (position c) (l .i + 1)
 next c =
-    let s = c .before .before .before .before .before .before .before .before .before in
-    let l = c .before .before .before .before .before .loop in
-    let t = c .before .t .given .0 .0 in
-    let m = c .before .t .given .0 .1 .0 in
-    let f : Stands (l .i) (l .a) (l .b) (drop (l .at) (bits (s .args .body .now))) t × (m ≡ length (nextBits (l .i) (l .a) (l .b) t)) =
-    subst (λ (r : GotPoint). PointFound (l .i) (l .a) (l .b) (drop (l .at) (bits (s .args .body .now))) r) (c .before .t .given .1) (c .before .before .before .get-point .ensures) in
-    state-more (s .args .count) (s .args .body .now) (s .args .out .now) (s .pre .0) (l .out) (l .at) (l .a) (l .b) (l .i) (l .inv) (c .before .before .before .before .loop-test .taken) t m (f .0) (f .1)
+    let s = start (head c) in
+    let a = s .args in
+    let l = head c .loop in
+    let f : Stands rows (l .i) (l .a) (l .b) (drop (l .at) (bits (a .body .now))) (position c) × (size c ≡ length (nextBits rows (l .i) (l .a) (l .b) (position c))) =
+    subst (λ (r : GotPoint). PointFound rows (l .i) (l .a) (l .b) (drop (l .at) (bits (a .body .now))) r) (c .before .t .given .1) (c .before .before .before .get-point .ensures) in
+    state-more rows rows-good (a .count) (a .body .now) (a .out .now) (s .pre .0) (l .out) (l .at) (l .a) (l .b) (l .i) (l .inv) (tested c .loop-test .taken) (position c) (size c) (f .0) (f .1)
 
 mul-out : tie.Need-mul-out Inv-loop μ-loop
 mul-out c = omega arith
 
 slice-write-out : tie.Need-slice-write-out Inv-loop μ-loop
-slice-write-out c =
-    let s = c .before .before .before .before .before .before .before .before .before in
-    let l = c .before .before .before .before .before .loop in
-    omega (arith, s .pre .0, l .inv .length-is, c .before .before .before .before .loop-test .taken)
+slice-write-out c = omega (arith, start (head c) .pre .0, head c .loop .inv .length-is, tested c .loop-test .taken)
 
 add-at : tie.Need-add-at Inv-loop μ-loop
 add-at c =
-    let s = c .before .before .before .before .before .before .before .before .before in
-    omega (arith, read-inside (s .args .count) (s .args .body .now) _ _ (next c .read), c .before .before .before .before .before .before .if1 .left)
+    let a = start (head c) .args in
+    omega (arith, read-inside rows rows-good (a .count) (a .body .now) _ _ (next c .read), head c .before .if1 .left)
 
 add-i : tie.Need-add-i Inv-loop μ-loop
 add-i c = omega arith
@@ -110,10 +137,12 @@ same-length-2 c = search needs
 
 returns-3 : tie.Need-returns-3 Inv-loop μ-loop
 returns-3 c =
-    let s = c .before .before .before .before .before .before in
-    let l = c .before .before .loop in
-    state-end (s .args .count) (s .args .body .now) (s .args .out .now) (s .pre .0) (l .out) (l .at) (l .a) (l .b) (l .i) (l .inv) (c .before .loop-test .left)
-    (below-of 256 (s .args .body .now) (λ j. c .before .before .before .before .before .shared-slice-known .given j .fits)) (c .is-fill .result) (c .is-fill .ensures)
+    let head = c .before .before in
+    let s = start head in
+    let a = s .args in
+    let l = head .loop in
+    state-end rows rows-good (a .count) (a .body .now) (a .out .now) (s .pre .0) (l .out) (l .at) (l .a) (l .b) (l .i) (l .inv) (c .before .loop-test .left)
+    (below-of 256 (a .body .now) (λ j. head .before .before .before .shared-slice-known .given j .fits)) (c .is-fill .result) (c .is-fill .ensures)
 
 pub get-positions-spec : {M : Type 1} → statement M
 get-positions-spec =

@@ -1,55 +1,31 @@
--- `get_step` meets its contract: by eight bytes from the offset's own on, or by the last.
-use mathlib.Core.Path.{_≡_, subst}
-use Prim.Native.Nat.{ℕ, _+_, _-_, _*_, _/_, _%_}
+-- `get_step` meets its contract: no bits are left, or it is by the word of those ahead.
 use native.Mathlib.Omega.{arith}
+use borrow.Author.Needs.{needs}
 use lib.ListN.{drop}
 use Rattle.bits.specs.Packing.{bits}
-use Rattle.lists.proofs.Below.{below-of}
-use Rattle.position_codec.specs.Found.{StepFound}
-use Rattle.position_codec.proofs.Peek.{moved-front}
-use Rattle.position_codec.proofs.Alike.{found-far}
-use borrow.Author.Needs.{needs}
+use Rattle.bits.proofs.Packing.{length-left}
+use Rattle.position_format.specs.Rows.{rows}
+use Rattle.position_codec.proofs.Rows.{rows-lengths}
+use Rattle.position_codec.proofs.StepFound.{found-none}
 use Rattle.position_codec.proofs.read.get_step.Statement.{statement}
 use Rattle.position_codec.proofs.read.get_step.Tie as tie
 
-add-if1 : tie.Need-add-if1
-add-if1 c = search needs
-
-get-bytes-requires : tie.Need-get-bytes-requires
-get-bytes-requires c κs = search needs
-
-shl-step-ahead : tie.Need-shl-step-ahead
-shl-step-ahead c = search needs
-
-step-ahead-requires : tie.Need-step-ahead-requires
-step-ahead-requires c κs = search needs
+mul-if1 : tie.Need-mul-if1
+mul-if1 c = search needs
 
 returns : tie.Need-returns
 returns c =
-    let s = c .before .before .before .before in
-    let b = s .args .body .now in
-    let at = s .args .at in
-    let g = c .before .get-bytes in
-    let e : 8 * (at / 8) + at % 8 ≡ at = omega arith in
-    subst (λ (n : ℕ). StepFound (drop n (bits b)) (c .step-ahead .result)) e
-    (found-far _ (drop (8 * (at / 8) + at % 8) (bits b)) (64 - at % 8) (omega arith)
-    (moved-front b (below-of 256 b (λ i. c .before .before .before .shared-slice-known .given i .fits)) (at / 8) (at % 8) (g .result) (c .before .before .if1 .taken) (omega arith) (g .ensures .0))
-    (c .step-ahead .result) (c .step-ahead .ensures))
+    let a = c .before .before .args in
+    found-none 1 69 rows rows-lengths (omega arith) (drop (a .at) (bits (a .body .now))) (omega (arith, length-left (a .body .now) (a .at)))
 
-last-step-requires : tie.Need-last-step-requires
-last-step-requires c κs = search needs
+get-ahead-requires : tie.Need-get-ahead-requires
+get-ahead-requires c κs = search needs
+
+step-ahead-requires : tie.Need-step-ahead-requires
+step-ahead-requires c κs = search needs
 
 returns-2 : tie.Need-returns-2
 returns-2 c = search needs
 
 pub get-step-spec : {M : Type 1} → statement M
-get-step-spec =
-    tie.close
-    (tie.spec
-    add-if1
-    get-bytes-requires
-    shl-step-ahead
-    step-ahead-requires
-    returns
-    last-step-requires
-    returns-2)
+get-step-spec = tie.close (tie.spec mul-if1 returns get-ahead-requires step-ahead-requires returns-2)

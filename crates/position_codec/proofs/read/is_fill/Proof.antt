@@ -2,8 +2,7 @@
 use mathlib.Core.Path.{sym}
 use native.Mathlib.Omega.{arith}
 use borrow.Author.Needs.{needs}
-use Rattle.position_codec.proofs.Peek.{left-number}
-use Rattle.position_codec.proofs.Ends.{ends-long, ends-by}
+use Rattle.position_format.proofs.Fill.{fill-long, fill-by}
 use Rattle.position_codec.proofs.read.is_fill.Statement.{statement}
 use Rattle.position_codec.proofs.read.is_fill.Tie as tie
 
@@ -16,7 +15,7 @@ sub-left c = search needs
 returns : tie.Need-returns
 returns c =
     let a = c .before .before .args in
-    sym (ends-long (a .body .now) (a .at) (c .before .before .pre .inside) (omega arith))
+    sym (fill-long (a .body .now) (a .at) (c .before .before .pre .inside) (omega arith))
 
 get-bits-requires : tie.Need-get-bits-requires
 get-bits-requires c κs = search needs
@@ -24,7 +23,7 @@ get-bits-requires c κs = search needs
 returns-2 : tie.Need-returns-2
 returns-2 c =
     let s = c .before .before .before in
-    ends-by (s .args .body .now) (s .args .at) (s .pre .inside) (omega arith) (c .get-bits .result) (left-number (s .args .body .now) (s .args .at) (c .get-bits .result) (c .get-bits .ensures .0))
+    fill-by (s .args .body .now) (s .args .at) (s .pre .inside) (omega arith) (c .get-bits .result) (c .get-bits .ensures .0)
 
 pub is-fill-spec : {M : Type 1} → statement M
 is-fill-spec = tie.close (tie.spec mul-left sub-left returns get-bits-requires returns-2)

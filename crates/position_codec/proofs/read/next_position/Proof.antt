@@ -1,83 +1,68 @@
--- `next_position` meets its contract: what the step adds fits, and the sum is made only where it is in range.
+-- `next_position` meets its contract: the sum is made only where it is in range.
 use native.Mathlib.Omega.{arith}
-use borrow.Author.Needs.{needs}
 use borrow.Author.Tests.{not-true, not-false}
 use Rattle.position_codec.proofs.Differences.{diff-fits}
-use Rattle.position_codec.proofs.Follow.{sum-fits, follow-none, total-fits, total-back, next-small, follow-is}
+use Rattle.position_codec.proofs.PositionFound.{sum-fits, low-fits, high-fits, position-none, total-fits, total-back, position-small, position-is}
+use borrow.Author.Needs.{needs}
 use Rattle.position_codec.proofs.read.next_position.Statement.{statement}
 use Rattle.position_codec.proofs.read.next_position.Tie as tie
 
-cast-d : tie.Need-cast-d
-cast-d c = search needs
+cast-c : tie.Need-cast-c
+cast-c c = search needs
 
-cast-d-2 : tie.Need-cast-d-2
-cast-d-2 c = search needs
+cast-c-2 : tie.Need-cast-c-2
+cast-c-2 c = search needs
 
-sub-d : tie.Need-sub-d
-sub-d c = diff-fits (c .args .b) (c .args .a) (c .pre .1) (c .pre .0)
+cast-c-3 : tie.Need-cast-c-3
+cast-c-3 c = search needs
 
-add-d : tie.Need-add-d
-add-d c = let a = c .args in sum-fits (a .a) (a .b) (a .z) (c .pre .0) (c .pre .1) (c .fits .z) (c .pre .2)
+sub-c : tie.Need-sub-c
+sub-c c = diff-fits (c .args .b) (c .args .a) (c .pre .1) (c .pre .0)
+
+add-c : tie.Need-add-c
+add-c c = sum-fits (c .args .a) (c .args .b) (c .pre .0) (c .pre .1)
+
+sub-within : tie.Need-sub-within
+sub-within c = low-fits (c .args .a) (c .args .b) (c .pre .0) (c .pre .1)
 
 cast-within : tie.Need-cast-within
 cast-within c = search needs
 
-sub-within : tie.Need-sub-within
-sub-within c = diff-fits 0 (c .args .b) (omega arith) (c .pre .1)
-
 sub-within-2 : tie.Need-sub-within-2
-sub-within-2 c = search needs
-
-cast-within-2 : tie.Need-cast-within-2
-cast-within-2 c = search needs
+sub-within-2 c = high-fits (c .args .a) (c .args .b) (c .pre .0) (c .pre .1)
 
 within-requires : tie.Need-within-requires
 within-requires c κs = search needs
 
 returns : tie.Need-returns
-returns c =
-    let s = c .before .before in
-    let a = s .args in
-    follow-none (a .a) (a .b) (a .z) (s .pre .0) (s .pre .1) (s .fits .z) (s .pre .2) (c .before .within .result) (c .before .within .ensures) (not-true _ (c .if1 .taken))
+returns c = let s = c .before .before in position-none (s .args .a) (s .args .b) (s .pre .0) (s .pre .1) (s .args .z) (s .fits .z) (c .before .within .result) (c .before .within .ensures) (not-true _ (c .if1 .taken))
 
-cast-t5 : tie.Need-cast-t5
-cast-t5 c = search needs
+add-t6 : tie.Need-add-t6
+add-t6 c = let s = c .before .before in total-fits (s .args .a) (s .args .b) (s .pre .0) (s .pre .1) (s .args .z) (s .fits .z) (c .before .within .result) (c .before .within .ensures) (not-false _ (c .if1 .left))
 
-add-t7 : tie.Need-add-t7
-add-t7 c =
+cast-t11 : tie.Need-cast-t11
+cast-t11 c =
     let s = c .before .before in
-    let a = s .args in
-    total-fits (a .a) (a .b) (a .z) (s .pre .0) (s .pre .1) (s .fits .z) (s .pre .2) (c .before .within .result) (c .before .within .ensures) (not-false _ (c .if1 .left))
-
-cast-t9 : tie.Need-cast-t9
-cast-t9 c =
-    let s = c .before .before in
-    let a = s .args in
-    let w = c .before .within in
-    rw (total-back (a .a) (a .b) (a .z) (s .pre .0) (s .pre .1) (s .fits .z) (s .pre .2) (w .result) (w .ensures) (not-false _ (c .if1 .left)))
-    (tt, record { fits = omega (arith, next-small (a .a) (a .b) (a .z) (s .pre .0) (s .pre .1) (s .fits .z) (s .pre .2) (w .result) (w .ensures) (not-false _ (c .if1 .left))) })
+    rw (total-back (s .args .a) (s .args .b) (s .pre .0) (s .pre .1) (s .args .z) (s .fits .z) (c .before .within .result) (c .before .within .ensures) (not-false _ (c .if1 .left)))
+    (tt, record { fits = omega (arith, position-small (s .args .a) (s .args .b) (s .pre .0) (s .pre .1) (s .args .z) (s .fits .z) (c .before .within .result) (c .before .within .ensures) (not-false _ (c .if1 .left))) })
 
 returns-2 : tie.Need-returns-2
-returns-2 c =
-    let s = c .before .before in
-    let a = s .args in
-    follow-is (a .a) (a .b) (a .z) (s .pre .0) (s .pre .1) (s .fits .z) (s .pre .2) (c .before .within .result) (c .before .within .ensures) (not-false _ (c .if1 .left))
+returns-2 c = let s = c .before .before in position-is (s .args .a) (s .args .b) (s .pre .0) (s .pre .1) (s .args .z) (s .fits .z) (c .before .within .result) (c .before .within .ensures) (not-false _ (c .if1 .left))
 
 pub next-position-spec : {M : Type 1} → statement M
 next-position-spec =
     tie.close
     (tie.spec
-    cast-d
-    cast-d-2
-    sub-d
-    add-d
-    cast-within
+    cast-c
+    cast-c-2
+    cast-c-3
+    sub-c
+    add-c
     sub-within
+    cast-within
     sub-within-2
-    cast-within-2
     within-requires
     returns
-    cast-t5
-    add-t7
-    cast-t9
+    add-t6
+    cast-t11
     returns-2)

@@ -1,57 +1,51 @@
 -- `code_in` meets its contract: the tables hold the row's prefix and width.
-use mathlib.Core.Path.{_≡_, ap, _∙_}
+use mathlib.Core.Path.{sym, ap, _∙_}
 use Prim.Native.Nat.{_<_}
 use native.Mathlib.Omega.{arith}
 use mir.Syntax.{w64}
 use mir.ValLaws.{toZ-ofZ}
-use Rattle.position_format.specs.Rows.{residue}
-use Rattle.position_codec.proofs.Tables.{widthOf, fields, row-lt, step-abs, word-fits, word-coded}
+use Rattle.position_format.specs.Rows.{Row, rows, residue}
+use Rattle.position_format.proofs.Codes.{inTable-row}
+use Rattle.position_codec.proofs.Codes.{coded-by}
+use Rattle.position_codec.proofs.Rows.{rows-count, prefixOf, prefixLenOf, row-at, row-small, row-narrow}
 use Rattle.position_codec.proofs.table.code_in.Statement.{statement}
 use Rattle.position_codec.proofs.table.code_in.Tie as tie
 
 -- the row is one of the five
-below : (c : tie.Start) → c .args .row < 5
-below c = omega (arith, c .pre .1, row-lt (c .args .z) (c .pre .0))
+inside : (s : tie.Start) → s .args .row < 5
+inside s = omega (arith, s .pre .1, inTable-row rows (s .args .z) (s .pre .0), rows-count)
 
-mul-k : tie.Need-mul-k
-mul-k c = omega (arith, below c)
+width-of-requires : tie.Need-width-of-requires
+width-of-requires c κs = inside c
 
-shr-k : tie.Need-shr-k
-shr-k c = omega (arith, below c)
+mul-t4 : tie.Need-mul-t4
+mul-t4 c = omega (arith, inside (c .before))
 
-mul-p : tie.Need-mul-p
-mul-p c = omega (arith, below c)
+shr-t6 : tie.Need-shr-t6
+shr-t6 c = omega (arith, inside (c .before))
 
-shr-p : tie.Need-shr-p
-shr-p c = omega (arith, below c)
+mul-t9 : tie.Need-mul-t9
+mul-t9 c = omega (arith, inside (c .before))
 
-mul-x : tie.Need-mul-x
-mul-x c = omega (arith, below c)
-
-shr-x : tie.Need-shr-x
-shr-x c = omega (arith, below c)
+shr-t11 : tie.Need-shr-t11
+shr-t11 c = omega (arith, inside (c .before))
 
 modulo-requires : tie.Need-modulo-requires
-modulo-requires c κs = (fields (c .args .row) (below c) .narrow, rw (toZ-ofZ w64 (c .args .z) (c .fits .z)) (step-abs (c .args .z) (c .pre .0)))
-
-said : (c : tie.After-modulo) → c .modulo .result ≡ residue (widthOf (c .before .args .row)) (c .before .args .z)
-said c =
-    let s = c .before in
-    c .modulo .ensures ∙ ap (residue (widthOf (s .args .row))) (toZ-ofZ w64 (s .args .z) (s .fits .z))
-
-add-t7 : tie.Need-add-t7
-add-t7 c = let f = fields (c .before .args .row) (below (c .before)) in omega (arith, f .few, f .narrow)
-
-shl-t8 : tie.Need-shl-t8
-shl-t8 c = omega (arith, fields (c .before .args .row) (below (c .before)) .narrow)
-
-add-t9 : tie.Need-add-t9
-add-t9 c = let s = c .before in record { fits = word-fits (s .args .row) (below s) (s .args .z) (c .modulo .result) (said c) }
+modulo-requires c κs = omega (arith, c .width-of .ensures, row-narrow (c .before .args .row) (inside (c .before)))
 
 returns : tie.Need-returns
-returns c = let s = c .before in word-coded (s .args .row) (below s) (s .args .z) (c .modulo .result) (said c) (s .pre .0) (s .pre .1)
+returns c =
+    let start = c .before .before in
+    let i = start .args .row in
+    let z = start .args .z in
+    let k = c .before .width-of in
+    let small = row-small i (inside start) in
+    let narrow = row-narrow i (inside start) in
+    coded-by rows z (start .pre .0) i (start .pre .1) (prefixLenOf i) (prefixOf i) (k .result) (c .modulo .result)
+    (small .some) (omega (arith, small .short)) (small .prefix) (omega (arith, k .ensures))
+    (ap (λ (r : Row). r .prefix) (row-at i (inside start))) (sym (k .ensures))
+    (c .modulo .ensures ∙ ap (residue (k .result)) (toZ-ofZ w64 z (start .fits .z)))
 
 pub code-in-spec : {M : Type 1} → statement M
 code-in-spec =
-    tie.close
-    (tie.spec mul-k shr-k mul-p shr-p mul-x shr-x modulo-requires add-t7 shl-t8 add-t9 returns)
+    tie.close (tie.spec width-of-requires mul-t4 shr-t6 mul-t9 shr-t11 modulo-requires returns)

@@ -5,7 +5,8 @@ use mir.Syntax.{w64}
 use mir.Val.{toZ, ofZ}
 use mir.ValLaws.{toZ-ofZ}
 use Rattle.position_format.specs.Rows.{rows, rowOf}
-use Rattle.position_codec.proofs.Tables.{row-lt}
+use Rattle.position_format.proofs.Codes.{inTable-row}
+use Rattle.position_codec.proofs.Rows.{rows-count}
 use borrow.Author.Needs.{needs}
 use Rattle.position_codec.proofs.table.code_of.Statement.{statement}
 use Rattle.position_codec.proofs.table.code_of.Tie as tie
@@ -30,7 +31,7 @@ code-in-requires-5 c κs =
     let s = c .before .before in
     let z : toZ w64 (ofZ w64 (s .args .z)) ≡ s .args .z = toZ-ofZ w64 (s .args .z) (s .fits .z) in
     let r : c .before .row-of .result ≡ rowOf rows (s .args .z) = c .before .row-of .ensures ∙ ap (rowOf rows) z in
-    rw z (s .pre, omega (arith, row-lt (s .args .z) (s .pre)))
+    rw z (s .pre, omega (arith, inTable-row rows (s .args .z) (s .pre), rows-count))
 
 returns : tie.Need-returns
 returns c = let s = c .before .before .before in rw (toZ-ofZ w64 (s .args .z) (s .fits .z)) at (c .code-in .ensures)

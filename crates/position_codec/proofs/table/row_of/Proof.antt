@@ -1,90 +1,83 @@
--- `row_of` meets its contract: the rows are tested in their order.
+-- `row_of` meets its contract. The loop's invariant: no row passed holds the step. The measure is how many rows are left.
 use mathlib.Core.Path.{_≡_, sym, ap, _∙_}
-use Prim.Native.Nat.{_≤_}
+use Prim.Native.Nat.{_-_, _≤_, _<_}
+use native.Mathlib.Numerals.{add-one}
 use native.Mathlib.Omega.{arith}
 use borrow.Author.Needs.{needs}
+use lib.ListN.{length, getD}
 use mir.Syntax.{w64}
+use mir.Val.{toZ, ofZ}
 use mir.ValLaws.{toZ-ofZ}
-use Rattle.position_format.specs.Rows.{rows, holds, rowOf}
-use Rattle.position_codec.proofs.Tables.{rowAt, row-found, row-later, row-none}
+use Rattle.position_format.specs.Rows.{rows, holds, noRow, rowOf}
+use Rattle.position_format.proofs.Codes.{row-found, row-later, row-none}
+use Rattle.position_codec.proofs.Rows.{rows-count}
 use Rattle.position_codec.proofs.table.row_of.Statement.{statement}
 use Rattle.position_codec.proofs.table.row_of.Tie as tie
 
-in-row-requires : tie.Need-in-row-requires
+abbrev Inv-loop : tie.InvT-loop
+Inv-loop z row₀ row = row ≤ rowOf rows (toZ w64 z)
+
+abbrev μ-loop : tie.MeasureT-loop
+μ-loop z row₀ row = 5 - row
+
+loop-holds : tie.Need-loop-holds Inv-loop μ-loop
+loop-holds c = omega arith
+
+in-row-requires : tie.Need-in-row-requires Inv-loop μ-loop
 in-row-requires c κs = search needs
 
-tested0 : (c : tie.After-in-row) → c .in-row .result ≡ holds (rowAt 0) (c .before .args .z)
-tested0 c = c .in-row .ensures ∙ ap (holds (rowAt 0)) (toZ-ofZ w64 (c .before .args .z) (c .before .fits .z))
+-- the step, read back from its bits
+step-is : (s : tie.Start Inv-loop μ-loop) → toZ w64 (ofZ w64 (s .args .z)) ≡ s .args .z
+step-is s = toZ-ofZ w64 (s .args .z) (s .fits .z)
 
-returns : tie.Need-returns
-returns c = row-found (c .before .before .args .z) 0 (omega arith) (omega arith) (sym (tested0 (c .before)) ∙ c .if1 .taken)
+-- where the row has been asked: the loop's head and the start
+abbrev head : tie.After-in-row Inv-loop μ-loop → tie.At-loop Inv-loop μ-loop
+head c = c .before .before
 
-later0 : (c : tie.Else1) → 1 ≤ rowOf rows (c .before .before .args .z)
-later0 c = row-later (c .before .before .args .z) 0 (omega arith) (omega arith) (sym (tested0 (c .before)) ∙ c .if1 .left)
+abbrev start : tie.After-in-row Inv-loop μ-loop → tie.Start Inv-loop μ-loop
+start c = head c .before
 
-in-row-requires-2 : tie.Need-in-row-requires-2
-in-row-requires-2 c κs = search needs
+-- it is a row of the table, and the test is whether it holds the step
+inside : (c : tie.After-in-row Inv-loop μ-loop) → head c .loop .row < length rows
+inside c = omega (arith, c .before .loop-test .taken, rows-count)
 
-tested1 : (c : tie.After-in-row2) → c .in-row2 .result ≡ holds (rowAt 1) (c .before .before .before .args .z)
-tested1 c = c .in-row2 .ensures ∙ ap (holds (rowAt 1)) (toZ-ofZ w64 (c .before .before .before .args .z) (c .before .before .before .fits .z))
+tested : (c : tie.After-in-row Inv-loop μ-loop) → c .in-row .result ≡ holds (getD rows (head c .loop .row) noRow) (start c .args .z)
+tested c = c .in-row .ensures ∙ ap (holds (getD rows (head c .loop .row) noRow)) (step-is (start c))
 
-returns-2 : tie.Need-returns-2
-returns-2 c = row-found (c .before .before .before .before .args .z) 1 (omega arith) (later0 (c .before .before)) (sym (tested1 (c .before)) ∙ c .if2 .taken)
+so-far : (c : tie.After-in-row Inv-loop μ-loop) → head c .loop .row ≤ rowOf rows (start c .args .z)
+so-far c = rw (step-is (start c)) at (head c .loop .inv)
 
-later1 : (c : tie.Else2) → 2 ≤ rowOf rows (c .before .before .before .before .args .z)
-later1 c = row-later (c .before .before .before .before .args .z) 1 (omega arith) (later0 (c .before .before)) (sym (tested1 (c .before)) ∙ c .if2 .left)
+returns : tie.Need-returns Inv-loop μ-loop
+returns c =
+    let asked = c .before in
+    row-found rows (start asked .args .z) (head asked .loop .row) (so-far asked) (inside asked) (sym (tested asked) ∙ c .if1 .taken)
 
-in-row-requires-3 : tie.Need-in-row-requires-3
-in-row-requires-3 c κs = search needs
+add-row : tie.Need-add-row Inv-loop μ-loop
+add-row c = omega arith
 
-tested2 : (c : tie.After-in-row3) → c .in-row3 .result ≡ holds (rowAt 2) (c .before .before .before .before .before .args .z)
-tested2 c = c .in-row3 .ensures ∙ ap (holds (rowAt 2)) (toZ-ofZ w64 (c .before .before .before .before .before .args .z) (c .before .before .before .before .before .fits .z))
+loop-less : tie.Need-loop-less Inv-loop μ-loop
+loop-less c = omega arith
 
-returns-3 : tie.Need-returns-3
-returns-3 c = row-found (c .before .before .before .before .before .before .args .z) 2 (omega arith) (later1 (c .before .before)) (sym (tested2 (c .before)) ∙ c .if3 .taken)
+loop-again : tie.Need-loop-again Inv-loop μ-loop
+loop-again c =
+    let asked = c .before in
+    rw (add-one, step-is (start asked)) (row-later rows (start asked .args .z) (head asked .loop .row) (so-far asked) (inside asked) (sym (tested asked) ∙ c .if1 .left))
 
-later2 : (c : tie.Else3) → 3 ≤ rowOf rows (c .before .before .before .before .before .before .args .z)
-later2 c = row-later (c .before .before .before .before .before .before .args .z) 2 (omega arith) (later1 (c .before .before)) (sym (tested2 (c .before)) ∙ c .if3 .left)
-
-in-row-requires-4 : tie.Need-in-row-requires-4
-in-row-requires-4 c κs = search needs
-
-tested3 : (c : tie.After-in-row4) → c .in-row4 .result ≡ holds (rowAt 3) (c .before .before .before .before .before .before .before .args .z)
-tested3 c = c .in-row4 .ensures ∙ ap (holds (rowAt 3)) (toZ-ofZ w64 (c .before .before .before .before .before .before .before .args .z) (c .before .before .before .before .before .before .before .fits .z))
-
-returns-4 : tie.Need-returns-4
-returns-4 c = row-found (c .before .before .before .before .before .before .before .before .args .z) 3 (omega arith) (later2 (c .before .before)) (sym (tested3 (c .before)) ∙ c .if4 .taken)
-
-later3 : (c : tie.Else4) → 4 ≤ rowOf rows (c .before .before .before .before .before .before .before .before .args .z)
-later3 c = row-later (c .before .before .before .before .before .before .before .before .args .z) 3 (omega arith) (later2 (c .before .before)) (sym (tested3 (c .before)) ∙ c .if4 .left)
-
-in-row-requires-5 : tie.Need-in-row-requires-5
-in-row-requires-5 c κs = search needs
-
-tested4 : (c : tie.After-in-row5) → c .in-row5 .result ≡ holds (rowAt 4) (c .before .before .before .before .before .before .before .before .before .args .z)
-tested4 c = c .in-row5 .ensures ∙ ap (holds (rowAt 4)) (toZ-ofZ w64 (c .before .before .before .before .before .before .before .before .before .args .z) (c .before .before .before .before .before .before .before .before .before .fits .z))
-
-returns-5 : tie.Need-returns-5
-returns-5 c = row-found (c .before .before .before .before .before .before .before .before .before .before .args .z) 4 (omega arith) (later3 (c .before .before)) (sym (tested4 (c .before)) ∙ c .if5 .taken)
-
-later4 : (c : tie.Else5) → 5 ≤ rowOf rows (c .before .before .before .before .before .before .before .before .before .before .args .z)
-later4 c = row-later (c .before .before .before .before .before .before .before .before .before .before .args .z) 4 (omega arith) (later3 (c .before .before)) (sym (tested4 (c .before)) ∙ c .if5 .left)
-
-returns-6 : tie.Need-returns-6
-returns-6 c = row-none (c .before .before .before .before .before .before .before .before .before .before .args .z) (later4 c)
+returns-2 : tie.Need-returns-2 Inv-loop μ-loop
+returns-2 c =
+    let start = c .before .before in
+    row-none rows (start .args .z) 5 (omega (arith, rw (step-is start) at (c .before .loop .inv), c .loop-test .left)) (omega (arith, rows-count))
 
 pub row-of-spec : {M : Type 1} → statement M
 row-of-spec =
     tie.close
     (tie.spec
+    Inv-loop
+    μ-loop
+    loop-holds
     in-row-requires
     returns
-    in-row-requires-2
-    returns-2
-    in-row-requires-3
-    returns-3
-    in-row-requires-4
-    returns-4
-    in-row-requires-5
-    returns-5
-    returns-6)
+    add-row
+    loop-less
+    loop-again
+    returns-2)

@@ -1,7 +1,8 @@
 -- `first_outside` meets its contract. The loop's invariant: the table holds the step at each point passed.
 -- The measure is what is left of the length.
+use mathlib.Core.List.{List}
 use mathlib.Core.Path.{_≡_, ap, _∙_}
-use Prim.Native.Nat.{_≤_, _-_}
+use Prim.Native.Nat.{ℕ, _≤_, _-_}
 use native.Mathlib.Omega.{arith}
 use borrow.Author.Needs.{needs}
 use lib.ListN.{length}
@@ -9,7 +10,7 @@ use mir.Syntax.{w64}
 use mir.ValLaws.{toZ-ofZ}
 use Rattle.position_format.specs.Rows.{rows, inTable}
 use Rattle.position_format.specs.Steps.{firstOutside, stepHere}
-use Rattle.position_codec.proofs.Points.{outside-here, outside-later, outside-none}
+use Rattle.position_format.proofs.Points.{outside-here, outside-later, outside-none}
 use Rattle.position_codec.proofs.write.first_outside.Statement.{statement}
 use Rattle.position_codec.proofs.write.first_outside.Tie as tie
 
@@ -28,15 +29,23 @@ step-at-requires c κs = omega arith
 in-table-requires : tie.Need-in-table-requires Inv-loop μ-loop
 in-table-requires c κs = search needs
 
+-- where the table has been asked: the loop's head and the positions
+abbrev head : tie.After-in-table Inv-loop μ-loop → tie.At-loop Inv-loop μ-loop
+head c = c .before .before .before
+
+abbrev positions : tie.At-loop Inv-loop μ-loop → List ℕ
+positions c = c .before .before .args .positions .now
+
 -- the test is whether the table holds the step at point i
-tested : (c : tie.After-in-table Inv-loop μ-loop) → c .in-table .result ≡ inTable rows (stepHere (c .before .before .before .before .before .args .positions .now) (c .before .before .before .loop .i))
+tested : (c : tie.After-in-table Inv-loop μ-loop) → c .in-table .result ≡ inTable rows (stepHere (positions (head c)) (head c .loop .i))
 tested c = c .in-table .ensures ∙ ap (inTable rows) (toZ-ofZ w64 (c .before .step-at .result) (record { sfits = c .before .step-at .ok }) ∙ c .before .step-at .ensures)
 
 returns : tie.Need-returns Inv-loop μ-loop
 returns c =
-    let ts = c .before .before .before .before .before .before .args .positions .now in
-    let l = c .before .before .before .before .loop in
-    outside-here ts (l .i) (l .inv .0) (c .before .before .before .loop-test .taken) (l .inv .1) (c .before .in-table .result) (tested (c .before)) (c .if1 .taken)
+    let asked = c .before in
+    let ts = positions (head asked) in
+    let l = head asked .loop in
+    outside-here rows ts (l .i) (l .inv .0) (asked .before .before .loop-test .taken) (l .inv .1) (asked .in-table .result) (tested asked) (c .if1 .taken)
 
 add-i : tie.Need-add-i Inv-loop μ-loop
 add-i c = omega arith
@@ -46,15 +55,17 @@ loop-less c = omega arith
 
 loop-again : tie.Need-loop-again Inv-loop μ-loop
 loop-again c =
-    let ts = c .before .before .before .before .before .before .args .positions .now in
-    let l = c .before .before .before .before .loop in
-    let h = outside-later ts (l .i) (l .inv .0) (c .before .before .before .loop-test .taken) (l .inv .1) (c .before .in-table .result) (tested (c .before)) (c .if1 .left) in
+    let asked = c .before in
+    let ts = positions (head asked) in
+    let l = head asked .loop in
+    let h = outside-later rows ts (l .i) (l .inv .0) (asked .before .before .loop-test .taken) (l .inv .1) (asked .in-table .result) (tested asked) (c .if1 .left) in
     (omega arith, omega (arith, h))
 
 returns-2 : tie.Need-returns-2 Inv-loop μ-loop
 returns-2 c =
-    let l = c .before .loop in
-    outside-none (c .before .before .before .args .positions .now) (l .i) (l .inv .0) (c .loop-test .left) (l .inv .1)
+    let head = c .before in
+    let l = head .loop in
+    outside-none rows (positions head) (l .i) (l .inv .0) (c .loop-test .left) (l .inv .1)
 
 pub first-outside-spec : {M : Type 1} → statement M
 first-outside-spec =

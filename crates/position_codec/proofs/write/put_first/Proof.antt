@@ -1,54 +1,81 @@
--- `put_first` meets its contract: nothing, or one word, or two.
+-- `put_first` meets its contract: nothing is laid, or one field, or two.
+use mathlib.Core.List.{[]}
 use native.Mathlib.Omega.{arith}
-use Rattle.position_codec.proofs.Sinks.{first-none, first-one, first-two}
 use borrow.Author.Needs.{needs}
+use lib.ListN.{getD}
+use Rattle.bits.specs.Digits.{bitsOf}
+use Rattle.bits.proofs.Sinks.{start-sound, start-held, start-placed}
+use Rattle.position_format.specs.Rows.{rows}
+use Rattle.position_format.proofs.Points.{first-none, first-one, first-two}
 use Rattle.position_codec.proofs.write.put_first.Statement.{statement}
 use Rattle.position_codec.proofs.write.put_first.Tie as tie
 
 returns : tie.Need-returns
-returns c = let a = c .before .before .before .args in first-none (a .positions .now) (a .out .now) (c .if1 .taken)
+returns c =
+    let a = c .before .before .before .args in
+    rw (first-none rows (a .positions .now) (c .if1 .taken)) (start-sound, start-held, start-placed (a .out .now))
 
-shared-slice-read-put-word : tie.Need-shared-slice-read-put-word
-shared-slice-read-put-word c = search needs
+shared-slice-read-lay : tie.Need-shared-slice-read-lay
+shared-slice-read-lay c = search needs
 
-put-word-requires : tie.Need-put-word-requires
-put-word-requires c κs = search needs
+lay-requires : tie.Need-lay-requires
+lay-requires c κs = (omega arith, start-sound, omega arith, c .shared-slice-known2 .given 0 .fits)
+
+-- where the first is laid: the test that there is one, and the start
+abbrev some : tie.After-lay → tie.Else1
+some c = c .before .before .before
+
+abbrev start : tie.After-lay → tie.Start
+start c = some c .before .before .before
 
 same-length : tie.Need-same-length
 same-length c = search needs
 
 returns-2 : tie.Need-returns-2
 returns-2 c =
-    let a = c .before .before .before .before .before .before .before .before .before .args in
-    let p = c .before .before .before .put-word in
-    first-one (a .positions .now) (a .out .now) (p .last .0) (c .if2 .taken) (p .ensures)
+    let first = c .before .before .before in
+    let a = start first .args in
+    let e = first .lay .ensures in
+    let f = e .2 [] start-held in
+    rw (first-one rows (a .positions .now) (c .if2 .taken)) (e .1, f .0, f .1 (a .out .now) (start-placed (a .out .now)))
 
-shared-slice-read-put-word-2 : tie.Need-shared-slice-read-put-word-2
-shared-slice-read-put-word-2 c = search needs
+shared-slice-read-lay-2 : tie.Need-shared-slice-read-lay-2
+shared-slice-read-lay-2 c = search needs
 
-put-word-requires-2 : tie.Need-put-word-requires-2
-put-word-requires-2 c κs = search needs
+lay-requires-2 : tie.Need-lay-requires-2
+lay-requires-2 c κs =
+    let at-test = c .before .before in
+    let first = at-test .before .before .before in
+    let e = first .lay .ensures in
+    (omega (arith, e .0), e .1, omega arith, c .shared-slice-known3 .given 1 .fits)
 
 same-length-2 : tie.Need-same-length-2
 same-length-2 c = search needs
 
 returns-3 : tie.Need-returns-3
 returns-3 c =
-    let a = c .before .before .before .before .before .before .before .before .before .before .before .before .before .before .args in
-    let p = c .before .before .before .before .before .before .before .before .put-word in
-    let q = c .before .before .put-word2 in
-    first-two (a .positions .now) (a .out .now) (p .last .0) (q .last .0) (omega arith) (p .ensures) (q .ensures)
+    let second = c .before .before in
+    let at-test = second .before .before .before in
+    let first = at-test .before .before .before in
+    let a = start first .args in
+    let ts = a .positions .now in
+    let o = a .out .now in
+    let e = first .lay .ensures in
+    let f = e .2 [] start-held in
+    let g = second .lay2 .ensures in
+    let h = g .2 (bitsOf 64 (getD ts 0 0)) (f .0) in
+    rw (first-two rows ts (omega arith)) (g .1, h .0, h .1 o (f .1 o (start-placed o)))
 
 pub put-first-spec : {M : Type 1} → statement M
 put-first-spec =
     tie.close
     (tie.spec
     returns
-    shared-slice-read-put-word
-    put-word-requires
+    shared-slice-read-lay
+    lay-requires
     same-length
     returns-2
-    shared-slice-read-put-word-2
-    put-word-requires-2
+    shared-slice-read-lay-2
+    lay-requires-2
     same-length-2
     returns-3)

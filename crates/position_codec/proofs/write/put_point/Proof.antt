@@ -1,83 +1,98 @@
--- `put_point` meets its contract: the bits laid are the code of the step.
-use mathlib.Core.Path.{_≡_, sym, ap, _∙_, subst}
-use Prim.Native.Nat.{_^_, _≤_, _<_}
+-- `put_point` meets its contract: the bits laid are those of the point.
+use mathlib.Core.List.{List, _++_}
+use mathlib.Core.Path.{_≡_, sym, ap, _∙_}
+use Prim.Native.Nat.{ℕ, _+_, _^_, _≤_}
 use native.Mathlib.Omega.{arith}
-use lib.IntN.{ℤ, pos}
+use borrow.Author.Needs.{needs}
+use lib.IntN.{pos}
 use lib.ListN.{take}
 use mir.Syntax.{w64}
 use mir.Val.{toZ, ofZ}
 use mir.ValLaws.{toZ-ofZ}
-use Rattle.position_format.specs.Rows.{rows, inTable}
+use Rattle.bits.specs.Digits.{bitsOf}
+use Rattle.position_format.specs.Rows.{rows, inTable, code}
+use Rattle.position_format.specs.Steps.{stepHere}
 use Rattle.position_format.specs.Positions.{positionBits}
 use Rattle.position_format.proofs.Valid.{valid-parts}
-use Rattle.position_format.specs.Steps.{stepHere}
-use Rattle.position_format.proofs.Parts.{valid-here}
-use Rattle.position_codec.specs.Codes.{Coded}
-use Rattle.position_codec.proofs.Points.{place-le, step-more, zero-coded}
-use borrow.Author.Needs.{needs}
+use Rattle.position_format.proofs.Sizes.{bits-most}
+use Rattle.position_format.proofs.Points.{valid-here, point-step, point-place}
+use Rattle.position_codec.proofs.Rows.{rows-lengths, rows-zero-code}
 use Rattle.position_codec.proofs.write.put_point.Statement.{statement}
 use Rattle.position_codec.proofs.write.put_point.Tie as tie
 
+-- the positions, and the bits of those before the point
+abbrev positions : tie.Start → List ℕ
+positions s = s .args .positions .now
+
+abbrev before-it : tie.Start → List ℕ
+before-it s = positionBits rows (take (s .args .i) (positions s))
+
+-- there are not too many bits
+small : (s : tie.Start) → s .args .s .at + 8 ≤ 2 ^ 32
+small s =
+    let p = s .pre .1 in
+    omega (arith, s .pre .3 .size, p .many, point-place rows (positions s) (s .args .i) (omega (arith, p .here)), bits-most 1 69 rows rows-lengths (positions s) (p .valid))
+
 step-at-requires : tie.Need-step-at-requires
 step-at-requires c κs =
-    let p = c .before .before .pre in
-    (p .0, p .1 .here, omega (arith, valid-parts rows (c .before .before .args .positions .now) (p .1 .valid) .0))
-
--- what is held before the point
-ready : (s : tie.Start) → (s .args .s .at ≤ 2 ^ 32) × (s .args .s .width < 64) × (s .args .s .held < 2 ^ s .args .s .width)
-ready s =
+    let s = c .before .before in
     let p = s .pre .1 in
-    let h = s .pre .2 in
-    (omega (arith, h .size, p .many, p .here, place-le (s .args .positions .now) (p .valid) (s .args .i) (omega (arith, p .here))), h .small, h .fits)
+    (s .pre .0, p .here, omega (arith, valid-parts rows (positions s) (p .valid) .0))
 
--- the step, read back from its bits
-step-is : (c : tie.After-step-at) → toZ w64 (ofZ w64 (c .step-at .result)) ≡ stepHere (c .before .before .before .args .positions .now) (c .before .before .before .args .i)
+-- where the step is known: the start, and the step, read back from its bits
+abbrev start : tie.After-step-at → tie.Start
+start c = c .before .before .before
+
+step-is : (c : tie.After-step-at) → toZ w64 (ofZ w64 (c .step-at .result)) ≡ stepHere (positions (start c)) (start c .args .i)
 step-is c = toZ-ofZ w64 (c .step-at .result) (record { sfits = c .step-at .ok }) ∙ c .step-at .ensures
 
+-- its code comes after the bits before it
+after-it : (c : tie.After-step-at) → let s = start c in positionBits rows (take (s .args .i + 1) (positions s)) ≡ before-it s ++ code rows (stepHere (positions s) (s .args .i))
+after-it c = let s = start c in point-step rows (positions s) (s .args .i) (s .pre .0) (s .pre .1 .here)
+
 lay-requires : tie.Need-lay-requires
-lay-requires c κs =
-    let r = ready (c .before .before .before .before .before) in
-    (r .0, r .1, r .2, omega arith, omega arith)
+lay-requires c κs = let s = start (c .before .before) in (omega (arith, small s), s .pre .2, omega arith, omega arith)
 
 same-length : tie.Need-same-length
 same-length c = search needs
 
--- the test is whether it is 0
-zero : (c : tie.Then1) → pos 0 ≡ stepHere (c .before .before .before .before .args .positions .now) (c .before .before .before .before .args .i)
-zero c = sym (ap (toZ w64) (c .if1 .taken)) ∙ step-is (c .before)
-
 returns : tie.Need-returns
 returns c =
-    let k = c .before .before .before .before in
-    let s = k .before .before .before .before in
-    let ts = s .args .positions .now in
-    let i = s .args .i in
-    rw (step-more ts i (s .pre .0) (s .pre .1 .here) 1 0 (subst (λ (z : ℤ). Coded 1 0 z) (zero k) zero-coded))
-    (c .before .before .lay .ensures (positionBits rows (take i ts)) (s .pre .2))
+    let laid = c .before .before in
+    let at-test = laid .before .before in
+    let k = at-test .before in
+    let s = start k in
+    let e = laid .lay .ensures in
+    let zero : pos 0 ≡ stepHere (positions s) (s .args .i) = sym (ap (toZ w64) (at-test .if1 .taken)) ∙ step-is k in
+    let bits : bitsOf 1 0 ≡ code rows (stepHere (positions s) (s .args .i)) = rows-zero-code ∙ ap (code rows) zero in
+    let f = rw (bits, ← after-it k) at (e .2 (before-it s) (s .pre .3)) in
+    (e .1, f .0, f .1)
 
 code-of-requires : tie.Need-code-of-requires
 code-of-requires c κs =
-    let s = c .before .before .before .before in
-    ap (inTable rows) (step-is (c .before)) ∙ valid-here (s .args .positions .now) (s .args .i) (s .pre .0) (s .pre .1 .here) rows (s .pre .1 .valid)
+    let k = c .before in
+    let s = start k in
+    ap (inTable rows) (step-is k) ∙ valid-here (positions s) (s .args .i) (s .pre .0) (s .pre .1 .here) rows (s .pre .1 .valid)
 
-lay-requires-2 : tie.Need-lay-requires-2
-lay-requires-2 c κs =
-    let r = ready (c .before .before .before .before .before .before) in
-    let e = c .before .code-of .ensures in
-    (r .0, r .1, r .2, e .few, e .fits)
+lay-both-requires : tie.Need-lay-both-requires
+lay-both-requires c κs =
+    let coded = c .before in
+    let s = start (coded .before .before) in
+    let e = coded .code-of .ensures in
+    (small s, s .pre .2, e .some, e .short, e .prefix, e .narrow, e .rest)
 
 same-length-2 : tie.Need-same-length-2
 same-length-2 c = search needs
 
 returns-2 : tie.Need-returns-2
 returns-2 c =
-    let k = c .before .before .before .before in
-    let s = k .before .before .before .before .before in
-    let ts = s .args .positions .now in
-    let i = s .args .i in
-    let g = k .code-of in
-    rw (step-more ts i (s .pre .0) (s .pre .1 .here) (g .result .len) (g .result .word) (subst (λ (z : ℤ). Coded (g .result .len) (g .result .word) z) (step-is (k .before .before)) (g .ensures)))
-    (c .before .before .lay2 .ensures (positionBits rows (take i ts)) (s .pre .2))
+    let laid = c .before .before in
+    let coded = laid .before .before in
+    let k = coded .before .before in
+    let s = start k in
+    let e = laid .lay-both .ensures in
+    let f = rw (coded .code-of .ensures .bits, step-is k, ← after-it k) at (e .2 (before-it s) (s .pre .3)) in
+    (e .1, f .0, f .1)
 
 pub put-point-spec : {M : Type 1} → statement M
 put-point-spec =
@@ -88,6 +103,6 @@ put-point-spec =
     same-length
     returns
     code-of-requires
-    lay-requires-2
+    lay-both-requires
     same-length-2
     returns-2)

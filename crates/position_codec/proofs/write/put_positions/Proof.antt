@@ -8,19 +8,20 @@ use borrow.Author.Needs.{needs}
 use lib.ListN.{length, take}
 use lib.Seq.{take-all}
 use Rattle.lists.proofs.Below.{below-of}
+use Rattle.bits.specs.Sinks.{Sound, Held, PlacedBits}
 use Rattle.position_format.specs.Rows.{rows}
 use Rattle.position_format.specs.Positions.{positionBits, codedPositions}
 use Rattle.position_format.proofs.Rows.{rows-good}
 use Rattle.position_format.proofs.Positions.{positions-below}
-use Rattle.position_codec.specs.Sinks.{Held, Stored}
-use Rattle.position_codec.proofs.Points.{bits-le}
+use Rattle.position_format.proofs.Sizes.{bits-most}
+use Rattle.position_codec.proofs.Rows.{rows-lengths}
 use Rattle.position_codec.proofs.write.put_positions.Statement.{statement}
 use Rattle.position_codec.proofs.write.put_positions.Tie as tie
 
 abbrev Inv-loop : tie.InvT-loop
 Inv-loop positions out₀ s₀ i₀ out s i =
-    (2 ≤ i) × (length out ≡ length out₀) × Held (positionBits rows (take i positions)) (s .at) (s .held) (s .width)
-    × ((o : List ℕ) → Stored o out₀ (positionBits rows (take 2 positions)) (s₀ .at) → Stored o out (positionBits rows (take i positions)) (s .at))
+    (2 ≤ i) × (length out ≡ length out₀) × Sound s × Held (positionBits rows (take i positions)) s
+    × ((o : List ℕ) → PlacedBits (positionBits rows (take 2 positions)) (s₀ .at) o out₀ → PlacedBits (positionBits rows (take i positions)) (s .at) o out)
 
 abbrev μ-loop : tie.MeasureT-loop
 μ-loop positions out₀ s₀ i₀ out s i = length positions - i
@@ -29,13 +30,21 @@ put-first-requires : tie.Need-put-first-requires Inv-loop μ-loop
 put-first-requires c κs = search needs
 
 loop-holds : tie.Need-loop-holds Inv-loop μ-loop
-loop-holds c = let f = c .before .before .put-first .ensures in (omega arith, refl, f .0, λ o t. t)
+loop-holds c = let f = c .before .before .put-first .ensures in (omega arith, refl, f .0, f .1, λ o t. t)
+
+-- at the loop's head: where the first two points are written, and the start
+abbrev first : tie.At-loop Inv-loop μ-loop → tie.After-put-first Inv-loop μ-loop
+first c = c .before .before .before
+
+abbrev start : tie.At-loop Inv-loop μ-loop → tie.Start Inv-loop μ-loop
+start c = first c .before .before .before .before
 
 put-point-requires : tie.Need-put-point-requires Inv-loop μ-loop
 put-point-requires c κs =
-    let p = c .before .before .before .before .before .before .before .before .before .pre in
-    let l = c .before .before .loop .inv in
-    (l .0, record { valid = p .0; many = p .1; here = c .before .loop-test .taken }, l .2)
+    let head = c .before .before in
+    let p = start head .pre in
+    let l = head .loop .inv in
+    (l .0, record { valid = p .0; many = p .1; here = c .before .loop-test .taken }, l .2, l .3)
 
 add-i : tie.Need-add-i Inv-loop μ-loop
 add-i c = omega arith
@@ -45,21 +54,26 @@ loop-less c = omega arith
 
 loop-again : tie.Need-loop-again Inv-loop μ-loop
 loop-again c =
-    let l = c .before .before .before .before .before .loop in
-    let e = c .before .before .put-point .ensures in
-    (omega arith, c .before .before .put-point .kept .1 .1 .0 ∙ l .inv .1, e .0, λ o t. e .1 o (l .inv .3 o t))
+    let put = c .before .before in
+    let head = put .before .before .before in
+    let l = head .loop in
+    let e = put .put-point .ensures in
+    (omega arith, put .put-point .kept .1 .1 .0 ∙ l .inv .1, e .0, e .1, λ o t. e .2 o (l .inv .4 o t))
 
 -- all points are passed
-done : (ts : List ℕ) (i at held width : ℕ) → length ts ≤ i → Held (positionBits rows (take i ts)) at held width → Held (positionBits rows ts) at held width
-done ts i at held width h l = rw (take-all i ts h) at l
+done : (c : tie.After-loop Inv-loop μ-loop) → let head = c .before in let ts = start head .args .positions .now in
+    Held (positionBits rows ts) (head .loop .s) × PlacedBits (positionBits rows ts) (head .loop .s .at) (start head .args .out .now) (head .loop .out)
+done c =
+    let head = c .before in
+    let all = take-all (head .loop .i) (start head .args .positions .now) (c .loop-test .left) in
+    (rw all at (head .loop .inv .3), rw all at (head .loop .inv .4 (start head .args .out .now) (first head .put-first .ensures .2)))
 
 put-last-requires : tie.Need-put-last-requires Inv-loop μ-loop
 put-last-requires c κs =
-    let s = c .before .before .before .before .before .before .before .before .before in
-    let l = c .before .before .loop in
+    let end = c .before in
+    let s = start (end .before) in
     let ts = s .args .positions .now in
-    let h = done ts (l .i) (l .s .at) (l .s .held) (l .s .width) (c .before .loop-test .left) (l .inv .2) in
-    (omega (arith, h .size, bits-le ts (s .pre .0), s .pre .1), h .small, h .fits)
+    (omega (arith, done end .0 .size, bits-most 1 69 rows rows-lengths ts (s .pre .0), s .pre .1), end .before .loop .inv .2)
 
 same-length : tie.Need-same-length Inv-loop μ-loop
 same-length c = search needs
@@ -67,15 +81,13 @@ same-length c = search needs
 returns : tie.Need-returns Inv-loop μ-loop
 unfolding codedPositions
 returns c =
-    let s = c .before .before .before .before .before .before .before .before .before .before .before .before in
-    let l = c .before .before .before .before .before .loop in
+    let put = c .before .before in
+    let end = put .before .before in
+    let head = end .before in
+    let s = start head in
+    let o = s .args .out .now in
     let ts = s .args .positions .now in
-    let all : length ts ≤ l .i = c .before .before .before .before .loop-test .left in
-    c .before .before .put-last .ensures (s .args .out .now) (positionBits rows ts)
-    (below-of 256 (s .args .out .now) (λ i. c .before .before .before .before .before .before .before .before .before .before .slice-known .given i .fits))
-    (positions-below rows rows-good ts (s .pre .0))
-    (done ts (l .i) (l .s .at) (l .s .held) (l .s .width) all (l .inv .2))
-    (rw (take-all (l .i) ts all) at (l .inv .3 (s .args .out .now) (c .before .before .before .before .before .before .before .before .put-first .ensures .1)))
+    put .put-last .ensures o (positionBits rows ts) (below-of 256 o (λ i. first head .before .before .slice-known .given i .fits)) (positions-below rows rows-good ts (s .pre .0)) (done end .0) (done end .1)
 
 pub put-positions-spec : {M : Type 1} → statement M
 put-positions-spec =

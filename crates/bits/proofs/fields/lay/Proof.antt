@@ -1,0 +1,95 @@
+-- `fields::lay` meets its contract: the bits fit the word beside those held, or they fill it.
+use Prim.Native.Nat.{_+_, _-_}
+use native.Mathlib.Omega.{arith}
+use borrow.Author.Needs.{needs}
+use Rattle.bits.proofs.Sinks.{beside-sound, beside-laid, word-fits, past-sound, past-laid}
+use Rattle.bits.proofs.Word.{mask-pos, two-fits}
+use Rattle.bits.proofs.fields.lay.Statement.{statement}
+use Rattle.bits.proofs.fields.lay.Tie as tie
+
+add-width : tie.Need-add-width
+add-width c = search needs
+
+shl-t12 : tie.Need-shl-t12
+shl-t12 c = search needs
+
+add-t13 : tie.Need-add-t13
+add-t13 c =
+    let start = c .before .before in
+    let a = start .args in
+    let p = start .pre in
+    record { fits = two-fits (a .s .width) (a .n) (p .1 .fits) (p .3) (omega arith) }
+
+returns : tie.Need-returns
+returns c =
+    let start = c .before .before in
+    let a = start .args in
+    let p = start .pre in
+    let few = c .if1 .taken in
+    (omega arith, beside-sound (a .s) (p .1) (a .n) (a .w) (p .3) few, beside-laid (a .s) (p .1) (a .n) (a .w) (p .3) few (a .out .now))
+
+sub-put-word : tie.Need-sub-put-word
+sub-put-word c = search needs
+
+shl-put-word : tie.Need-shl-put-word
+shl-put-word c = search needs
+
+shr-put-word : tie.Need-shr-put-word
+shr-put-word c = search needs
+
+add-put-word : tie.Need-add-put-word
+add-put-word c =
+    let start = c .before .before .before in
+    let a = start .args in
+    let p = start .pre in
+    record { fits = word-fits (a .s) (p .1) (a .n) (a .w) (p .2) (p .3) (c .before .if1 .left) }
+
+put-word-requires : tie.Need-put-word-requires
+put-word-requires c κs = search needs
+
+add-t17 : tie.Need-add-t17
+add-t17 c = search needs
+
+shl-t22 : tie.Need-shl-t22
+shl-t22 c = search needs
+
+rem-t21 : tie.Need-rem-t21
+rem-t21 c =
+    let at-test = c .before .before .before .before in
+    let a = at-test .before .before .args in
+    mask-pos (a .s .width + a .n - 64) (omega arith)
+
+same-length : tie.Need-same-length
+same-length c = search needs
+
+returns-2 : tie.Need-returns-2
+returns-2 c =
+    let put = c .before .before in
+    let at-test = put .before .before in
+    let start = at-test .before .before in
+    let a = start .args in
+    let p = start .pre in
+    let many = at-test .if1 .left in (
+      omega arith,
+      past-sound (a .s) (p .1) (a .n) (a .w) (p .2) (p .3) many,
+      rw (put .put-word .ensures) (past-laid (a .s) (p .1) (a .n) (a .w) (p .2) (p .3) many (a .out .now)),
+    )
+
+pub lay-spec : {M : Type 1} → statement M
+lay-spec =
+    tie.close
+    (tie.spec
+    add-width
+    shl-t12
+    add-t13
+    returns
+    sub-put-word
+    shl-put-word
+    shr-put-word
+    add-put-word
+    put-word-requires
+    add-t17
+    shl-t22
+    rem-t21
+    same-length
+    returns-2)

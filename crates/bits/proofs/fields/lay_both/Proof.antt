@@ -1,0 +1,73 @@
+-- `fields::lay_both` meets its contract: as one field, or as one after the other.
+use native.Mathlib.Omega.{arith}
+use borrow.Author.Needs.{needs}
+use Rattle.bits.specs.Digits.{bitsOf}
+use Rattle.bits.proofs.Sinks.{laid-laid}
+use Rattle.bits.proofs.Word.{two-lt, two-fits, two-bits}
+use Rattle.bits.proofs.fields.lay_both.Statement.{statement}
+use Rattle.bits.proofs.fields.lay_both.Tie as tie
+
+add-n : tie.Need-add-n
+add-n c = search needs
+
+shl-lay : tie.Need-shl-lay
+shl-lay c = search needs
+
+add-lay : tie.Need-add-lay
+add-lay c =
+    let start = c .before .before .before in
+    let a = start .args in
+    record { fits = two-fits (a .p) (a .k) (start .pre .4) (start .pre .6) (c .before .if1 .taken) }
+
+lay-requires : tie.Need-lay-requires
+lay-requires c κs =
+    let start = c .before .before .before in
+    let a = start .args in
+    let fit = c .before .if1 .taken in
+    (omega arith, start .pre .1, fit, two-lt (a .p) (a .k) (start .pre .4) (start .pre .6) fit)
+
+same-length : tie.Need-same-length
+same-length c = search needs
+
+returns : tie.Need-returns
+returns c =
+    let laid = c .before .before in
+    let at-test = laid .before .before in
+    let start = at-test .before .before in
+    let a = start .args in
+    let e = laid .lay .ensures in
+    (omega (arith, e .0), e .1, rw (two-bits (a .p) (a .k) (start .pre .4) (start .pre .6) (at-test .if1 .taken)) at (e .2))
+
+lay-requires-2 : tie.Need-lay-requires-2
+lay-requires-2 c κs = search needs
+
+lay-requires-3 : tie.Need-lay-requires-3
+lay-requires-3 c κs = search needs
+
+same-length-2 : tie.Need-same-length-2
+same-length-2 c = search needs
+
+returns-2 : tie.Need-returns-2
+returns-2 c =
+    let second = c .before .before in
+    let first = second .before .before .before .before in
+    let start = first .before .before .before .before in
+    let a = start .args in
+    let e = first .lay2 .ensures in
+    let f = second .lay3 .ensures in
+    (omega (arith, e .0, f .0), f .1, laid-laid (bitsOf (a .p) (a .x)) (bitsOf (a .k) (a .y)) (a .s) _ _ (a .out .now) _ _ (e .2) (f .2))
+
+pub lay-both-spec : {M : Type 1} → statement M
+lay-both-spec =
+    tie.close
+    (tie.spec
+    add-n
+    shl-lay
+    add-lay
+    lay-requires
+    same-length
+    returns
+    lay-requires-2
+    lay-requires-3
+    same-length-2
+    returns-2)

@@ -1,0 +1,49 @@
+-- `early` meets its contract: the number counted from the lowest step of the row before.
+use mathlib.Core.Path.{ap₂, _∙_}
+use Prim.Native.Nat.{ℕ, _+_, _-_, _/_, _%_}
+use lib.Dec.{ltb}
+use native.Mathlib.Omega.{arith}
+use Rattle.position_format.specs.Rows.{rows}
+use Rattle.position_format.proofs.Rows.{rows-good}
+use Rattle.position_format.proofs.Ranges.{before-counted}
+use Rattle.position_codec.proofs.Rows.{rows-count, rows-widening}
+use borrow.Author.Needs.{needs}
+use Rattle.position_codec.proofs.table.early.Statement.{statement}
+use Rattle.position_codec.proofs.table.early.Tie as tie
+
+size-of-requires : tie.Need-size-of-requires
+size-of-requires c κs = search needs
+
+sub-size-of : tie.Need-sub-size-of
+sub-size-of c = search needs
+
+size-of-requires-2 : tie.Need-size-of-requires-2
+size-of-requires-2 c κs = search needs
+
+sub-result : tie.Need-sub-result
+sub-result c = search needs
+
+add-result : tie.Need-add-result
+add-result c = search needs
+
+rem-result : tie.Need-rem-result
+rem-result c = search needs
+
+returns : tie.Need-returns
+returns c =
+    let s = c .before .before in
+    let a = s .args in
+    ap₂ (λ (m n : ℕ). ltb ((a .x + (n - 1) / 2) % m) n) (c .before .size-of .ensures .0) (c .size-of2 .ensures .0)
+    ∙ before-counted rows rows-good rows-widening (a .row) (omega (arith, s .pre .1, rows-count)) (a .x) (s .pre .2) (s .pre .0)
+
+pub early-spec : {M : Type 1} → statement M
+early-spec =
+    tie.close
+    (tie.spec
+    size-of-requires
+    sub-size-of
+    size-of-requires-2
+    sub-result
+    add-result
+    rem-result
+    returns)

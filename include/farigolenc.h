@@ -1,4 +1,4 @@
-/* farigolenc: run records and live coding of ratios, as document 01 says.
+/* farigolenc: run records and live coding of ratios, as docs/FORMAT.md says.
  *
  * A run is a rate, a list of positions (0 to 2^62 - 1) and as many ratios, at
  * most 4096 of each. A ratio is the 64 bits of an IEEE 754 double; all calls
@@ -52,6 +52,13 @@
 
 #ifndef FARIGOLENC_H
 #define FARIGOLENC_H
+
+/* The version of this header. The major number grows by one, and the minor goes
+ * back to 0, when something that stands here changes or goes, so that a program
+ * must be looked at and compiled again; the minor grows by one when something is
+ * added. Records have no version. */
+#define FARIGOLENC_VERSION_MAJOR 1
+#define FARIGOLENC_VERSION_MINOR 0
 
 #include <stddef.h>
 #include <stdint.h>

@@ -1,0 +1,354 @@
+/* What the library says to the examples of docs/FORMAT.md, in the words of that page.
+   record BYTE..                   strict reading, with room for three points: all that it gives, a line each
+   reading RATE ROOM ROOM BYTE..   strict and open reading, a line each, `10 at 0` or `taken`, with this rate expected
+                                   and room for so many positions and ratios
+   step NUMBER                     the bits that a third position with this step adds to the body, or the refusal
+   coded POSITION..                the body of field 3 of these positions
+   positions COUNT BYTE..          the positions of this body of field 3, or the refusal's number
+   form RATIO..                    the bytes of the last of these ratios
+   ratios COUNT BYTE..             the ratios of this body of field 4, read strictly and openly, a line each
+   live FILL SEEN                  the number that an addition to this state gives
+   reader FILL SEEN COUNT OFFSET LENGTH   the number that a step of this reader gives, over so many bytes 00
+   widths                          sign and bits of the integers, in the order of the page
+   version                         that of the header
+   Bytes and ratios are hex; `none` stands for none of them, and for no rate expected. */
+#include "farigolenc.h"
+
+#include <inttypes.h>
+#include <stdio.h>
+#include <stdlib.h>
+#include <string.h>
+
+enum { POINTS = FARIGOLENC_POINTS, LENGTH = 0xFFFF, BYTES = 18 + 2 * LENGTH + 16 };
+
+typedef farigolenc_read_answer reading(
+    uint32_t, const uint8_t *, size_t, uint64_t *, size_t, uint64_t *, size_t);
+static reading *const readings[2] = {farigolenc_read_strict, farigolenc_read_open};
+
+static uint8_t bytes[BYTES], body[BYTES];
+static size_t length, body_length;
+static uint64_t positions[POINTS], ratios[POINTS];
+
+static size_t take_bytes(char **words, uint8_t *to)
+{
+    size_t taken;
+    for (taken = 0; *words != NULL && strcmp(*words, "none") != 0; words++) {
+        if (taken == BYTES || strlen(*words) != 2) {
+            exit(2);
+        }
+        to[taken++] = (uint8_t)strtoul(*words, NULL, 16);
+    }
+    return taken;
+}
+
+static uint64_t decimal(const char *word)
+{
+    return strtoull(word, NULL, 10);
+}
+
+static void number(uint64_t value, int size)
+{
+    while (size-- > 0) {
+        bytes[length++] = (uint8_t)(value >> 8 * size);
+    }
+}
+
+/* Fields 1 and 2, and the head of field 3. */
+static void begin(size_t count, size_t third)
+{
+    if (count > POINTS || body_length > LENGTH) {
+        exit(2);
+    }
+    length = 0;
+    number(UINT64_C(0x01000400017700), 7);
+    number(UINT64_C(0x020002), 3);
+    number(count, 2);
+    number(3, 1);
+    number(third, 2);
+}
+
+static void put_body(void)
+{
+    memcpy(bytes + length, body, body_length);
+    length += body_length;
+}
+
+static farigolenc_read_answer read_all(int open)
+{
+    return readings[open](0, bytes, length, positions, POINTS, ratios, POINTS);
+}
+
+static void print_bytes(const uint8_t *from, size_t size)
+{
+    size_t i;
+    for (i = 0; i < size; i++) {
+        printf("%s%02X", i == 0 ? "" : " ", from[i]);
+    }
+    putchar('\n');
+}
+
+static void print_positions(uint32_t count)
+{
+    uint32_t i;
+    for (i = 0; i < count; i++) {
+        printf("%s%" PRIu64, i == 0 ? "" : " ", positions[i]);
+    }
+    printf("%s\n", count == 0 ? "none" : "");
+}
+
+static void print_ratios(uint32_t count)
+{
+    uint32_t i;
+    for (i = 0; i < count; i++) {
+        printf("%s%016" PRIX64, i == 0 ? "" : " ", ratios[i]);
+    }
+    printf("%s\n", count == 0 ? "none" : "");
+}
+
+static void record(char **words)
+{
+    farigolenc_read_answer read;
+    length = take_bytes(words, bytes);
+    read = farigolenc_read_strict(0, bytes, length, positions, 3, ratios, 3);
+    printf("number %" PRIu32 "\nplace %" PRIu32 "\nrate %" PRIu32 "\ncount %" PRIu32 "\nused %" PRIu64 "\npositions ",
+           read.number, read.place, read.rate, read.count, read.used);
+    print_positions(read.count);
+    printf("ratios ");
+    print_ratios(read.count);
+}
+
+/* Whether an output is 0 as far as it was lent, and past that as it was. */
+static int cleared(const uint64_t *output, size_t room, uint64_t held)
+{
+    size_t i;
+    for (i = 0; i < POINTS; i++) {
+        if (output[i] != (i < room ? 0 : held)) {
+            return 0;
+        }
+    }
+    return 1;
+}
+
+static void both_readings(uint32_t expected, size_t positions_room, size_t ratios_room)
+{
+    const uint64_t held = UINT64_C(0xA5A5A5A5A5A5A5A5);
+    int open;
+    for (open = 0; open < 2; open++) {
+        farigolenc_read_answer read;
+        memset(positions, 0xA5, sizeof positions);
+        memset(ratios, 0xA5, sizeof ratios);
+        read = readings[open](expected, bytes, length, positions, positions_room, ratios, ratios_room);
+        if (read.number == 0) {
+            printf(read.place == 0 && read.used <= length ? "taken\n" : "taken, with a wrong place or length\n");
+        } else if (read.rate == 0 && read.count == 0 && read.used == 0 && cleared(positions, positions_room, held) &&
+                   cleared(ratios, ratios_room, held)) {
+            printf("%" PRIu32 " at %" PRIu32 "\n", read.number, read.place);
+        } else {
+            printf("%" PRIu32 " at %" PRIu32 ", and not cleared\n", read.number, read.place);
+        }
+    }
+}
+
+static void step(int64_t step)
+{
+    const uint64_t middle = UINT64_C(1) << 40, run[3] = {middle, middle, middle + (uint64_t)step};
+    farigolenc_write_answer written = farigolenc_write(48000, run, 3, ratios, 3, bytes, sizeof bytes);
+    size_t i;
+    if (written.number != 0) {
+        printf("refused %" PRIu32 " at %" PRIu32 "\n", written.number, written.place);
+        return;
+    }
+    for (i = 8 * 31; i < 8 * (15 + (size_t)(bytes[13] * 256 + bytes[14])); i++) {
+        putchar('0' + (bytes[i / 8] >> (7 - i % 8) & 1));
+    }
+    putchar('\n');
+}
+
+static void coded(size_t count, char **words)
+{
+    size_t i;
+    if (count > POINTS) {
+        exit(2);
+    }
+    for (i = 0; i < count; i++) {
+        positions[i] = decimal(words[i]);
+    }
+    if (farigolenc_write(48000, positions, count, ratios, count, bytes, sizeof bytes).number != 0) {
+        exit(2);
+    }
+    print_bytes(bytes + 15, (size_t)(bytes[13] * 256 + bytes[14]));
+}
+
+static void form(char **words)
+{
+    farigolenc_live state = farigolenc_live_new();
+    farigolenc_write_answer added = {0, 0, 0};
+    for (; *words != NULL; words++) {
+        added = farigolenc_live_add(&state, strtoull(*words, NULL, 16), bytes, FARIGOLENC_FORM);
+    }
+    print_bytes(bytes, (size_t)added.length);
+}
+
+/* A record with this body in field 3, and ratios that are all 0. */
+static void body_of_positions(size_t count)
+{
+    const size_t fourth = count == 0 ? 0 : 8 + count;
+    int open;
+    begin(count, body_length);
+    put_body();
+    number(4, 1);
+    number(fourth, 2);
+    memset(bytes + length, 0, fourth);
+    if (fourth > 0) {
+        bytes[length] = 0xFF;
+    }
+    length += fourth;
+    for (open = 0; open < 2; open++) {
+        farigolenc_read_answer read = read_all(open);
+        if (read.number != 0) {
+            printf("%" PRIu32 "\n", read.number);
+        } else {
+            print_positions(read.count);
+        }
+    }
+}
+
+/* A record with this body in field 4, and positions that are all 0. */
+static void body_of_ratios(size_t count)
+{
+    const size_t third = count < 2 ? 8 * count : 16 + (count - 2 + 7) / 8;
+    int open;
+    begin(count, third);
+    memset(bytes + length, 0, third);
+    length += third;
+    number(4, 1);
+    number(body_length, 2);
+    put_body();
+    for (open = 0; open < 2; open++) {
+        farigolenc_read_answer read = read_all(open);
+        if (read.number != 0) {
+            printf("%" PRIu32 "\n", read.number);
+        } else {
+            print_ratios(read.count);
+        }
+    }
+}
+
+static void live(char **words)
+{
+    farigolenc_live state = farigolenc_live_new();
+    state.fill = decimal(words[0]);
+    state.seen = decimal(words[1]);
+    printf("%" PRIu32 "\n", farigolenc_live_add(&state, 0, bytes, FARIGOLENC_FORM).number);
+}
+
+static void reader(char **words)
+{
+    farigolenc_cursor state = farigolenc_cursor_new(0).cursor;
+    state.fill = decimal(words[0]);
+    state.seen = decimal(words[1]);
+    state.count = decimal(words[2]);
+    state.place = decimal(words[3]);
+    body_length = (size_t)decimal(words[4]);
+    if (body_length > sizeof body) {
+        exit(2);
+    }
+    printf("%" PRIu32 "\n", farigolenc_step(body, body_length, state).number);
+}
+
+/* What is lent, by types that the header's declarations must have. */
+typedef uint32_t lent_rate;
+typedef uint64_t lent_point, lent_count;
+static farigolenc_write_answer (*const write_call)(
+    lent_rate, const lent_point *, size_t, const lent_point *, size_t, uint8_t *, size_t) = farigolenc_write;
+static farigolenc_read_answer (*const read_calls[2])(
+    lent_rate, const uint8_t *, size_t, lent_point *, size_t, lent_point *, size_t) = {farigolenc_read_strict, farigolenc_read_open};
+static farigolenc_span_answer (*const span_call)(lent_rate, const lent_point *, size_t) = farigolenc_span;
+static farigolenc_write_answer (*const add_call)(farigolenc_live *, lent_point, uint8_t *, size_t) = farigolenc_live_add;
+static farigolenc_cursor_answer (*const making_call)(lent_count) = farigolenc_cursor_new;
+
+/* Sign and bits of one integer. */
+#define WIDTH(integer) ((integer) = -1, printf("%s\t%d\n", (integer) > 0 ? "unsigned" : "signed", (int)(8 * sizeof(integer))))
+
+/* The same of several that must agree. */
+#define SAME(one, other) ((one) = -1, (other) = -1, (sizeof(one) == sizeof(other) && ((one) > 0) == ((other) > 0)) ? (void)0 : exit(2))
+
+static void widths(void)
+{
+    lent_rate rate;
+    lent_point point;
+    lent_count count;
+    farigolenc_write_answer written;
+    farigolenc_read_answer read;
+    farigolenc_span_answer span;
+    farigolenc_cursor_answer made;
+    farigolenc_step_answer stepped;
+    farigolenc_live state;
+    farigolenc_cursor cursor;
+    if (!write_call || !read_calls[0] || !read_calls[1] || !span_call || !add_call || !making_call) {
+        exit(2);
+    }
+    WIDTH(rate);
+    WIDTH(point);
+    SAME(read.number, read.place);
+    SAME(read.number, written.number);
+    SAME(read.number, written.place);
+    SAME(read.number, span.number);
+    SAME(read.number, span.place);
+    SAME(read.number, made.number);
+    SAME(read.number, made.place);
+    SAME(read.number, stepped.number);
+    SAME(read.number, stepped.place);
+    WIDTH(read.number);
+    SAME(read.rate, read.count);
+    WIDTH(read.rate);
+    WIDTH(written.length);
+    WIDTH(read.used);
+    WIDTH(span.milliseconds);
+    WIDTH(count);
+    WIDTH(stepped.ratio);
+    SAME(state.fill, state.seen);
+    SAME(state.fill, cursor.fill);
+    SAME(state.fill, cursor.seen);
+    SAME(state.fill, cursor.count);
+    SAME(state.fill, cursor.place);
+    WIDTH(state.fill);
+}
+
+int main(int count, char **words)
+{
+    const char *mode = count > 1 ? words[1] : "";
+    if (strcmp(mode, "record") == 0) {
+        record(words + 2);
+    } else if (strcmp(mode, "reading") == 0 && count > 5) {
+        const uint64_t room[2] = {decimal(words[3]), decimal(words[4])};
+        length = take_bytes(words + 5, bytes);
+        if (room[0] > POINTS || room[1] > POINTS) {
+            return 2;
+        }
+        both_readings(strcmp(words[2], "none") == 0 ? 0 : (uint32_t)decimal(words[2]), (size_t)room[0], (size_t)room[1]);
+    } else if (strcmp(mode, "step") == 0 && count == 3) {
+        step(strtoll(words[2], NULL, 10));
+    } else if (strcmp(mode, "coded") == 0) {
+        coded((size_t)count - 2, words + 2);
+    } else if (strcmp(mode, "positions") == 0 && count > 3) {
+        body_length = take_bytes(words + 3, body);
+        body_of_positions((size_t)decimal(words[2]));
+    } else if (strcmp(mode, "form") == 0) {
+        form(words + 2);
+    } else if (strcmp(mode, "ratios") == 0 && count > 3) {
+        body_length = take_bytes(words + 3, body);
+        body_of_ratios((size_t)decimal(words[2]));
+    } else if (strcmp(mode, "live") == 0 && count == 4) {
+        live(words + 2);
+    } else if (strcmp(mode, "reader") == 0 && count == 7) {
+        reader(words + 2);
+    } else if (strcmp(mode, "widths") == 0) {
+        widths();
+    } else if (strcmp(mode, "version") == 0) {
+        printf("%d.%d\n", FARIGOLENC_VERSION_MAJOR, FARIGOLENC_VERSION_MINOR);
+    } else {
+        return 2;
+    }
+    return 0;
+}

@@ -7,3 +7,9 @@ pub mod write;
 pub use read::read_open;
 pub use read::read_strict;
 pub use write::encode;
+
+// The first byte of an xor form at place 0: below it a first byte is a place.
+pub const XOR: usize = 128;
+
+// The first byte of an exception.
+pub const EXCEPTION: usize = 255;

@@ -26,15 +26,17 @@ fn refuse_read(refusal: Refusal, positions: &mut [u64], ratios: &mut [u64]) -> R
     }
 }
 
-// The ratios of the fourth field, by the open rule or strictly.
+// The ratios of the fourth field, by the open rule or strictly: as many as the count, and every byte used.
 fn get_ratios(openly: bool, body: &[u8], count: usize, out: &mut [u64]) -> bool
     requires { ⌜ count ≤ length (now out) ⌝ }
     ensures { λ r. ⌜ Filled (ratiosBy openly count (now (body .entry))) r (now (out .entry)) (now (out .exit)) ⌝ }
 {
     if openly {
-        ratio_bodies::get_open(body, count, out)
+        let took = ratio_bodies::get_open(body, count, out);
+        took.whole(count, body.len())
     } else {
-        ratio_bodies::get_strict(body, count, out)
+        let took = ratio_bodies::get_strict(body, count, out);
+        took.whole(count, body.len())
     }
 }
 

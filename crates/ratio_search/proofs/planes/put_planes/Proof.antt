@@ -1,7 +1,7 @@
 -- `put_planes` meets its contract. The invariant: the lowest j bytes are put, and all other slots stay.
 use Prim.Native.Nat.{_-_}
 use native.Mathlib.Omega.{arith}
-use Rattle.ratio_search.proofs.Slots.{Put, put-none, put-more}
+use Rattle.ratio_search.proofs.BytePlanes.{Put, put-none, put-more}
 use Rattle.ratio_search.proofs.planes.put_planes.Statement.{statement}
 use Rattle.ratio_search.proofs.planes.put_planes.Tie as tie
 

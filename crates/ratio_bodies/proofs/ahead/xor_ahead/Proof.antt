@@ -20,7 +20,7 @@ add-if1 c = omega (arith, c .shared-slice-known2 .given (c .before .before .args
 returns : tie.Need-returns
 returns c =
     let d = c .before .before .before in
-    xor-ahead-high (d .args .u) (d .args .at) (d .args .body .now) (d .pre) (c .if1 .taken)
+    xor-ahead-high (d .args .u) (d .args .at) (d .args .body .now) (d .pre) (omega (arith, c .if1 .taken))
 
 add-get-first : tie.Need-add-get-first
 add-get-first c = search needs

@@ -56,8 +56,8 @@ pub trailing-more : (ns l : List ℕ) (i : ℕ) → Indexed ns l i → Trailing 
 trailing-more ns l i x = more ns l i (x .0) (λ j g. inl (x .1 j g))
 
 -- the last is noted, and with it all that are equal to it
-pub noted : (ns l : List ℕ) (i : ℕ) → 0 < i → Trailing ns l i → Indexed (set ns (keyOf (getD l (i - 1) 0)) (i - 1 + 1)) l i
-noted ns l i h x =
+pub indexed-noted : (ns l : List ℕ) (i : ℕ) → 0 < i → Trailing ns l i → Indexed (set ns (keyOf (getD l (i - 1) 0)) (i - 1 + 1)) l i
+indexed-noted ns l i h x =
     ((length-set ns key (i - 1 + 1) ∙ x .0 .0, λ k. within k (eqb key k) refl), λ j g. passed j g (eqb key (keyOf (getD l j 0))) refl)
   where
     key : ℕ
@@ -82,18 +82,18 @@ noted ns l i h x =
         go (inr f) = absurd (n (ap keyOf (sym f)))
 
 -- the reference at place p is written, where the ratio there is equal and no newer one is
-pub coded-at : (l : List ℕ) (i v p : ℕ) → i ≤ length l → p < windowSize → p < i → getD l (i - 1 - p) 0 ≡ v
+pub coded-newest : (l : List ℕ) (i v p : ℕ) → i ≤ length l → p < windowSize → p < i → getD l (i - 1 - p) 0 ≡ v
     → ((k : ℕ) → i - 1 - p < k → k < i → getD l k 0 ≡ v → ⊥) → coded v (windowOf windowSize (take i l)) ≡ p ∷ []
-coded-at l i v p h small in-list is newest =
+coded-newest l i v p h small in-list is newest =
     let w = windowOf windowSize (take i l) in
     coded-in w v p (window-has windowSize l i h p small in-list) (window-at windowSize l i h p small in-list ∙ is)
     ∙ ap (λ (k : ℕ). k ∷ []) (find-newest windowSize l i h v p small in-list is newest)
 
 -- what the index finds
-pub found-at : (ns l : List ℕ) (i n : ℕ) → i ≤ length l → Indexed ns l i → n ≡ getD ns (keyOf (getD l i 0)) 0 → (n ≡ 0 → ⊥) → i - n < windowSize
+pub indexed-found : (ns l : List ℕ) (i n : ℕ) → i ≤ length l → Indexed ns l i → n ≡ getD ns (keyOf (getD l i 0)) 0 → (n ≡ 0 → ⊥) → i - n < windowSize
     → getD l (n - 1) 0 ≡ getD l i 0 → coded (getD l i 0) (windowOf windowSize (take i l)) ≡ (i - n) ∷ []
-found-at ns l i n h x is some small e =
+indexed-found ns l i n h x is some small e =
     let most : n ≤ i = rw is (x .0 .1 (keyOf (getD l i 0))) in
     let z : i - 1 - (i - n) ≡ n - 1 = omega arith in
-    coded-at l i (getD l i 0) (i - n) h small (omega arith) (rw z e)
+    coded-newest l i (getD l i 0) (i - n) h small (omega arith) (rw z e)
     (λ k f g q. let later : k < n = rw is (rw q at (x .1 k g)) in omega arith)

@@ -1,11 +1,10 @@
--- Bytes put at the front of an output, by one or two stores and a run of bytes after them: what is then written.
+-- `over` by stores: one or two bytes set at the front of an output, and a run of bytes after them.
 use mathlib.Core.Path.{_≡_, refl, ap}
 use mathlib.Core.List.{List, [], _∷_, _++_}
 use Prim.Native.Nat.{ℕ, suc, _+_, _≤_}
 use native.Mathlib.Omega.{arith}
 use lib.ListN.{length, set, drop}
-use Rattle.outputs.specs.Outputs.{overAt}
-use Rattle.outputs.specs.Outputs.{over}
+use Rattle.outputs.specs.Outputs.{over, overAt}
 
 -- one byte
 pub over-one : (o : List ℕ) (b : ℕ) → 1 ≤ length o → set o 0 b ≡ over (b ∷ []) o

@@ -11,20 +11,20 @@ use lib.Seq.{getD-set-same, getD-set-other}
 use Rattle.ratio_search.specs.Planes.{byteAt, slots, cells, Planes, Kept}
 
 -- the planes ps after the lowest n bytes of v were put into the slot of i
-abbrev pub Put : List ℕ → ℕ → ℕ → List ℕ → ℕ → Type 0
-Put ps₀ i v ps n =
+abbrev pub InSlot : List ℕ → ℕ → ℕ → List ℕ → ℕ → Type 0
+InSlot ps₀ i v ps n =
     (n ≤ 8) × (length ps ≡ cells) × ((j : ℕ) → j < n → getD ps (j * slots + i % slots) 0 ≡ byteAt v j)
     × ((m : ℕ) → (m % slots ≡ i % slots → ⊥) → getD ps m 0 ≡ getD ps₀ m 0)
 
-pub put-none : (ps : List ℕ) (i v : ℕ) → length ps ≡ cells → Put ps i v ps 0
-put-none ps i v e = (omega arith, e, λ j h. absurd (omega arith), λ m n. refl)
+pub in-slot-none : (ps : List ℕ) (i v : ℕ) → length ps ≡ cells → InSlot ps i v ps 0
+in-slot-none ps i v e = (omega arith, e, λ j h. absurd (omega arith), λ m n. refl)
 
-module _ (ps₀ ps : List ℕ) (i v n b : ℕ) (p : Put ps₀ i v ps n) (h : n < 8) (e : b ≡ byteAt v n) where
+module _ (ps₀ ps : List ℕ) (i v n b : ℕ) (p : InSlot ps₀ i v ps n) (h : n < 8) (e : b ≡ byteAt v n) where
   abbrev at : ℕ
   at = n * slots + i % slots
 
-  pub put-more : Put ps₀ i v (set ps at b) (n + 1)
-  put-more = (
+  pub in-slot-more : InSlot ps₀ i v (set ps at b) (n + 1)
+  in-slot-more = (
     omega arith,
     length-set ps at b ∙ p .1,
     λ j g. byte j g (eqb j n) refl,

@@ -4,7 +4,7 @@ use Prim.Native.Nat.{ℕ, _≤_}
 use native.Mathlib.Omega.{arith}
 use borrow.Author.Needs.{needs}
 use lib.ListN.{getD}
-use Rattle.ratio_bodies.proofs.Indexes.{found-at}
+use Rattle.ratio_bodies.proofs.Indexes.{indexed-found}
 use Rattle.ratio_bodies.proofs.index.looked_up.Statement.{statement}
 use Rattle.ratio_bodies.proofs.index.looked_up.Tie as tie
 
@@ -58,7 +58,7 @@ returns-3 c = λ h.
     let d = key .before .before .before in
     let a = d .args in
     let k = key .key-of in
-    found-at (a .newest .now) (a .ratios .now) (a .i) (getD (a .newest .now) (k .result) 0) (omega arith) (d .pre .1) (ap (λ (m : ℕ). getD (a .newest .now) m 0) (k .ensures .0))
+    indexed-found (a .newest .now) (a .ratios .now) (a .i) (getD (a .newest .now) (k .result) 0) (omega arith) (d .pre .1) (ap (λ (m : ℕ). getD (a .newest .now) m 0) (k .ensures .0))
     (some .if1 .left) h (c .if3 .taken)
 
 returns-4 : tie.Need-returns-4

@@ -6,7 +6,7 @@ use native.Mathlib.Omega.{arith}
 use borrow.Author.Needs.{needs}
 use lib.ListN.{getD, set}
 use Rattle.ratio_bodies.specs.Indexes.{keyOf, Indexed}
-use Rattle.ratio_bodies.proofs.Indexes.{trailing-first, trailing-more, noted}
+use Rattle.ratio_bodies.proofs.Indexes.{trailing-first, trailing-more, indexed-noted}
 use Rattle.ratio_bodies.proofs.index.place_of.Statement.{statement}
 use Rattle.ratio_bodies.proofs.index.place_of.Tie as tie
 
@@ -35,7 +35,7 @@ passed : (d : tie.Start) → 0 < d .args .i → (ns : List ℕ) → ns ≡ set (
     → Indexed ns (d .args .ratios .now) (d .args .i)
 passed d h ns e =
     let a = d .args in
-    subst (λ (x : List ℕ). Indexed x (a .ratios .now) (a .i)) (sym e) (noted (a .newest .now) (a .ratios .now) (a .i) h (d .pre .2))
+    subst (λ (x : List ℕ). Indexed x (a .ratios .now) (a .i)) (sym e) (indexed-noted (a .newest .now) (a .ratios .now) (a .i) h (d .pre .2))
 
 looked-up-requires : tie.Need-looked-up-requires
 looked-up-requires c κs =

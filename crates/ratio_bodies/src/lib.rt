@@ -1,19 +1,20 @@
 // A whole list of ratios, the body of document 01's field 4: written and read in one pass. The window of a ratio is the part of the list
 // before it. Internal: callers meet each `requires`.
 //
-// Index (index.rt): writing knows the place of most equal ratios without a search. For each remainder of a value, one kilobyte in all, the index
-// names the newest ratio that has it; where that ratio is equal, no newer one is.
+// Index (index.rt): writing knows the place of most equal ratios without a search. For each remainder of a value, one kilobyte in all, the
+// index names the newest ratio that has it; where that ratio is equal, no newer one is.
 //
-// Repeats (repeats.rt): a ratio that is equal to the one before it is the reference 0. They are written in a run, and noted in the index once.
+// Repeats (repeats.rt): a ratio that is equal to the one before it is the reference 0. They are written in a run, and noted in the index
+// once.
 //
-// Choice (choice.rt): any other ratio takes a search over planes (`ratio_search`); with few ratios before it a plain scan (`ratio_codec`), which
-// needs no planes.
+// Choice (choice.rt): any other ratio takes a search over planes (`ratio_search`); with few ratios before it a plain scan (`ratio_codec`),
+// which needs no planes.
 //
-// Marks (strict.rt): in strict reading a mark says of each ratio of the window whether a later one is equal. A reference is the one that is written
-// where the mark of its ratio is not set. Of any other form the head must be that of the form which the writer chooses.
+// Marks (strict.rt): in strict reading a mark says of each ratio of the window whether a later one is equal. A reference is the one that is
+// written where the mark of its ratio is not set. Of any other form the head must be that of the form which the writer chooses.
 //
-// Ahead (ahead.rt): where ten bytes are left, the most that a form has, open reading needs one test of room for a ratio, and takes the middle of an
-// xor form by one load of eight bytes.
+// Ahead (ahead.rt): where ten bytes are left, the most that a form has, open reading needs one test of room for a ratio, and takes the
+// middle of an xor form by one load of eight bytes.
 ghost use mathlib.Core.Path.{_≡_};
 ghost use mathlib.Core.List.{[], _∷_};
 ghost use Prim.Native.Nat.{_-_, _≤_, _<_};
@@ -108,8 +109,8 @@ impl Took {
     }
 }
 
-// Ratios are read strictly from the front of the body, one after the other, at most `count` and up to the first bytes that are no written form
-// of a next ratio. They stand at the front of the output, whose rest stays.
+// Ratios are read strictly from the front of the body, one after the other, at most `count` and up to the first bytes that are no written
+// form of a next ratio. They stand at the front of the output, whose rest stays.
 pub fn get_strict(body: &[u8], count: usize, out: &mut [u64]) -> Took
     requires { ⌜ count ≤ length (now out) ⌝ }
     ensures { λ r. ⌜ TakenInto (strictTaken count (now (body .entry))) r (now (out .entry)) (now (out .exit)) ⌝ }

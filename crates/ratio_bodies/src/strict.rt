@@ -23,8 +23,8 @@ fn slot_of(i: usize, body: &[u8], at: usize) -> usize
     (i - 1 - place) % SLOTS
 }
 
-// Whether the n bytes at the offset `at`, which were read as v, are those that are written for v. A reference is, where its ratio does not occur
-// again.
+// Whether the n bytes at the offset `at`, which were read as v, are those that are written for v. A reference is, where its ratio does not
+// occur again.
 pub(crate) fn accepts(
     planes: &[u8; CELLS],
     again: &[u8; SLOTS],

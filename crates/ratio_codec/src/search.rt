@@ -1,6 +1,6 @@
-// The search for the ratio of a window that agrees with a given one in the most leading and trailing zero bytes: a plain scan from the newest
-// on, which needs nothing beside the window. A ratio is passed over where its xor is too large for a larger sum and ends in a byte other than 0;
-// once the best sum is 7 only an equal ratio is looked for. Live addition and stepping search so.
+// The search for the ratio of a window that agrees with a given one in the most leading and trailing zero bytes: a plain scan from the
+// newest on, which needs nothing beside the window. A ratio is passed over where its xor is too large for a larger sum and ends in a byte
+// other than 0; once the best sum is 7 only an equal ratio is looked for. Live addition and stepping search so.
 ghost use mathlib.Core.Path.{_≡_};
 ghost use mathlib.Core.List.{reverse};
 ghost use Prim.Native.Nat.{ℕ, _+_, _-_, _^_, _≤_};
@@ -59,7 +59,7 @@ fn pass(window: &[u64], from: usize, v: u64, sum: usize) -> usize
 
 // The largest sum at its smallest place. The newest ratio is looked at first, ratios that cannot have a larger sum are passed over, and
 // an equal one, whose sum is the largest there is, ends it.
-pub fn search(window: &[u64], v: u64) -> Best
+pub(crate) fn search(window: &[u64], v: u64) -> Best
     ensures { λ r. ⌜ (r .place ≡ best v (reverse (now (window .entry))) .place) × (r .sum ≡ best v (reverse (now (window .entry))) .sum) ⌝ }
 {
     let mut place: usize = 0;

@@ -108,17 +108,17 @@ open-taken n s = open-is windowSize [] n s ∙ read-taken openRead open-within w
 
 module _ (size : ℕ) (hz : size ≤ windowSize) where
   -- the bytes begin with the coding of what was taken
-  abbrev Front : List ℕ → List ℕ → Taken → Type 0
-  Front w s t = (s ≡ codedFrom size w (t .ratios) ++ drop (t .used) s) × (t .used ≡ length (codedFrom size w (t .ratios))) × Below (2 ^ 64) (t .ratios)
+  abbrev CodedFront : List ℕ → List ℕ → Taken → Type 0
+  CodedFront w s t = (s ≡ codedFrom size w (t .ratios) ++ drop (t .used) s) × (t .used ≡ length (codedFrom size w (t .ratios))) × Below (2 ^ 64) (t .ratios)
 
-  front-none : (w s : List ℕ) → Front w s noneTaken
+  coded-front-none : (w s : List ℕ) → CodedFront w s noneTaken
   unfolding codedFrom Below
-  front-none w s = (refl, refl, tt)
+  coded-front-none w s = (refl, refl, tt)
 
-  front-next : (w s : List ℕ) (v k : ℕ) (t : Taken) (r : List ℕ) → s ≡ coded v w ++ r → k ≡ length (coded v w) → v < 2 ^ 64 → Front (push size v w) (drop k s) t
-      → Front w s (andTaken v k t)
+  coded-front-next : (w s : List ℕ) (v k : ℕ) (t : Taken) (r : List ℕ) → s ≡ coded v w ++ r → k ≡ length (coded v w) → v < 2 ^ 64 → CodedFront (push size v w) (drop k s) t
+      → CodedFront w s (andTaken v k t)
   unfolding codedFrom Below
-  front-next w s v k t r e l hv f =
+  coded-front-next w s v k t r e l hv f =
       let c = coded v w in
       let d : drop k s ≡ r = ap (drop k) e ∙ drop-at c r k (sym l) in
       let us = codedFrom size (push size v w) (t .ratios) in (
@@ -127,19 +127,19 @@ module _ (size : ℕ) (hz : size ≤ windowSize) where
         (hv, f .2),
       )
 
-  taken-front : (w : List ℕ) (n : ℕ) (s : List ℕ) → length w ≤ windowSize → Below (2 ^ 64) w → Below 256 s → Front w s (takenFrom strictRead size w n s)
+  taken-coded : (w : List ℕ) (n : ℕ) (s : List ℕ) → length w ≤ windowSize → Below (2 ^ 64) w → Below 256 s → CodedFront w s (takenFrom strictRead size w n s)
   unfolding takenFrom
-  taken-front w zero s hw ha hs = front-none w s
-  taken-front w (suc n) s hw ha hs =
-      go (λ v k hv. taken-front (push size v w) n (drop k s) (omega (arith, push-length size v w)) (push-below (2 ^ 64) size v w hv ha) (below-drop 256 k s hs)) (strictRead w s) refl
+  taken-coded w zero s hw ha hs = coded-front-none w s
+  taken-coded w (suc n) s hw ha hs =
+      go (λ v k hv. taken-coded (push size v w) n (drop k s) (omega (arith, push-length size v w)) (push-below (2 ^ 64) size v w hv ha) (below-drop 256 k s hs)) (strictRead w s) refl
     where
-      go : ((v k : ℕ) → v < 2 ^ 64 → Front (push size v w) (drop k s) (takenFrom strictRead size (push size v w) n (drop k s))) → (r : Read) → strictRead w s ≡ r
-          → Front w s (takenFrom strictRead size w (suc n) s)
-      go ih Nothing e = rw (taken-stop strictRead size w n s e) (front-none w s)
+      go : ((v k : ℕ) → v < 2 ^ 64 → CodedFront (push size v w) (drop k s) (takenFrom strictRead size (push size v w) n (drop k s))) → (r : Read) → strictRead w s ≡ r
+          → CodedFront w s (takenFrom strictRead size w (suc n) s)
+      go ih Nothing e = rw (taken-stop strictRead size w n s e) (coded-front-none w s)
       go ih (Ratio v k) e =
           let hv = strict-gives w s v k hs ha e in
           let o = strict-only v k w s hv ha hw e in
-          rw (taken-next strictRead size w n s v k e) (front-next w s v k (takenFrom strictRead size (push size v w) n (drop k s)) (o .0) (o .1) (o .2) hv (ih v k hv))
+          rw (taken-next strictRead size w n s v k e) (coded-front-next w s v k (takenFrom strictRead size (push size v w) n (drop k s)) (o .0) (o .1) (o .2) hv (ih v k hv))
 
   -- every other list with whose coding they begin is a beginning of it
   taken-most : (w : List ℕ) (n : ℕ) (s vs r : List ℕ) → length w ≤ windowSize → Below (2 ^ 64) w → Below (2 ^ 64) vs → length vs ≤ n
@@ -164,7 +164,7 @@ module _ (n : ℕ) (s : List ℕ) where
   -- the ratios taken are those with whose coding the bytes begin, and `used` is its length
   pub strict-taken-coded : Below 256 s → (s ≡ codedRatios (t .ratios) ++ drop (t .used) s) × (t .used ≡ length (codedRatios (t .ratios)))
   unfolding Below
-  strict-taken-coded hs = let f = taken-front windowSize (omega arith) [] n s (omega arith) tt hs in (f .0, f .1)
+  strict-taken-coded hs = let f = taken-coded windowSize (omega arith) [] n s (omega arith) tt hs in (f .0, f .1)
 
   -- of lists of at most n ratios none that is longer has that: each is a beginning of them
   pub strict-taken-most : (vs r : List ℕ) → Below (2 ^ 64) vs → length vs ≤ n → s ≡ codedRatios vs ++ r → (us : List ℕ) × (t .ratios ≡ vs ++ us)
@@ -183,7 +183,7 @@ module _ (n : ℕ) (s : List ℕ) where
       all e f =
           let q : s ≡ codedRatios (t .ratios) =
           front .0 ∙ ap (λ (l : List ℕ). codedRatios (t .ratios) ++ l) (drop-of-length-le s {i = t .used} (omega arith)) ∙ append-nil (codedRatios (t .ratios)) in
-          ap₂ strictRatios (sym e) q ∙ strict-coded (t .ratios) (taken-front windowSize (omega arith) [] n s (omega arith) tt hs .2)
+          ap₂ strictRatios (sym e) q ∙ strict-coded (t .ratios) (taken-coded windowSize (omega arith) [] n s (omega arith) tt hs .2)
 
       same : (vs : List ℕ) → length vs ≡ n → Below (2 ^ 64) vs → codedRatios vs ≡ s → t .ratios ≡ vs
       same vs e hv q =

@@ -1,8 +1,6 @@
-pub mod Start
-pub mod Named
-pub mod Marked
-pub mod Sent
-pub mod Got
-pub mod Places
-pub mod Indexed
+pub mod Marks
+pub mod Writing
+pub mod Taking
+pub mod FirstByte
+pub mod Indexes
 pub mod Repeated

@@ -13,7 +13,7 @@ use Rattle.ratio_format.specs.Forms.{coded}
 use Rattle.ratio_format.specs.Bodies.{codedRatios}
 use Rattle.ratio_format.proofs.Bodies.{coded-more}
 use Rattle.ratio_bodies.specs.Indexes.{Trailing}
-use Rattle.ratio_bodies.proofs.Indexed.{coded-at, trailing-same}
+use Rattle.ratio_bodies.proofs.Indexes.{coded-newest, trailing-same}
 
 -- as many zeros
 abbrev zeros : ℕ → List ℕ
@@ -59,7 +59,7 @@ module _ (l : List ℕ) (i : ℕ) (some : 0 < i) where
   repeats-coded (suc r) h x =
       let z : i + r - 1 - 0 ≡ i + r - 1 = omega arith in
       let c : coded (getD l (i + r) 0) (windowOf windowSize (take (i + r) l)) ≡ 0 ∷ [] =
-      coded-at l (i + r) (getD l (i + r) 0) 0 (omega arith) (omega arith) (omega arith) (rw z (last r x)) (λ k f g e. omega arith) in
+      coded-newest l (i + r) (getD l (i + r) 0) 0 (omega arith) (omega arith) (omega arith) (rw z (last r x)) (λ k f g e. omega arith) in
       let t : zeros r ++ zeros 1 ≡ zeros (suc r) = replicate-append-replicate {A = ℕ} r 1 0 ∙ ap zeros (add-one r) in
       ap (λ (m : ℕ). codedRatios (take m l)) (next r)
       ∙ coded-more windowSize l (i + r) (omega arith)
@@ -69,7 +69,7 @@ module _ (l : List ℕ) (i : ℕ) (some : 0 < i) where
       ∙ ap (λ (bs : List ℕ). codedRatios (take i l) ++ bs) t
 
   -- the index needs no change
-  pub repeats-trailing : (ss : List ℕ) (r : ℕ) → Repeats l i r → Trailing ss l i → Trailing ss l (i + r)
-  repeats-trailing ss zero x t = let z : i + 0 ≡ i = omega arith in rw z t
-  repeats-trailing ss (suc r) x t =
-      rw (next r) (trailing-same ss l (i + r) (omega arith) (last r x) (repeats-trailing ss r (fewer r x) t))
+  pub repeats-trailing : (ns : List ℕ) (r : ℕ) → Repeats l i r → Trailing ns l i → Trailing ns l (i + r)
+  repeats-trailing ns zero x t = let z : i + 0 ≡ i = omega arith in rw z t
+  repeats-trailing ns (suc r) x t =
+      rw (next r) (trailing-same ns l (i + r) (omega arith) (last r x) (repeats-trailing ns r (fewer r x) t))

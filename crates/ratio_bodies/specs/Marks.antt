@@ -7,10 +7,12 @@ use mathlib.Core.List.{List}
 use mathlib.Core.Path.{_≡_}
 use Prim.Native.Nat.{ℕ, _+_, _-_, _%_, _≤_, _<_}
 use lib.ListN.{length, getD}
+use Rattle.ratio_format.specs.Windows.{windowSize}
+use Rattle.ratio_search.specs.Planes.{slots}
 
--- 128 slots; the ratio at index k stands in slot k % 128
+-- the slots are those of the planes: the ratio at index k stands in slot k % slots
 abbrev pub slotOf : ℕ → ℕ → ℕ
-slotOf i p = (i - 1 - p) % 128
+slotOf i p = (i - 1 - p) % slots
 
 -- no later one is equal
 abbrev pub Last : List ℕ → ℕ → ℕ → Type 0
@@ -23,5 +25,5 @@ Again l k i = (m : ℕ) × (k < m) × (m < i) × (getD l m 0 ≡ getD l k 0)
 -- a mark of 0 says that it does not, any other that it does
 abbrev pub Marks : List ℕ → List ℕ → ℕ → Type 0
 Marks ms l i =
-    (length ms ≡ 128)
-    × ((k : ℕ) → k < i → i ≤ k + 127 → (getD ms (k % 128) 0 ≡ 0 → Last l k i) × ((getD ms (k % 128) 0 ≡ 0 → ⊥) → Again l k i))
+    (length ms ≡ slots)
+    × ((k : ℕ) → k < i → i ≤ k + windowSize → (getD ms (k % slots) 0 ≡ 0 → Last l k i) × ((getD ms (k % slots) 0 ≡ 0 → ⊥) → Again l k i))

@@ -6,21 +6,24 @@ ghost use Rattle.ratio_format.specs.Windows.{windowSize, windowOf};
 ghost use Rattle.ratio_format.specs.Open.{openXor, openRead};
 use bits::get_bytes;
 use bits::get_first;
+use ratio_codec::EXCEPTION;
+use ratio_codec::XOR;
 use ratio_codec::read::raised;
 use ratio_codec::read_open;
 use ratio_format::Read;
-use ratio_search::window_start;
+use ratio_format::Window;
+use ratio_window::window_start;
 
 // The most bytes that a form has.
 const LONGEST: usize = 10;
 
-// Ratio i at the front of the bytes, by the open rule, against the ratios before it.
-fn open_nth(ratios: &[u64], i: usize, s: &[u8]) -> Read
-    requires { ⌜ i ≤ length (now ratios) ⌝ }
-    ensures { λ r. ⌜ r ≡ openRead (windowOf windowSize (take i (now (ratios .entry)))) (now (s .entry)) ⌝ }
+// Ratio i at the offset `at`, by the open rule, against the ratios before it.
+fn open_nth(ratios: &[u64], i: usize, body: &[u8], at: usize) -> Read
+    requires { ⌜ (i ≤ length (now ratios)) × (at ≤ length (now body)) ⌝ }
+    ensures { λ r. ⌜ r ≡ openRead (windowOf windowSize (take i (now (ratios .entry)))) (drop at (now (body .entry))) ⌝ }
 {
     let from = window_start(i);
-    read_open(&ratios[from..i], s)
+    read_open(&ratios[from..i], &body[at..])
 }
 
 // What stands after the byte of a place that holds u: the two counts, and the middle.
@@ -44,18 +47,18 @@ fn open_ahead(ratios: &[u64], i: usize, body: &[u8], at: usize) -> Read
     ensures { λ r. ⌜ r ≡ openRead (windowOf windowSize (take i (now (ratios .entry)))) (drop at (now (body .entry))) ⌝ }
 {
     let b = body[at] as usize;
-    if b == 255 {
+    if b == EXCEPTION {
         return Read::Ratio(get_bytes(body, at + 1, 8), 9);
     }
-    let p = b % 128;
+    let p = b % XOR;
     if i <= p {
         return Read::Nothing;
     }
-    if p == 127 {
+    if p == Window::SIZE {
         return Read::Nothing;
     }
     let u = ratios[i - 1 - p];
-    if b < 128 {
+    if b < XOR {
         return Read::Ratio(u, 1);
     }
     xor_ahead(u, body, at + 1)
@@ -69,7 +72,7 @@ pub(crate) fn open_from(ratios: &[u64], i: usize, body: &[u8], at: usize) -> Rea
     if at + LONGEST <= body.len() {
         return open_ahead(ratios, i, body, at);
     }
-    open_nth(ratios, i, &body[at..])
+    open_nth(ratios, i, body, at)
 }
 
 // The same with a shorter way for references, for a caller to which only they are cheap.
@@ -79,11 +82,11 @@ pub(crate) fn open_near(ratios: &[u64], i: usize, body: &[u8], at: usize) -> Rea
 {
     if at < body.len() {
         let b = body[at] as usize;
-        if b < 127 {
+        if b < Window::SIZE {
             if b < i {
                 return Read::Ratio(ratios[i - 1 - b], 1);
             }
         }
     }
-    open_nth(ratios, i, &body[at..])
+    open_nth(ratios, i, body, at)
 }

@@ -9,16 +9,17 @@ ghost use Rattle.ratio_search.specs.Planes.{Planes, Kept};
 use ratio_codec::write::choose;
 use ratio_codec::write::form_of;
 use ratio_format::RatioForm;
+use ratio_search::CELLS;
 use ratio_search::fill_planes;
 use ratio_search::find;
-use ratio_search::window_start;
+use ratio_window::window_start;
 
 // With fewer ratios before it than this a ratio is chosen by the plain scan, so that a short run needs no planes.
 const FEW: usize = 16;
 
 // The planes are brought up to ratio i unless it needs none; the answer is the index that they go up to.
 pub(crate) fn refresh(
-    planes: &mut [u8; 1024],
+    planes: &mut [u8; CELLS],
     ratios: &[u64],
     done: usize,
     i: usize,
@@ -38,7 +39,7 @@ pub(crate) fn refresh(
 }
 
 // The form of v as ratio i, against the ratios before it.
-pub(crate) fn choose_nth(planes: &[u8; 1024], ratios: &[u64], i: usize, v: u64) -> RatioForm
+pub(crate) fn choose_nth(planes: &[u8; CELLS], ratios: &[u64], i: usize, v: u64) -> RatioForm
     requires { ⌜ (i ≤ length (now ratios)) × (16 ≤ i → Planes (now planes) (now ratios) (i - windowSize) i) ⌝ }
     ensures { λ r. ⌜ r ≡ ratioForm v (windowOf windowSize (take i (now (ratios .entry)))) ⌝ }
 {

@@ -6,26 +6,30 @@ ghost use Prim.Native.Nat.{_+_, _%_, _≤_, _<_};
 ghost use lib.ListN.{length, take, getD, set};
 ghost use Rattle.ratio_format.specs.Windows.{windowSize, windowOf};
 ghost use Rattle.ratio_format.specs.Forms.{coded};
-ghost use Rattle.ratio_bodies.specs.Indexes.{keyOf, Indexed, Trailing};
+ghost use Rattle.ratio_bodies.specs.Indexes.{keyOf, keys, Indexed, Trailing};
+use ratio_format::Window;
 
 // Stands for no place.
-pub const NONE: usize = 127;
+pub const NONE: usize = Window::SIZE;
 
-// The slot of a value. Any function would do; a prime number of slots spreads them.
+// How many keys there are: a prime number spreads the values over them.
+pub const KEYS: usize = 509;
+
+// The key of a value. Any function would do.
 fn key_of(v: u64) -> usize
-    ensures { λ r. ⌜ (r ≡ keyOf v) × (r < 509) ⌝ }
+    ensures { λ r. ⌜ (r ≡ keyOf v) × (r < keys) ⌝ }
 {
-    (v % 509) as usize
+    (v % (KEYS as u64)) as usize
 }
 
 // The place of the newest ratio before ratio i that is equal to it, by the index; NONE where it has none that the window holds.
-fn looked_up(slots: &[u16; 509], ratios: &[u64], i: usize) -> usize
-    requires { ⌜ (i < length (now ratios)) × Indexed (now slots) (now ratios) i ⌝ }
-    ensures { λ r. ⌜ (r < 127 → coded (getD (now (ratios .entry)) i 0) (windowOf windowSize (take i (now (ratios .entry)))) ≡ r ∷ []) ⌝ }
+fn looked_up(newest: &[u16; KEYS], ratios: &[u64], i: usize) -> usize
+    requires { ⌜ (i < length (now ratios)) × Indexed (now newest) (now ratios) i ⌝ }
+    ensures { λ r. ⌜ (r < windowSize → coded (getD (now (ratios .entry)) i 0) (windowOf windowSize (take i (now (ratios .entry)))) ≡ r ∷ []) ⌝ }
 {
     let v = ratios[i];
     let k = key_of(v);
-    let next = slots[k] as usize;
+    let next = newest[k] as usize;
     if next == 0 {
         return NONE;
     }
@@ -39,23 +43,23 @@ fn looked_up(slots: &[u16; 509], ratios: &[u64], i: usize) -> usize
 }
 
 // Ratio i, of value v, is passed.
-fn note(slots: &mut [u16; 509], i: usize, v: u64)
+fn note(newest: &mut [u16; KEYS], i: usize, v: u64)
     requires { ⌜ i < 4096 ⌝ }
-    ensures { λ _. ⌜ now (slots .exit) ≡ set (now (slots .entry)) (keyOf v) (i + 1) ⌝ }
+    ensures { λ _. ⌜ now (newest .exit) ≡ set (now (newest .entry)) (keyOf v) (i + 1) ⌝ }
 {
     let k = key_of(v);
-    slots[k] = (i + 1) as u16;
+    newest[k] = (i + 1) as u16;
 }
 
 // The ratio before ratio i is noted, and then the place of ratio i is looked up. Of repeats only the last needs to be noted.
-pub(crate) fn place_of(slots: &mut [u16; 509], ratios: &[u64], i: usize) -> usize
-    requires { ⌜ (i < length (now ratios)) × (length (now ratios) ≤ 4096) × Trailing (now slots) (now ratios) i ⌝ }
-    ensures { λ r. ⌜ Trailing (now (slots .exit)) (now (ratios .entry)) (i + 1)
-        × (r < 127 → coded (getD (now (ratios .entry)) i 0) (windowOf windowSize (take i (now (ratios .entry)))) ≡ r ∷ []) ⌝ }
+pub(crate) fn place_of(newest: &mut [u16; KEYS], ratios: &[u64], i: usize) -> usize
+    requires { ⌜ (i < length (now ratios)) × (length (now ratios) ≤ 4096) × Trailing (now newest) (now ratios) i ⌝ }
+    ensures { λ r. ⌜ Trailing (now (newest .exit)) (now (ratios .entry)) (i + 1)
+        × (r < windowSize → coded (getD (now (ratios .entry)) i 0) (windowOf windowSize (take i (now (ratios .entry)))) ≡ r ∷ []) ⌝ }
 {
     if i == 0 {
         return NONE;
     }
-    note(slots, i - 1, ratios[i - 1]);
-    looked_up(slots, ratios, i)
+    note(newest, i - 1, ratios[i - 1]);
+    looked_up(newest, ratios, i)
 }

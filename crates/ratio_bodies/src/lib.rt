@@ -1,14 +1,32 @@
-// A whole list of ratios, the body of document 01's field 4: written and read in one pass.
-// The window of a ratio is the part of the list before it, at most 127 ratios. Internal: callers meet each `requires`.
+// A whole list of ratios, the body of document 01's field 4: written and read in one pass. The window of a ratio is the part of the list
+// before it. Internal: callers meet each `requires`.
+//
+// Index (index.rt): writing knows the place of most equal ratios without a search. For each remainder of a value, one kilobyte in all, the
+// index names the newest ratio that has it; where that ratio is equal, no newer one is.
+//
+// Repeats (repeats.rt): a ratio that is equal to the one before it is the reference 0. They are written in a run, and noted in the index
+// once.
+//
+// Choice (choice.rt): any other ratio takes a search over planes (`ratio_search`); with few ratios before it a plain scan (`ratio_codec`),
+// which needs no planes.
+//
+// Marks (strict.rt): in strict reading a mark says of each ratio of the window whether a later one is equal. A reference is the one that is
+// written where the mark of its ratio is not set. Of any other form the head must be that of the form which the writer chooses.
+//
+// Ahead (ahead.rt): where ten bytes are left, the most that a form has, open reading needs one test of room for a ratio, and takes the
+// middle of an xor form by one load of eight bytes.
 ghost use mathlib.Core.Path.{_≡_};
 ghost use mathlib.Core.List.{[], _∷_};
 ghost use Prim.Native.Nat.{_-_, _≤_, _<_};
+ghost use lib.Dec.{eqb};
 ghost use lib.ListN.{length, take, getD};
-ghost use Rattle.outputs.specs.Outputs.{Placed, Filled};
+ghost use Rattle.lists.specs.Compare.{both};
+ghost use Rattle.outputs.specs.Outputs.{Placed};
 ghost use Rattle.ratio_format.specs.Windows.{windowSize, windowOf};
 ghost use Rattle.ratio_format.specs.Forms.{coded};
-ghost use Rattle.ratio_format.specs.Bodies.{codedRatios, openRatios, strictRatios};
+ghost use Rattle.ratio_format.specs.Bodies.{codedRatios, openTaken, strictTaken};
 ghost use Rattle.ratio_search.specs.Planes.{Planes};
+ghost use Rattle.ratio_bodies.specs.Taking.{TakenInto};
 
 mod ahead;
 mod choice;
@@ -20,21 +38,24 @@ use ahead::open_from;
 use ahead::open_near;
 use choice::choose_nth;
 use choice::refresh;
+use index::KEYS;
 use index::NONE;
 use index::place_of;
 use outputs::Wrote;
 use ratio_codec::write::put_form;
 use ratio_codec::write::put_reference;
 use ratio_format::Read;
+use ratio_search::CELLS;
+use ratio_search::SLOTS;
 use repeats::put_repeats;
 use strict::accepts;
 use strict::mark;
 
 // Ratio i is coded at the front of the output, against the ratios before it; `place` is its place in the window, if the index knows one.
-fn put_nth(planes: &[u8; 1024], ratios: &[u64], i: usize, place: usize, out: &mut [u8]) -> Wrote
+fn put_nth(planes: &[u8; CELLS], ratios: &[u64], i: usize, place: usize, out: &mut [u8]) -> Wrote
     requires { ⌜ (i < length (now ratios))
-        × (place < 127 → coded (getD (now ratios) i 0) (windowOf windowSize (take i (now ratios))) ≡ place ∷ [])
-        × (127 ≤ place → 16 ≤ i → Planes (now planes) (now ratios) (i - windowSize) i) ⌝ }
+        × (place < windowSize → coded (getD (now ratios) i 0) (windowOf windowSize (take i (now ratios))) ≡ place ∷ [])
+        × (windowSize ≤ place → 16 ≤ i → Planes (now planes) (now ratios) (i - windowSize) i) ⌝ }
     ensures { λ r. ⌜ Placed (coded (getD (now (ratios .entry)) i 0) (windowOf windowSize (take i (now (ratios .entry))))) r (now (out .entry)) (now (out .exit)) ⌝ }
 {
     if place < NONE {
@@ -50,13 +71,13 @@ pub fn put_ratios(ratios: &[u64], out: &mut [u8]) -> Wrote
     requires { ⌜ length (now ratios) ≤ 4096 ⌝ }
     ensures { λ r. ⌜ Placed (codedRatios (now (ratios .entry))) r (now (out .entry)) (now (out .exit)) ⌝ }
 {
-    let mut planes = [0; 1024];
-    let mut slots: [u16; 509] = [0; 509];
+    let mut planes = [0; CELLS];
+    let mut newest: [u16; KEYS] = [0; KEYS];
     let mut done: usize = 0;
     let mut at: usize = 0;
     let mut i: usize = 0;
     while i < ratios.len() {
-        let place = place_of(&mut slots, ratios, i);
+        let place = place_of(&mut newest, ratios, i);
         done = refresh(&mut planes, ratios, done, i, place < NONE);
         let r = put_nth(&planes, ratios, i, place, &mut out[at..]);
         let Wrote::Done(n) = r else {
@@ -70,48 +91,67 @@ pub fn put_ratios(ratios: &[u64], out: &mut [u8]) -> Wrote
     Wrote::Done(at)
 }
 
-// The ratios that the body is the coding of, as many as count, are put at the front of the output.
-pub fn get_strict(body: &[u8], count: usize, out: &mut [u64]) -> bool
+// What a reader of a body took from its front: how many ratios, and how many bytes they used.
+pub struct Took {
+    pub count: usize,
+    pub used: usize,
+}
+
+impl Took {
+    // Whether that is all of a body of `length` bytes, as `count` ratios.
+    pub fn whole(self, count: usize, length: usize) -> bool
+        ensures { λ r. ⌜ r ≡ both (eqb (self .count) count) (eqb (self .used) length) ⌝ }
+    {
+        if self.count != count {
+            return false;
+        }
+        self.used == length
+    }
+}
+
+// Ratios are read strictly from the front of the body, one after the other, at most `count` and up to the first bytes that are no written
+// form of a next ratio. They stand at the front of the output, whose rest stays.
+pub fn get_strict(body: &[u8], count: usize, out: &mut [u64]) -> Took
     requires { ⌜ count ≤ length (now out) ⌝ }
-    ensures { λ r. ⌜ Filled (strictRatios count (now (body .entry))) r (now (out .entry)) (now (out .exit)) ⌝ }
+    ensures { λ r. ⌜ TakenInto (strictTaken count (now (body .entry))) r (now (out .entry)) (now (out .exit)) ⌝ }
 {
-    let mut planes = [0; 1024];
-    let mut again = [0; 128];
+    let mut planes = [0; CELLS];
+    let mut again = [0; SLOTS];
     let mut done: usize = 0;
     let mut at: usize = 0;
     let mut i: usize = 0;
     while i < count {
         let r = open_near(out, i, body, at);
         let Read::Ratio(v, n) = r else {
-            return false;
+            return Took { count: i, used: at };
         };
         done = refresh(&mut planes, out, done, i, n == 1);
-        if !accepts(&planes, &again, out, i, v, n, &body[at..]) {
-            return false;
+        if !accepts(&planes, &again, out, i, v, n, body, at) {
+            return Took { count: i, used: at };
         }
-        mark(&mut again, i, n, &body[at..]);
+        mark(&mut again, i, n, body, at);
         out[i] = v;
         at += n;
         i += 1;
     }
-    at == body.len()
+    Took { count: i, used: at }
 }
 
-// The same by the open rule.
-pub fn get_open(body: &[u8], count: usize, out: &mut [u64]) -> bool
+// The same by the open rule, up to the first bytes that it does not read.
+pub fn get_open(body: &[u8], count: usize, out: &mut [u64]) -> Took
     requires { ⌜ count ≤ length (now out) ⌝ }
-    ensures { λ r. ⌜ Filled (openRatios count (now (body .entry))) r (now (out .entry)) (now (out .exit)) ⌝ }
+    ensures { λ r. ⌜ TakenInto (openTaken count (now (body .entry))) r (now (out .entry)) (now (out .exit)) ⌝ }
 {
     let mut at: usize = 0;
     let mut i: usize = 0;
     while i < count {
         let r = open_from(out, i, body, at);
         let Read::Ratio(v, n) = r else {
-            return false;
+            return Took { count: i, used: at };
         };
         out[i] = v;
         at += n;
         i += 1;
     }
-    at == body.len()
+    Took { count: i, used: at }
 }

@@ -4,18 +4,19 @@ use mathlib.Core.List.{List, reverse}
 use Prim.Native.Nat.{ℕ, _+_, _-_, _*_, _/_, _^_, _≤_, _<_}
 use native.Mathlib.Omega.{arith}
 use lib.Bits.{bitXor}
-use lib.ListN.{length, getD, length-reverse}
+use lib.ListN.{length, getD, take, drop, length-take, length-reverse}
 use Rattle.lists.specs.Below.{Below}
 use Rattle.lists.proofs.Below.{below-of}
 use Rattle.bits.proofs.Digits.{pow-bytes}
 use Rattle.ratio_format.specs.declared.RatioForm.{RatioForm}
 use Rattle.ratio_format.specs.declared.RatioForm.the-variants.{Reference, Xor, Exception}
+use Rattle.ratio_format.specs.Windows.{windowSize, windowOf}
 use Rattle.ratio_format.specs.Zeros.{leadZeros, trailZeros}
 use Rattle.ratio_format.specs.Choice.{best, ratioForm}
 use Rattle.ratio_format.specs.Forms.{Fit}
 use Rattle.ratio_format.proofs.Choice.{form-fit, form-reference, form-xor, form-exception, sum-small, best-at, best-xor}
-use Rattle.ratio_format.proofs.Windows.{back, reverse-below}
-use Rattle.ratio_codec.specs.Searched.{Searched}
+use Rattle.ratio_format.proofs.Windows.{back, reverse-below, window-of}
+use Rattle.ratio_window.specs.Searched.{Searched}
 
 module _ (l : List ℕ) (v p s : ℕ) (known : (k : ℕ) → getD l k 0 < 2 ^ 64) (v64 : v < 2 ^ 64) (found : Searched v (reverse l) p s) where
   all64 : Below (2 ^ 64) (reverse l)
@@ -59,12 +60,18 @@ module _ (l : List ℕ) (v p s : ℕ) (known : (k : ℕ) → getD l k 0 < 2 ^ 64
         let q = pow-bytes t in
         cc (same-xor, place, sum)
 
--- its numbers fit, of a window of at most 127 ratios
+-- its numbers fit, of a window of our size
 fit-more : (m n : ℕ) (f : RatioForm) → m ≤ n → Fit m f → Fit n f
 fit-more m n (Reference p) h g = omega arith
 fit-more m n (Xor p t k x) h g = (omega arith, g .1, g .2)
 fit-more m n Exception h g = tt
 
-pub chosen-fit : (l : List ℕ) (v : ℕ) (f : RatioForm) → f ≡ ratioForm v (reverse l) → length l ≤ 127 → Fit 127 f
+pub chosen-fit : (l : List ℕ) (v : ℕ) (f : RatioForm) → f ≡ ratioForm v (reverse l) → length l ≤ windowSize → Fit windowSize f
 chosen-fit l v f e h =
-    subst (Fit 127) (sym e) (fit-more (length (reverse l)) 127 (ratioForm v (reverse l)) (rw length-reverse h) (form-fit v (reverse l)))
+    subst (Fit windowSize) (sym e) (fit-more (length (reverse l)) windowSize (ratioForm v (reverse l)) (rw length-reverse h) (form-fit v (reverse l)))
+
+-- of the window of ratio i of a list
+pub window-fit : (l : List ℕ) (i v : ℕ) (f : RatioForm) → i ≤ length l → f ≡ ratioForm v (windowOf windowSize (take i l)) → Fit windowSize f
+window-fit l i v f h e =
+    let a = i - windowSize in
+    chosen-fit (take (i - a) (drop a l)) v f (e ∙ ap (ratioForm v) (sym (window-of windowSize l i h))) (omega (arith, length-take (i - a) (drop a l)))

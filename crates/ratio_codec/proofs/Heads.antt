@@ -18,6 +18,7 @@ use Rattle.lists.proofs.Compare.{begins-own}
 use Rattle.bits.proofs.Digits.{digits-number}
 use Rattle.ratio_format.specs.declared.RatioForm.{RatioForm}
 use Rattle.ratio_format.specs.declared.Read.the-variants.{Ratio, Nothing}
+use Rattle.ratio_format.specs.Windows.{windowSize}
 use Rattle.ratio_format.specs.Zeros.{leadZeros, trailZeros}
 use Rattle.ratio_format.specs.Choice.{best, ratioForm}
 use Rattle.ratio_format.specs.Forms.{written, coded}
@@ -74,7 +75,7 @@ begins-number n r hr h =
     ap (λ (k : ℕ). bytesOf k (numberOf 256 (take n r))) (sym l) ∙ digits-number 256 (take n r) (below-take 256 n r hr) in
     ap₂ begins d (sym (take-append-drop n r)) ∙ begins-own (take n r) (drop n r)
 
-module _ (v k : ℕ) (w : List ℕ) (hw : length w ≤ 127) where
+module _ (v k : ℕ) (w : List ℕ) (hw : length w ≤ windowSize) where
   never : {A : Type 0} → Nothing ≡ Ratio v k → A
   never e = let z : _≡_ {A = ℕ} 0 1 = cc in absurd (omega arith)
 

@@ -1,8 +1,6 @@
-pub mod Passed
-pub mod Sums
-pub mod First
-pub mod Scan
+pub mod Find
+pub mod Scanned
 pub mod Chosen
-pub mod Front
+pub mod Over
 pub mod Heads
-pub mod Named
+pub mod References

@@ -1,5 +1,5 @@
 -- The bytes with which a form begins, before its middle or its ratio.
---   head f    a place; a place plus 128 and the two counts; 255
+--   formHead f    a place; a place plus 128 and the two counts; 255
 use mathlib.Core.List.{List, [], _∷_}
 use Prim.Native.Nat.{ℕ, _+_, _*_}
 use Rattle.ratio_format.specs.declared.RatioForm.{RatioForm}

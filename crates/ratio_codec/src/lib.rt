@@ -1,9 +1,15 @@
 // One ratio of document 01's field 4: its form against the window, its bytes, and reading them back.
 // A window is a slice with the oldest ratio first; the definitions have the newest first. Internal: callers meet each `requires`.
 pub mod read;
-pub mod search;
+mod search;
 pub mod write;
 
 pub use read::read_open;
 pub use read::read_strict;
 pub use write::encode;
+
+// The first byte of an xor form at place 0: below it a first byte is a place.
+pub const XOR: usize = 128;
+
+// The first byte of an exception.
+pub const EXCEPTION: usize = 255;

@@ -5,9 +5,12 @@ ghost use Prim.Native.Nat.{_+_, _*_, _^_, _≤_, _<_};
 ghost use lib.ListN.{length, take, drop};
 ghost use Rattle.bits.specs.Digits.{numberOf};
 ghost use Rattle.lists.specs.Compare.{begins};
+ghost use Rattle.ratio_format.specs.Windows.{windowSize};
 ghost use Rattle.ratio_format.specs.Open.{openXor, openRead, strictRead};
 ghost use Rattle.ratio_format.specs.Forms.{Fit};
 ghost use Rattle.ratio_codec.specs.Heads.{formHead};
+use super::EXCEPTION;
+use super::XOR;
 use super::search::pass_equal;
 use super::write::choose;
 use bits::get_bytes;
@@ -62,14 +65,14 @@ pub fn read_open(window: &[u64], s: &[u8]) -> Read
         return Read::Nothing;
     }
     let b = s[0] as usize;
-    if b < 128 {
+    if b < XOR {
         if b < window.len() {
             return Read::Ratio(window[window.len() - 1 - b], 1);
         }
         return Read::Nothing;
     }
-    if b < 255 {
-        let p = b - 128;
+    if b < EXCEPTION {
+        let p = b - XOR;
         if p < window.len() {
             return read_xor(window[window.len() - 1 - p], &s[1..]);
         }
@@ -106,7 +109,7 @@ fn has_two(s: &[u8], a: usize, b: usize) -> bool
 
 // Whether the bytes begin as the form does.
 pub fn has_head(f: RatioForm, s: &[u8]) -> bool
-    requires { ⌜ Fit 127 f ⌝ }
+    requires { ⌜ Fit windowSize f ⌝ }
     ensures { λ r. ⌜ r ≡ begins (formHead f) (now (s .entry)) ⌝ }
 {
     match f {
@@ -116,14 +119,14 @@ pub fn has_head(f: RatioForm, s: &[u8]) -> bool
             trail,
             len,
             middle: _,
-        } => has_two(s, place + 128, trail * 16 + len),
-        RatioForm::Exception => has_one(s, 255),
+        } => has_two(s, place + XOR, trail * 16 + len),
+        RatioForm::Exception => has_one(s, EXCEPTION),
     }
 }
 
 // The ratio at the front of the bytes, where they are those that are written for it: of bytes that are read as a ratio, the head decides.
 fn read_by_head(window: &[u64], s: &[u8]) -> Read
-    requires { ⌜ length (now window) ≤ 127 ⌝ }
+    requires { ⌜ length (now window) ≤ windowSize ⌝ }
     ensures { λ r. ⌜ r ≡ strictRead (reverse (now (window .entry))) (now (s .entry)) ⌝ }
 {
     let r = read_open(window, s);
@@ -139,7 +142,7 @@ fn read_by_head(window: &[u64], s: &[u8]) -> Read
 
 // The same. A place needs no search: it is what is written where no nearer one holds an equal ratio.
 pub fn read_strict(window: &[u64], s: &[u8]) -> Read
-    requires { ⌜ length (now window) ≤ 127 ⌝ }
+    requires { ⌜ length (now window) ≤ windowSize ⌝ }
     ensures { λ r. ⌜ r ≡ strictRead (reverse (now (window .entry))) (now (s .entry)) ⌝ }
 {
     if s.len() == 0 {

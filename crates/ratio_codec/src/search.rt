@@ -1,39 +1,14 @@
-// The search for the ratio of a window that agrees with a given one in the most leading and trailing zero bytes.
+// The search for the ratio of a window that agrees with a given one in the most leading and trailing zero bytes: a plain scan from the
+// newest on, which needs nothing beside the window. A ratio is passed over where its xor is too large for a larger sum and ends in a byte
+// other than 0; once the best sum is 7 only an equal ratio is looked for. Live addition and stepping search so.
 ghost use mathlib.Core.Path.{_≡_};
 ghost use mathlib.Core.List.{reverse};
 ghost use Prim.Native.Nat.{ℕ, _+_, _-_, _^_, _≤_};
 ghost use lib.ListN.{length, drop};
-ghost use Rattle.ratio_format.specs.Zeros.{leadZeros, trailZeros, sumOf};
 ghost use Rattle.ratio_format.specs.Choice.{find, best};
-ghost use Rattle.ratio_codec.specs.Passed.{Passed};
-
-// A place of the window and the sum there.
-pub struct Best {
-    pub place: usize,
-    pub sum: usize,
-}
-
-// The leading zero bytes of x.
-pub fn lead_zeros(x: u64) -> usize
-    ensures { λ r. ⌜ r ≡ leadZeros x ⌝ }
-{
-    (u64::leading_zeros(x) / 8) as usize
-}
-
-// The trailing zero bytes of x.
-pub fn trail_zeros(x: u64) -> usize
-    ensures { λ r. ⌜ r ≡ trailZeros x ⌝ }
-{
-    (u64::trailing_zeros(x) / 8) as usize
-}
-
-// The leading and trailing zero bytes of v xor u together.
-fn sum_of(v: u64, u: u64) -> usize
-    ensures { λ r. ⌜ r ≡ sumOf v u ⌝ }
-{
-    let x = v ^ u;
-    lead_zeros(x) + trail_zeros(x)
-}
+ghost use Rattle.ratio_window.specs.Passed.{Passed};
+use ratio_window::Best;
+use ratio_window::sum_of;
 
 // The first place from `from` on whose ratio is v, or the window's length.
 pub(crate) fn pass_equal(window: &[u64], from: usize, v: u64) -> usize
@@ -84,7 +59,7 @@ fn pass(window: &[u64], from: usize, v: u64, sum: usize) -> usize
 
 // The largest sum at its smallest place. The newest ratio is looked at first, ratios that cannot have a larger sum are passed over, and
 // an equal one, whose sum is the largest there is, ends it.
-pub fn search(window: &[u64], v: u64) -> Best
+pub(crate) fn search(window: &[u64], v: u64) -> Best
     ensures { λ r. ⌜ (r .place ≡ best v (reverse (now (window .entry))) .place) × (r .sum ≡ best v (reverse (now (window .entry))) .sum) ⌝ }
 {
     let mut place: usize = 0;

@@ -6,15 +6,17 @@ ghost use lib.ListN.{length};
 ghost use Rattle.bits.specs.Digits.{bytesOf};
 ghost use Rattle.outputs.specs.Outputs.{Placed};
 ghost use Rattle.ratio_format.specs.Choice.{ratioForm};
-ghost use Rattle.ratio_format.specs.Forms.{written, coded};
-ghost use Rattle.ratio_format.specs.Forms.{Fit};
-ghost use Rattle.ratio_codec.specs.Searched.{Searched};
-use super::search::Best;
+ghost use Rattle.ratio_format.specs.Windows.{windowSize};
+ghost use Rattle.ratio_format.specs.Forms.{written, coded, Fit};
+ghost use Rattle.ratio_window.specs.Searched.{Searched};
+use super::EXCEPTION;
+use super::XOR;
 use super::search::search;
-use super::search::trail_zeros;
 use bits::put_bytes;
 use outputs::Wrote;
 use ratio_format::RatioForm;
+use ratio_window::Best;
+use ratio_window::trail_zeros;
 
 // The form of v, by what a search of the window found.
 pub fn form_of(b: Best, window: &[u64], v: u64) -> RatioForm
@@ -49,7 +51,7 @@ pub fn choose(window: &[u64], v: u64) -> RatioForm
 
 // The byte of a place.
 pub fn put_reference(out: &mut [u8], place: usize) -> Wrote
-    requires { ⌜ place < 127 ⌝ }
+    requires { ⌜ place < windowSize ⌝ }
     ensures { λ r. ⌜ Placed (place ∷ []) r (now (out .entry)) (now (out .exit)) ⌝ }
 {
     if out.len() < 1 {
@@ -61,13 +63,13 @@ pub fn put_reference(out: &mut [u8], place: usize) -> Wrote
 
 // The bytes of an xor form.
 fn put_xor(out: &mut [u8], place: usize, trail: usize, len: usize, middle: u64) -> Wrote
-    requires { ⌜ (place < 127) × (trail ≤ 8) × (len ≤ 6) ⌝ }
+    requires { ⌜ (place < windowSize) × (trail ≤ 8) × (len ≤ 6) ⌝ }
     ensures { λ r. ⌜ Placed ((place + 128) ∷ (trail * 16 + len) ∷ bytesOf len middle) r (now (out .entry)) (now (out .exit)) ⌝ }
 {
     if out.len() < len + 2 {
         return Wrote::NoRoom;
     }
-    out[0] = (place + 128) as u8;
+    out[0] = (place + XOR) as u8;
     out[1] = (trail * 16 + len) as u8;
     put_bytes(out, 2, len, middle);
     Wrote::Done(len + 2)
@@ -80,14 +82,14 @@ fn put_exception(out: &mut [u8], v: u64) -> Wrote
     if out.len() < 9 {
         return Wrote::NoRoom;
     }
-    out[0] = 255;
+    out[0] = EXCEPTION as u8;
     put_bytes(out, 1, 8, v);
     Wrote::Done(9)
 }
 
-// The bytes of v in the form f, of a window of at most 127 ratios.
+// The bytes of v in the form f, of a window of our size.
 pub fn put_form(f: RatioForm, v: u64, out: &mut [u8]) -> Wrote
-    requires { ⌜ Fit 127 f ⌝ }
+    requires { ⌜ Fit windowSize f ⌝ }
     ensures { λ r. ⌜ Placed (written v f) r (now (out .entry)) (now (out .exit)) ⌝ }
 {
     match f {
@@ -104,7 +106,7 @@ pub fn put_form(f: RatioForm, v: u64, out: &mut [u8]) -> Wrote
 
 // The bytes of v at the front of the output.
 pub fn encode(window: &[u64], v: u64, out: &mut [u8]) -> Wrote
-    requires { ⌜ length (now window) ≤ 127 ⌝ }
+    requires { ⌜ length (now window) ≤ windowSize ⌝ }
     ensures { λ r. ⌜ Placed (coded v (reverse (now (window .entry)))) r (now (out .entry)) (now (out .exit)) ⌝ }
 {
     let f = choose(window, v);

@@ -9,7 +9,7 @@ pub mod Bodies
 pub mod ReadFrom
 pub mod Shortest
 pub mod Strict
-pub mod Progress
+pub mod Taken
 pub mod Lives
 pub mod Stepping
 pub mod Claims

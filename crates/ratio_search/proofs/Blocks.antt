@@ -9,9 +9,9 @@ use borrow.Author.Tests.{eqb-true, eqb-false, leb-true, leb-false}
 use lib.Dec.{eqb, leb}
 use lib.ListN.{getD}
 use Rattle.ratio_format.specs.Zeros.{sumOf}
-use Rattle.ratio_search.specs.Planes.{byteAt, Differs, Planes}
+use Rattle.ratio_search.specs.Planes.{byteAt, slots, Differs, Planes}
 use Rattle.ratio_search.specs.Apart.{Apart}
-use Rattle.ratio_search.proofs.Differ.{differ-le}
+use Rattle.ratio_search.proofs.Apart.{apart-differ}
 
 or-off : (p q : Bool) → (p || q) ≡ false → (p ≡ false) × (q ≡ false)
 or-off false q e = (refl, e)
@@ -54,20 +54,20 @@ module _ (ps : List ℕ) (a x b y c z d w : ℕ) where
 
 -- a slot of a quiet block, by its own number: a is the start of the part of byte j
 pub slot-differs : (ps : List ℕ) (v i j slot x y t : ℕ) → x ≡ byteAt v i → y ≡ byteAt v j → slot ≤ t
-    → Off ps (i * 128 + slot) x (j * 128 + slot) y (t - slot) → Differs ps v i j t
+    → Off ps (i * slots + slot) x (j * slots + slot) y (t - slot) → Differs ps v i j t
 slot-differs ps v i j slot x y t ex ey h o =
-    let ei : i * 128 + slot + (t - slot) ≡ i * 128 + t = omega arith in
-    let ej : j * 128 + slot + (t - slot) ≡ j * 128 + t = omega arith in
+    let ei : i * slots + slot + (t - slot) ≡ i * slots + t = omega arith in
+    let ej : j * slots + slot + (t - slot) ≡ j * slots + t = omega arith in
     (λ e. o .0 (ap (λ (n : ℕ). getD ps n 0) ei ∙ e ∙ sym ex), λ e. o .1 (ap (λ (n : ℕ). getD ps n 0) ej ∙ e ∙ sym ey))
 
 -- the ratio in a slot whose bytes differ has a small sum
 module _ (ps l : List ℕ) (v s from high k : ℕ) (p : Planes ps l from high) (h : from ≤ k) (g : k < high) where
-  slot-passed : (a b : ℕ) → Apart s a b → Differs ps v a b (k % 128) → sumOf v (getD l k 0) ≤ s
+  slot-passed : (a b : ℕ) → Apart s a b → Differs ps v a b (k % slots) → sumOf v (getD l k 0) ≤ s
   slot-passed a b w d =
-      differ-le v (getD l k 0) s a b w (λ e. d .0 (p a k (w .1) h g ∙ e)) (λ e. d .1 (p b k (w .2) h g ∙ e))
+      apart-differ v (getD l k 0) s a b w (λ e. d .0 (p a k (w .1) h g ∙ e)) (λ e. d .1 (p b k (w .2) h g ∙ e))
 
-  pub either-passed : (a b c d : ℕ) → Apart s a b → Apart s c d
-      → Differs ps v a b (k % 128) ⊎ Differs ps v c d (k % 128) → sumOf v (getD l k 0) ≤ s
+  either-passed : (a b c d : ℕ) → Apart s a b → Apart s c d
+      → Differs ps v a b (k % slots) ⊎ Differs ps v c d (k % slots) → sumOf v (getD l k 0) ≤ s
   either-passed a b c d w x = ⊎-elim (slot-passed a b w) (slot-passed c d x)
 
 -- going back through blocks: every ratio from h up to `high` is passed, of those from `from` on
@@ -83,11 +83,11 @@ module _ (ps l : List ℕ) (v s from high h a b c d : ℕ) (p : Planes ps l from
   abbrev low : ℕ
   low = (h - 1) / 16 * 16
 
-  pub behind-block : ((t : ℕ) → low % 128 ≤ t → t < low % 128 + 16 → Differs ps v a b t ⊎ Differs ps v c d t) → Behind v l s from high low
+  pub behind-block : ((t : ℕ) → low % slots ≤ t → t < low % slots + 16 → Differs ps v a b t ⊎ Differs ps v c d t) → Behind v l s from high low
   behind-block quiet k f g e = go (leb h k) refl
     where
       go : (t : Bool) → leb h k ≡ t → sumOf v (getD l k 0) ≤ s
       go true q = passed k f (leb-true h k q) e
       go false q =
           let n = leb-false h k q in
-          either-passed ps l v s from high k p f e a b c d first second (quiet (k % 128) (omega arith) (omega arith))
+          either-passed ps l v s from high k p f e a b c d first second (quiet (k % slots) (omega arith) (omega arith))

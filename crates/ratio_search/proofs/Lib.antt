@@ -1,6 +1,4 @@
-pub mod Bytes
-pub mod Differ
-pub mod Slots
+pub mod Apart
+pub mod BytePlanes
 pub mod Blocks
-pub mod Found
-pub mod Sought
+pub mod Searching

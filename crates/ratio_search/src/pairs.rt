@@ -4,11 +4,13 @@ ghost use mathlib.Core.Bool.{false};
 ghost use mathlib.Core.Logic.{_⊎_};
 ghost use Prim.Native.Nat.{ℕ, _+_, _≤_, _<_};
 ghost use Rattle.ratio_format.specs.Zeros.{leadZeros, trailZeros};
-ghost use Rattle.ratio_search.specs.Planes.{byteAt, Differs};
+ghost use Rattle.ratio_search.specs.Planes.{byteAt, slots, Differs};
 ghost use Rattle.ratio_search.specs.Apart.{Apart};
+use super::planes::CELLS;
+use super::planes::SLOTS;
 use super::planes::byte_of;
-use ratio_codec::search::lead_zeros;
-use ratio_codec::search::trail_zeros;
+use ratio_window::lead_zeros;
+use ratio_window::trail_zeros;
 
 // Two pairs of byte positions, a with b and c with d.
 pub struct Pairs {
@@ -48,15 +50,15 @@ pub(crate) fn pairs_of(trail: usize, sum: usize, own: usize) -> Pairs
 }
 
 // Whether in the 16 slots from `slot` on one agrees with v in a byte of each pair. Written without branches, so that it becomes vector code.
-pub(crate) fn suspect(planes: &[u8; 1024], slot: usize, v: u64, p: Pairs) -> bool
-    requires { ⌜ (slot + 16 ≤ 128) × (p .a < 8) × (p .b < 8) × (p .c < 8) × (p .d < 8) ⌝ }
+pub(crate) fn suspect(planes: &[u8; CELLS], slot: usize, v: u64, p: Pairs) -> bool
+    requires { ⌜ (slot + 16 ≤ slots) × (p .a < 8) × (p .b < 8) × (p .c < 8) × (p .d < 8) ⌝ }
     ensures { λ r. ⌜ (r ≡ false → (t : ℕ) → slot ≤ t → t < slot + 16
         → Differs (now (planes .entry)) v (p .a) (p .b) t ⊎ Differs (now (planes .entry)) v (p .c) (p .d) t) ⌝ }
 {
-    let a = p.a * 128 + slot;
-    let b = p.b * 128 + slot;
-    let c = p.c * 128 + slot;
-    let d = p.d * 128 + slot;
+    let a = p.a * SLOTS + slot;
+    let b = p.b * SLOTS + slot;
+    let c = p.c * SLOTS + slot;
+    let d = p.d * SLOTS + slot;
     let x = byte_of(v, p.a);
     let y = byte_of(v, p.b);
     let z = byte_of(v, p.c);

@@ -3,24 +3,24 @@ ghost use mathlib.Core.Path.{_≡_};
 ghost use Prim.Native.Nat.{_-_, _≤_, _<_, max};
 ghost use lib.ListN.{length, take};
 ghost use Rattle.ratio_format.specs.Windows.{windowSize, windowOf};
-ghost use Rattle.ratio_codec.specs.Searched.{Searched};
-ghost use Rattle.ratio_codec.specs.Passed.{Passed};
+ghost use Rattle.ratio_window.specs.Searched.{Searched};
+ghost use Rattle.ratio_window.specs.Passed.{Passed};
 ghost use Rattle.ratio_search.specs.Planes.{Planes};
 ghost use Rattle.ratio_search.specs.Apart.{Apart};
 use super::pairs::Pairs;
 use super::pairs::beats;
 use super::pairs::pairs_of;
 use super::pairs::suspect;
-use ratio_codec::search::Best;
-use ratio_codec::search::lead_zeros;
-use ratio_codec::search::trail_zeros;
-
-// The size of the window.
-const WINDOW: usize = 127;
+use super::planes::CELLS;
+use super::planes::SLOTS;
+use ratio_window::Best;
+use ratio_window::lead_zeros;
+use ratio_window::trail_zeros;
+use ratio_window::window_start;
 
 // The end of the newest block before `high` that has a suspect, or `from`.
 fn pass_blocks(
-    planes: &[u8; 1024],
+    planes: &[u8; CELLS],
     ratios: &[u64],
     from: usize,
     high: usize,
@@ -34,7 +34,7 @@ fn pass_blocks(
     let mut h = high;
     while from < h {
         let low = (h - 1) / 16 * 16;
-        if suspect(planes, low % 128, v, p) {
+        if suspect(planes, low % SLOTS, v, p) {
             return h;
         }
         h = low;
@@ -66,7 +66,7 @@ fn later(a: usize, b: usize) -> usize
 
 // The end of the newest ratio from `from` up to `high` that is still to be counted, or `from`.
 fn pass(
-    planes: &[u8; 1024],
+    planes: &[u8; CELLS],
     ratios: &[u64],
     from: usize,
     high: usize,
@@ -86,15 +86,8 @@ fn pass(
     pass_ratios(ratios, low, h, v, sum, p)
 }
 
-// The index at which the window of ratio i begins.
-pub fn window_start(i: usize) -> usize
-    ensures { λ r. ⌜ r ≡ i - windowSize ⌝ }
-{
-    if i < WINDOW { 0 } else { i - WINDOW }
-}
-
 // The best of the window of ratio i for v, newest first; an equal ratio ends the search.
-pub fn find(planes: &[u8; 1024], ratios: &[u64], i: usize, v: u64) -> Best
+pub fn find(planes: &[u8; CELLS], ratios: &[u64], i: usize, v: u64) -> Best
     requires { ⌜ (0 < i) × (i ≤ length (now ratios)) × Planes (now planes) (now ratios) (i - windowSize) i ⌝ }
     ensures { λ r. ⌜ Searched v (windowOf windowSize (take i (now (ratios .entry)))) (r .place) (r .sum) ⌝ }
 {

@@ -55,15 +55,17 @@ pub(crate) fn put_body(coding: Coding, numbers: &[u64], out: &mut [u8]) -> Wrote
     }
 }
 
-// The ratios of a body, by the open rule or strictly.
+// The ratios of a body, by the open rule or strictly: as many as the count, and every byte used.
 fn get_ratios(openly: bool, body: &[u8], count: usize, out: &mut [u64]) -> bool
     requires { ⌜ count ≤ length (now out) ⌝ }
     ensures { λ r. ⌜ Filled (ratiosBy openly count (now (body .entry))) r (now (out .entry)) (now (out .exit)) ⌝ }
 {
     if openly {
-        ratio_bodies::get_open(body, count, out)
+        let took = ratio_bodies::get_open(body, count, out);
+        took.whole(count, body.len())
     } else {
-        ratio_bodies::get_strict(body, count, out)
+        let took = ratio_bodies::get_strict(body, count, out);
+        took.whole(count, body.len())
     }
 }
 

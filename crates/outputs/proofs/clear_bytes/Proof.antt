@@ -1,4 +1,4 @@
--- `bits::clear_bytes` meets its contract. The invariant: the first i elements are 0, and the others are as they came.
+-- `clear_bytes` meets its contract. The invariant: the first i elements are 0, and the others are as they came.
 use Prim.Native.Nat.{_-_}
 use native.Mathlib.Omega.{arith}
 use borrow.Author.Needs.{needs}

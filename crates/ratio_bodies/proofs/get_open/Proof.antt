@@ -1,17 +1,16 @@
--- `get_open` meets its contract. The invariant: the first i ratios stand at the front, and reading on from there gives the whole reading.
-use mathlib.Core.Bool.{false}
+-- `get_open` meets its contract. The invariant: the first i ratios stand at the front, and with what reading on from there takes they are all
+-- that is taken.
 use Prim.Native.Nat.{_-_}
 use native.Mathlib.Omega.{arith}
 use borrow.Author.Needs.{needs}
-use lib.Dec.{eqb}
-use lib.ListN.{length}
 use Rattle.ratio_format.specs.Open.{openRead}
-use Rattle.ratio_bodies.proofs.Got.{Got, filled-open, open-within, got-none, got-refused, got-within, got-more, got-all}
+use Rattle.ratio_format.proofs.Taken.{open-within}
+use Rattle.ratio_bodies.proofs.Taking.{Taking, taking-none, taking-all, taking-stop, taking-within, taking-more}
 use Rattle.ratio_bodies.proofs.get_open.Statement.{statement}
 use Rattle.ratio_bodies.proofs.get_open.Tie as tie
 
 abbrev Inv-loop : tie.InvT-loop
-Inv-loop body count out₀ at₀ i₀ out at i = Got openRead count body out₀ out at i
+Inv-loop body count out₀ at₀ i₀ out at i = Taking openRead count body out₀ out at i
 
 abbrev μ-loop : tie.MeasureT-loop
 μ-loop body count out₀ at₀ i₀ out at i = count - i
@@ -19,7 +18,7 @@ abbrev μ-loop : tie.MeasureT-loop
 loop-holds : tie.Need-loop-holds Inv-loop μ-loop
 loop-holds c =
     let a = c .before .before .args in
-    got-none openRead (a .count) (a .body .now) (a .out .now)
+    taking-none openRead (a .count) (a .body .now) (a .out .now)
 
 open-from-requires : tie.Need-open-from-requires Inv-loop μ-loop
 open-from-requires c κs = search needs
@@ -35,12 +34,13 @@ same-length c = search needs
 
 returns : tie.Need-returns Inv-loop μ-loop
 returns c =
-    let r = c .before .before .open-from in
-    let l = c .before .before .before .before .before .loop in
-    let d = c .before .before .before .before .before .before .before in
-    let a = d .before .args in
-    filled-open (a .count) (a .body .now) (a .out .now) (l .out) false
-    (got-refused openRead (a .count) (a .body .now) (a .out .now) (l .out) (l .at) (l .i) (l .inv) (omega arith) (r .result) (r .ensures) (c .enum-told .given .1))
+    let read = c .before .before in
+    let r = read .open-from in
+    let turn = read .before .before .before in
+    let l = turn .loop in
+    let start = turn .before .before .before in
+    let a = start .args in
+    taking-stop openRead (a .count) (a .body .now) (a .out .now) (l .out) (l .at) (l .i) (l .inv) (omega arith) (r .result) (r .ensures) (start .pre) (c .enum-told .given .1)
 
 mul-out : tie.Need-mul-out Inv-loop μ-loop
 mul-out c = search needs
@@ -50,11 +50,14 @@ slice-write-out c = search needs
 
 add-at : tie.Need-add-at Inv-loop μ-loop
 add-at c =
-    let r = c .before .before .before .open-from in
-    let l = c .before .before .before .before .before .before .loop in
-    let a = c .before .before .before .before .before .before .before .before .before .args in
-    let g = c .before .r .given in
-    omega (arith, got-within openRead (a .count) (a .body .now) (a .out .now) (l .out) (l .at) (l .i) (l .inv) (omega arith) (r .result) (r .ensures) open-within (g .0 .0) (g .0 .1 .0) (g .1))
+    let known = c .before in
+    let g = known .r .given in
+    let read = known .before .before in
+    let r = read .open-from in
+    let turn = read .before .before .before in
+    let l = turn .loop in
+    let a = turn .before .before .before .args in
+    omega (arith, taking-within openRead (a .count) (a .body .now) (a .out .now) (l .out) (l .at) (l .i) (l .inv) (omega arith) (r .result) (r .ensures) open-within (g .0 .0) (g .0 .1 .0) (g .1))
 
 add-i : tie.Need-add-i Inv-loop μ-loop
 add-i c = search needs
@@ -64,23 +67,26 @@ loop-less c = search needs
 
 loop-again : tie.Need-loop-again Inv-loop μ-loop
 loop-again c =
-    let r = c .before .before .before .open-from in
-    let l = c .before .before .before .before .before .before .loop in
-    let d = c .before .before .before .before .before .before .before .before .before in
-    let a = d .args in
-    let g = c .before .r .given in
-    got-more openRead (a .count) (a .body .now) (a .out .now) (l .out) (l .at) (l .i) (l .inv) (omega arith) (r .result) (r .ensures) open-within (g .0 .0) (g .0 .1 .0) (g .1) (d .pre)
+    let known = c .before in
+    let g = known .r .given in
+    let read = known .before .before in
+    let r = read .open-from in
+    let turn = read .before .before .before in
+    let l = turn .loop in
+    let start = turn .before .before .before in
+    let a = start .args in
+    taking-more openRead (a .count) (a .body .now) (a .out .now) (l .out) (l .at) (l .i) (l .inv) (omega arith) (r .result) (r .ensures) open-within (g .0 .0) (g .0 .1 .0) (g .1) (start .pre)
 
 same-length-2 : tie.Need-same-length-2 Inv-loop μ-loop
 same-length-2 c = search needs
 
 returns-2 : tie.Need-returns-2 Inv-loop μ-loop
 returns-2 c =
-    let l = c .before .loop in
-    let d = c .before .before .before in
-    let a = d .before .args in
-    filled-open (a .count) (a .body .now) (a .out .now) (l .out) (eqb (l .at) (length (a .body .now)))
-    (got-all openRead (a .count) (a .body .now) (a .out .now) (l .out) (l .at) (l .i) (l .inv) (omega arith) (d .before .pre))
+    let turn = c .before in
+    let l = turn .loop in
+    let start = turn .before .before .before in
+    let a = start .args in
+    taking-all openRead (a .count) (a .body .now) (a .out .now) (l .out) (l .at) (l .i) (l .inv) (omega arith) (start .pre)
 
 pub get-open-spec : {M : Type 1} → statement M
 get-open-spec =

@@ -1,34 +1,34 @@
--- `get_strict` meets its contract. The invariant: the first i ratios stand at the front, and reading on from there gives the whole reading;
--- the planes are those of the ratios before `done`, and the marks those of the window of ratio i.
-use mathlib.Core.Path.{_≡_, refl, sym, ap, _∙_, subst}
-use mathlib.Core.Bool.{true, false}
+-- `get_strict` meets its contract. The invariant: the first i ratios stand at the front, and with what reading on from there takes they are all
+-- that is taken; the planes are those of the ratios before `done`, and the marks those of the window of ratio i.
+use mathlib.Core.Path.{_≡_, refl, sym, ap, _∙_}
+use mathlib.Core.Bool.{true}
 use mathlib.Core.List.{List}
-use Prim.Native.Nat.{ℕ, _-_, _≤_, _<_}
+use Prim.Native.Nat.{ℕ, _-_, _%_, _≤_, _<_}
 use native.Mathlib.Omega.{arith}
 use borrow.Author.Needs.{needs}
 use borrow.Author.Tests.{ne-eqb, not-true, not-false}
-use lib.Dec.{eqb}
-use lib.ListN.{length, getD, take, drop, replicate}
+use lib.ListN.{length, getD, take, drop, set, replicate}
 use Rattle.lists.specs.Compare.{begins}
-use Rattle.outputs.proofs.Parts.{rest-is}
 use Rattle.ratio_format.specs.declared.Read.the-variants.{Ratio, Nothing}
 use Rattle.ratio_format.specs.Windows.{windowSize, windowOf}
 use Rattle.ratio_format.specs.Forms.{coded}
 use Rattle.ratio_format.specs.Open.{openRead, strictRead}
 use Rattle.ratio_format.proofs.Open.{strict-nothing, strict-good, strict-other}
-use Rattle.ratio_search.specs.Planes.{Kept}
-use Rattle.ratio_search.proofs.Slots.{kept-none, kept-set, planes-part}
-use Rattle.ratio_search.proofs.Found.{window-length}
-use Rattle.ratio_bodies.specs.Marks.{Marks}
-use Rattle.ratio_bodies.proofs.Named.{one-named}
-use Rattle.ratio_bodies.proofs.Marked.{marks-none, marks-more}
-use Rattle.ratio_bodies.proofs.Got.{Got, filled-strict, strict-within, got-none, got-refused, got-within, got-more, got-all}
+use Rattle.ratio_format.proofs.Taken.{strict-within}
+use Rattle.ratio_window.proofs.Windows.{window-inside}
+use Rattle.ratio_codec.proofs.References.{named-one}
+use Rattle.ratio_search.specs.Planes.{slots, cells, Kept}
+use Rattle.ratio_search.proofs.BytePlanes.{kept-none, kept-set, planes-part}
+use Rattle.ratio_bodies.specs.Marks.{slotOf, Marks}
+use Rattle.ratio_bodies.proofs.FirstByte.{rest-first, named-at}
+use Rattle.ratio_bodies.proofs.Marks.{marks-none, marks-more}
+use Rattle.ratio_bodies.proofs.Taking.{Taking, taking-none, taking-all, taking-stop, taking-within, taking-more}
 use Rattle.ratio_bodies.proofs.get_strict.Statement.{statement}
 use Rattle.ratio_bodies.proofs.get_strict.Tie as tie
 
 abbrev Inv-loop : tie.InvT-loop
 Inv-loop body count out₀ planes₀ again₀ done₀ at₀ i₀ out planes again done at i =
-    Got strictRead count body out₀ out at i × Kept planes out done × (done ≤ i) × Marks again out i
+    Taking strictRead count body out₀ out at i × Kept planes out done × (done ≤ i) × Marks again out i
 
 abbrev μ-loop : tie.MeasureT-loop
 μ-loop body count out₀ planes₀ again₀ done₀ at₀ i₀ out planes again done at i = count - i
@@ -36,10 +36,10 @@ abbrev μ-loop : tie.MeasureT-loop
 loop-holds : tie.Need-loop-holds Inv-loop μ-loop
 loop-holds c =
     let a = c .before .before .args in (
-      got-none strictRead (a .count) (a .body .now) (a .out .now),
-      kept-none (replicate 1024 0) (a .out .now) refl,
+      taking-none strictRead (a .count) (a .body .now) (a .out .now),
+      kept-none (replicate cells 0) (a .out .now) refl,
       omega arith,
-      marks-none (replicate 128 0) (a .out .now) refl,
+      marks-none (replicate slots 0) (a .out .now) refl,
     )
 
 open-near-requires : tie.Need-open-near-requires Inv-loop μ-loop
@@ -54,162 +54,167 @@ enum-told c = search needs
 same-length : tie.Need-same-length Inv-loop μ-loop
 same-length c = search needs
 
+-- a turn in which a ratio is looked for
+module _ (c : tie.After-open-near Inv-loop μ-loop) where
+  abbrev turn : tie.At-loop Inv-loop μ-loop
+  turn = c .before .before .before
+
+  abbrev start : tie.Start Inv-loop μ-loop
+  start = turn .before .before .before
+
+  abbrev out : List ℕ
+  out = turn .loop .out
+
+  abbrev at : ℕ
+  at = turn .loop .at
+
+  abbrev i : ℕ
+  i = turn .loop .i
+
+  abbrev body : List ℕ
+  body = start .args .body .now
+
+  abbrev w : List ℕ
+  w = windowOf windowSize (take i out)
+
+  abbrev rest : List ℕ
+  rest = drop at body
+
+  more : i < start .args .count
+  more = c .before .before .loop-test .taken
+
+  inside : i < length out
+  inside = omega (arith, more, turn .loop .inv .0 .2, start .pre)
+
 returns : tie.Need-returns Inv-loop μ-loop
 returns c =
-    let o = c .before .before .open-near in
-    let l = c .before .before .before .before .before .loop in
-    let d = c .before .before .before .before .before .before .before in
-    let a = d .before .args in
-    let w = windowOf windowSize (take (l .i) (l .out)) in
-    let s = drop (l .at) (a .body .now) in
-    filled-strict (a .count) (a .body .now) (a .out .now) (l .out) false (λ i. d .shared-slice-known .given i .fits)
-    (got-refused strictRead (a .count) (a .body .now) (a .out .now) (l .out) (l .at) (l .i) (l .inv .0) (omega arith) Nothing
-    (strict-nothing w s (o .result) (o .ensures) (c .enum-told .given .1)) refl)
+    let t = c .before .before in
+    let o = t .open-near in
+    let a = start t .args in
+    taking-stop strictRead (a .count) (body t) (a .out .now) (out t) (at t) (i t) (turn t .loop .inv .0) (more t) Nothing
+    (strict-nothing (w t) (rest t) (o .result) (o .ensures) (c .enum-told .given .1)) (start t .pre) refl
 
 refresh-requires : tie.Need-refresh-requires Inv-loop μ-loop
 refresh-requires c κs =
-    let l = c .before .before .before .before .before .before .before .before .loop in
-    (l .inv .1, omega arith, omega arith)
+    let known = c .before .before .before in
+    (turn (known .before .before) .loop .inv .1, omega arith, omega arith)
 
-sub-accepts : tie.Need-sub-accepts Inv-loop μ-loop
-sub-accepts c = search needs
+-- the ratio that was read, and its bytes
+module _ (c : tie.After-refresh Inv-loop μ-loop) where
+  abbrev known : tie.After-r Inv-loop μ-loop
+  known = c .before .before .before .before
 
-part-accepts-start : tie.Need-part-accepts-start Inv-loop μ-loop
-part-accepts-start c = search needs
+  abbrev t : tie.After-open-near Inv-loop μ-loop
+  t = known .before .before
 
-part-accepts-end : tie.Need-part-accepts-end Inv-loop μ-loop
-part-accepts-end c = search needs
-
--- what was read
-module _ (c : tie.After-accepts-arg2 Inv-loop μ-loop) where
   abbrev v : ℕ
-  v = c .before .before .before .before .before .before .before .before .r .given .0 .0
+  v = known .r .given .0 .0
 
   abbrev n : ℕ
-  n = c .before .before .before .before .before .before .before .before .r .given .0 .1 .0
+  n = known .r .given .0 .1 .0
 
-  abbrev w : List ℕ
-  w = windowOf windowSize (take (c .before .before .before .before .before .before .before .before .before .before .before .before .before .loop .i) (c .before .before .before .before .before .before .before .before .before .before .before .before .before .loop .out))
-
-  abbrev s : List ℕ
-  s =
-      let l = c .before .before .before .before .before .before .before .before .before .before .before .before .before .loop in
-      let b = c .before .before .before .before .before .before .before .before .before .before .before .before .before .before .before .before .args .body .now in
-      take (length b - l .at) (drop (l .at) b)
-
-  -- the rest of the body, which is the part that is lent
-  abbrev rest : List ℕ
-  rest = drop (c .before .before .before .before .before .before .before .before .before .before .before .before .before .loop .at) (c .before .before .before .before .before .before .before .before .before .before .before .before .before .before .before .before .args .body .now)
-
-  whole : s ≡ rest
-  whole = rest-is (c .before .before .before .before .before .before .before .before .before .before .before .before .before .loop .at) (c .before .before .before .before .before .before .before .before .before .before .before .before .before .before .before .before .args .body .now)
-
-  found : c .before .before .before .before .before .before .before .before .before .before .open-near .result ≡ openRead w s
-  found = c .before .before .before .before .before .before .before .before .before .before .open-near .ensures ∙ ap (openRead w) (sym whole)
-
-  opens : openRead w s ≡ Ratio v n
-  opens = sym found ∙ c .before .before .before .before .before .before .before .before .r .given .1
-
-  turn : c .before .before .before .before .before .before .before .before .before .before .before .before .before .loop .i < c .before .before .before .before .before .before .before .before .before .before .before .before .before .before .before .before .args .count
-  turn = c .before .before .before .before .before .before .before .before .before .before .before .before .loop-test .taken
-
-  room : c .before .before .before .before .before .before .before .before .before .before .before .before .before .loop .i < length (c .before .before .before .before .before .before .before .before .before .before .before .before .before .loop .out)
-  room = omega (arith, turn, c .before .before .before .before .before .before .before .before .before .before .before .before .before .loop .inv .0 .2, c .before .before .before .before .before .before .before .before .before .before .before .before .before .before .before .before .pre)
+  opens : openRead (w t) (rest t) ≡ Ratio v n
+  opens = sym (t .open-near .ensures) ∙ known .r .given .1
 
 accepts-requires : tie.Need-accepts-requires Inv-loop μ-loop
 accepts-requires c κs =
-    let l = c .before .before .before .before .before .before .before .before .before .before .before .before .before .loop in
-    let f = c .before .before .before .before .refresh in (
-      omega arith,
-      l .inv .3,
-      opens c,
+    let r = c .before .before .before in
+    let x = t r in
+    let f = r .refresh in (
+      omega (arith, inside x),
+      turn x .loop .inv .3,
+      turn x .loop .inv .0 .1,
+      opens r,
       λ e h.
-          let q = f .ensures .2 (ne-eqb (n c) 1 e) h in
-          planes-part (f .last .0) (l .out) (f .result - 128) (f .result) (l .i - 127) (l .i) (omega arith) (omega arith) (f .ensures .0 .1),
+          let q = f .ensures .2 (ne-eqb (n r) 1 e) h in
+          planes-part (f .last .0) (out x) (f .result - slots) (f .result) (i x - windowSize) (i x) (omega arith) (omega arith) (f .ensures .0 .1),
     )
 
 same-length-2 : tie.Need-same-length-2 Inv-loop μ-loop
 same-length-2 c = search needs
 
+-- where the ratio is judged
+abbrev judged : tie.After-accepts Inv-loop μ-loop → tie.After-refresh Inv-loop μ-loop
+judged c = c .before .before .before .before
+
 returns-2 : tie.Need-returns-2 Inv-loop μ-loop
 returns-2 c =
-    let x = c .before in
-    let r = x .before in
-    let o = r .before .before .before .before .before .before .before .before .before .before .open-near in
-    let l = r .before .before .before .before .before .before .before .before .before .before .before .before .before .loop in
-    let d = r .before .before .before .before .before .before .before .before .before .before .before .before .before .before .before in
-    let a = d .before .args in
-    filled-strict (a .count) (a .body .now) (a .out .now) (l .out) false (λ i. d .shared-slice-known .given i .fits)
-    (got-refused strictRead (a .count) (a .body .now) (a .out .now) (l .out) (l .at) (l .i) (l .inv .0) (turn r) Nothing
-    (subst (λ (t : List ℕ). Nothing ≡ strictRead (w r) t) (whole r) (strict-other (w r) (s r) (o .result) (found r) (v r) (n r) (x .accepts .result) (r .before .before .before .before .before .before .before .before .r .given .1) (x .accepts .ensures) (not-true (x .accepts .result) (c .if1 .taken)))) refl)
+    let r = judged (c .before) in
+    let x = t r in
+    let a = start x .args in
+    let o = x .open-near in
+    let j = c .before .accepts in
+    taking-stop strictRead (a .count) (body x) (a .out .now) (out x) (at x) (i x) (turn x .loop .inv .0) (more x) Nothing
+    (strict-other (w x) (rest x) (o .result) (o .ensures) (v r) (n r) (j .result) (known r .r .given .1) (j .ensures) (not-true (j .result) (c .if1 .taken)))
+    (start x .pre) refl
 
 -- what was accepted
 module _ (c : tie.Else1 Inv-loop μ-loop) where
-  abbrev r : tie.After-accepts-arg2 Inv-loop μ-loop
-  r = c .before .before
+  abbrev r : tie.After-refresh Inv-loop μ-loop
+  r = judged (c .before)
 
   good : c .before .accepts .result ≡ true
   good = not-false (c .before .accepts .result) (c .if1 .left)
 
-  begun : begins (coded (v r) (w r)) (s r) ≡ true
+  begun : begins (coded (v r) (w (t r))) (rest (t r)) ≡ true
   begun = sym (c .before .accepts .ensures) ∙ good
 
-  accepted : Ratio (v r) (n r) ≡ strictRead (w r) (rest r)
+  accepted : Ratio (v r) (n r) ≡ strictRead (w (t r)) (rest (t r))
   accepted =
-      let o = r .before .before .before .before .before .before .before .before .before .before .open-near in
-      subst (λ (t : List ℕ). Ratio (v r) (n r) ≡ strictRead (w r) t) (whole r) (strict-good (w r) (s r) (o .result) (found r) (v r) (n r) (c .before .accepts .result) (r .before .before .before .before .before .before .before .before .r .given .1) (c .before .accepts .ensures) good)
-
-sub-mark : tie.Need-sub-mark Inv-loop μ-loop
-sub-mark c = search needs
-
-part-mark-start : tie.Need-part-mark-start Inv-loop μ-loop
-part-mark-start c = search needs
-
-part-mark-end : tie.Need-part-mark-end Inv-loop μ-loop
-part-mark-end c = search needs
+      let o = t r .open-near in
+      strict-good (w (t r)) (rest (t r)) (o .result) (o .ensures) (v r) (n r) (c .before .accepts .result) (known r .r .given .1) (c .before .accepts .ensures) good
 
 mark-requires : tie.Need-mark-requires Inv-loop μ-loop
 mark-requires c κs =
-    let q = r (c .before .before) in
-    let l = q .before .before .before .before .before .before .before .before .before .before .before .before .before .loop in
+    let q = r (c .before) in
+    let x = t q in
     λ e.
-    let m = one-named (w q) (v q) (s q) (opens q ∙ ap (Ratio (v q)) e) in
-    (m .0, window-length (l .out) (v q) (l .i) (omega (arith, room q)) (getD (s q) 0 0) (m .1) .1)
+    let m = named-at (w x) (v q) (at x) (body x) (named-one (w x) (v q) (rest x) (opens q ∙ ap (Ratio (v q)) e)) in
+    (m .0, window-inside windowSize (out x) (i x) (omega (arith, inside x)) (getD (body x) (at x) 0) (m .1) .1)
+
+-- after the marks
+abbrev passed : tie.After-mark Inv-loop μ-loop → tie.Else1 Inv-loop μ-loop
+passed c = c .before .before
+
+-- the marks after a reference, whose place is the first byte of what is left
+marked : (c : tie.After-mark Inv-loop μ-loop) → let q = r (passed c) in let x = t q in
+    n q ≡ 1 → c .mark .last .0 ≡ set (set (turn x .loop .again) (slotOf (i x) (getD (rest x) 0 0)) 1) (i x % slots) 0
+marked c one = let x = t (r (passed c)) in rw (rest-first (at x) (body x)) (c .mark .ensures .0 one)
 
 mul-out : tie.Need-mul-out Inv-loop μ-loop
 mul-out c =
-    let q = r (c .before .before .before) in
-    omega (arith, room q, q .before .before .before .before .before .before .before .before .before .before .before .before .before .loop .inv .0 .2, q .before .before .before .before .before .before .before .before .before .before .before .before .before .before .before .before .good .1 .1 .0 .1)
+    let x = t (r (passed c)) in
+    omega (arith, inside x, turn x .loop .inv .0 .2, start x .good .1 .1 .0 .1)
 
 slice-write-out : tie.Need-slice-write-out Inv-loop μ-loop
-slice-write-out c = search needs
+slice-write-out c = let x = t (r (passed c)) in omega (arith, inside x)
 
 add-at : tie.Need-add-at Inv-loop μ-loop
 add-at c =
-    let e = c .before .before .before in
+    let e = passed c in
     let q = r e in
-    let l = q .before .before .before .before .before .before .before .before .before .before .before .before .before .loop in
-    let a = q .before .before .before .before .before .before .before .before .before .before .before .before .before .before .before .before .args in
-    omega (arith, q .before .before .before .before .before .before .before .before .before .before .before .before .before .before .before .before .good .0 .0, got-within strictRead (a .count) (a .body .now) (a .out .now) (l .out) (l .at) (l .i) (l .inv .0) (turn q) (Ratio (v q) (n q)) (accepted e) strict-within (v q) (n q) refl)
+    let x = t q in
+    let a = start x .args in
+    omega (arith, start x .good .0 .0, taking-within strictRead (a .count) (body x) (a .out .now) (out x) (at x) (i x) (turn x .loop .inv .0) (more x) (Ratio (v q) (n q)) (accepted e) strict-within (v q) (n q) refl)
 
 add-i : tie.Need-add-i Inv-loop μ-loop
-add-i c = search needs
+add-i c = let x = t (r (passed c)) in omega (arith, more x)
 
 loop-less : tie.Need-loop-less Inv-loop μ-loop
-loop-less c = search needs
+loop-less c = let x = t (r (passed c)) in omega (arith, more x)
 
 loop-again : tie.Need-loop-again Inv-loop μ-loop
 loop-again c =
-    let e = c .before .before .before in
+    let e = passed c in
     let q = r e in
-    let l = q .before .before .before .before .before .before .before .before .before .before .before .before .before .loop in
-    let d = q .before .before .before .before .before .before .before .before .before .before .before .before .before .before .before .before in
-    let a = d .args in
-    let f = q .before .before .before .before .refresh in (
-      got-more strictRead (a .count) (a .body .now) (a .out .now) (l .out) (l .at) (l .i) (l .inv .0) (turn q) (Ratio (v q) (n q)) (accepted e) strict-within (v q) (n q) refl (d .pre),
-      kept-set (f .last .0) (l .out) (f .result) (l .i) (v q) (f .ensures .1) (f .ensures .0),
-      omega arith,
-      marks-more (l .again) (l .out) (l .i) (v q) (l .inv .3) (omega (arith, room q)) (room q) (s q) (c .mark .last .0) (n q) (opens q) (begun e) (c .mark .ensures .0) (c .mark .ensures .1),
+    let x = t q in
+    let l = turn x .loop in
+    let a = start x .args in
+    let f = q .refresh in (
+      taking-more strictRead (a .count) (body x) (a .out .now) (out x) (at x) (i x) (l .inv .0) (more x) (Ratio (v q) (n q)) (accepted e) strict-within (v q) (n q) refl (start x .pre),
+      kept-set (f .last .0) (out x) (f .result) (i x) (v q) (f .ensures .1) (f .ensures .0),
+      omega (arith, f .ensures .1),
+      marks-more (l .again) (out x) (i x) (v q) (l .inv .3) (omega (arith, inside x)) (inside x) (rest x) (c .mark .last .0) (n q) (opens q) (begun e) (marked c) (c .mark .ensures .1),
     )
 
 same-length-3 : tie.Need-same-length-3 Inv-loop μ-loop
@@ -217,11 +222,11 @@ same-length-3 c = search needs
 
 returns-3 : tie.Need-returns-3 Inv-loop μ-loop
 returns-3 c =
-    let l = c .before .loop in
-    let d = c .before .before .before in
-    let a = d .before .args in
-    filled-strict (a .count) (a .body .now) (a .out .now) (l .out) (eqb (l .at) (length (a .body .now))) (λ i. d .shared-slice-known .given i .fits)
-    (got-all strictRead (a .count) (a .body .now) (a .out .now) (l .out) (l .at) (l .i) (l .inv .0) (omega arith) (d .before .pre))
+    let turn = c .before in
+    let l = turn .loop in
+    let start = turn .before .before .before in
+    let a = start .args in
+    taking-all strictRead (a .count) (a .body .now) (a .out .now) (l .out) (l .at) (l .i) (l .inv .0) (omega arith) (start .pre)
 
 pub get-strict-spec : {M : Type 1} → statement M
 get-strict-spec =
@@ -236,15 +241,9 @@ get-strict-spec =
     same-length
     returns
     refresh-requires
-    sub-accepts
-    part-accepts-start
-    part-accepts-end
     accepts-requires
     same-length-2
     returns-2
-    sub-mark
-    part-mark-start
-    part-mark-end
     mark-requires
     mul-out
     slice-write-out

@@ -7,7 +7,7 @@ use lib.ListN.{getD}
 use Rattle.outputs.specs.Outputs.{Placed}
 use Rattle.ratio_format.specs.declared.RatioForm.{RatioForm}
 use Rattle.ratio_format.specs.Forms.{written, coded}
-use Rattle.ratio_bodies.proofs.Start.{window-fit}
+use Rattle.ratio_codec.proofs.Chosen.{window-fit}
 use borrow.Author.Needs.{needs}
 use Rattle.ratio_bodies.proofs.put_nth.Statement.{statement}
 use Rattle.ratio_bodies.proofs.put_nth.Tie as tie
@@ -20,9 +20,11 @@ same-length c = search needs
 
 returns : tie.Need-returns
 returns c =
-    let p = c .before .before .put-reference in
-    let d = c .before .before .before .before .before .before .before in
-    subst (λ (bs : List ℕ). Placed bs (p .result) (d .args .out .now) (p .last .0)) (sym (d .pre .1 (c .before .before .before .before .if1 .taken))) (p .ensures)
+    let put = c .before .before in
+    let p = put .put-reference in
+    let known = put .before .before in
+    let d = known .before .before .before in
+    subst (λ (bs : List ℕ). Placed bs (p .result) (d .args .out .now) (p .last .0)) (sym (d .pre .1 (known .if1 .taken))) (p .ensures)
 
 mul-v : tie.Need-mul-v
 mul-v c = search needs
@@ -37,9 +39,11 @@ choose-nth-requires c κs =
 
 put-form-requires : tie.Need-put-form-requires
 put-form-requires c κs =
-    let d = c .before .before .before .before .before .before in
+    let chosen = c .before in
+    let f = chosen .choose-nth in
+    let other = chosen .before .before in
+    let d = other .before .before .before in
     let a = d .args in
-    let f = c .before .choose-nth in
     window-fit (a .ratios .now) (a .i) (getD (a .ratios .now) (a .i) 0) (f .result) (omega arith) (f .ensures)
 
 same-length-2 : tie.Need-same-length-2
@@ -48,9 +52,12 @@ same-length-2 c = search needs
 returns-2 : tie.Need-returns-2
 unfolding coded
 returns-2 c =
-    let p = c .before .before .put-form in
-    let f = c .before .before .before .before .choose-nth in
-    let a = c .before .before .before .before .before .before .before .before .before .args in
+    let put = c .before .before in
+    let p = put .put-form in
+    let chosen = put .before .before in
+    let f = chosen .choose-nth in
+    let other = chosen .before .before in
+    let a = other .before .before .before .args in
     subst (λ (x : RatioForm). Placed (written (getD (a .ratios .now) (a .i) 0) x) (p .result) (a .out .now) (p .last .1 .1 .0)) (f .ensures) (p .ensures)
 
 pub put-nth-spec : {M : Type 1} → statement M

@@ -8,18 +8,19 @@ use borrow.Author.Needs.{needs}
 use borrow.Author.Tests.{le-ltb}
 use borrow.Rule.Slice.PartMut.{putMid}
 use lib.ListN.{length, drop, replicate, length-replicate}
-use Rattle.ratio_search.specs.Planes.{Kept}
-use Rattle.ratio_search.proofs.Slots.{kept-none, planes-part}
+use Rattle.ratio_format.specs.Windows.{windowSize}
+use Rattle.ratio_search.specs.Planes.{slots, cells, Kept}
+use Rattle.ratio_search.proofs.BytePlanes.{kept-none, planes-part}
 use Rattle.ratio_bodies.specs.Indexes.{Trailing}
-use Rattle.ratio_bodies.proofs.Indexed.{trailing-none}
-use Rattle.ratio_bodies.proofs.Sent.{Sent, part, sent-none, sent-full, sent-on, sent-more, sent-all}
+use Rattle.ratio_bodies.proofs.Indexes.{trailing-none}
+use Rattle.ratio_bodies.proofs.Writing.{Writing, part, writing-none, writing-full, writing-on, writing-more, writing-all}
 use Rattle.ratio_bodies.proofs.Repeated.{repeats-coded, repeats-trailing}
 use Rattle.ratio_bodies.proofs.put_ratios.Statement.{statement}
 use Rattle.ratio_bodies.proofs.put_ratios.Tie as tie
 
 abbrev Inv-loop : tie.InvT-loop
 Inv-loop ratios out₀ planes₀ slots₀ done₀ at₀ i₀ out planes slots done at i =
-    Sent ratios out₀ out at i × Kept planes ratios done × (done ≤ i) × Trailing slots ratios i
+    Writing ratios out₀ out at i × Kept planes ratios done × (done ≤ i) × Trailing slots ratios i
 
 abbrev μ-loop : tie.MeasureT-loop
 μ-loop ratios out₀ planes₀ slots₀ done₀ at₀ i₀ out planes slots done at i = length ratios - i
@@ -27,12 +28,12 @@ abbrev μ-loop : tie.MeasureT-loop
 loop-holds : tie.Need-loop-holds Inv-loop μ-loop
 loop-holds c =
     let a = c .before .before .args in
-    (sent-none (a .ratios .now) (a .out .now), kept-none (replicate 1024 0) (a .ratios .now) refl, omega arith, trailing-none (a .ratios .now))
+    (writing-none (a .ratios .now) (a .out .now), kept-none (replicate cells 0) (a .ratios .now) refl, omega arith, trailing-none (a .ratios .now))
 
 place-of-requires : tie.Need-place-of-requires Inv-loop μ-loop
 place-of-requires c κs =
-    let l = c .before .before .loop in
-    (omega arith, c .before .before .before .before .before .pre, l .inv .3)
+    let turn = c .before .before in
+    (omega arith, turn .before .before .before .pre, turn .loop .inv .3)
 
 refresh-requires : tie.Need-refresh-requires Inv-loop μ-loop
 refresh-requires c κs =
@@ -50,15 +51,18 @@ part-put-nth-end c = search needs
 
 put-nth-requires : tie.Need-put-nth-requires Inv-loop μ-loop
 put-nth-requires c κs =
-    let f = c .before .before .refresh in
-    let k = c .before .before .before .before .place-of in
-    let l = c .before .before .before .before .before .before .before .loop in
-    let a = c .before .before .before .before .before .before .before .before .before .before .args in (
+    let up = c .before .before in
+    let f = up .refresh in
+    let place = up .before .before in
+    let k = place .place-of in
+    let turn = place .before .before .before in
+    let l = turn .loop in
+    let a = turn .before .before .before .args in (
       omega arith,
       k .ensures .1,
       λ e h.
-          let q = f .ensures .2 (le-ltb (k .result) 127 e) h in
-          planes-part (f .last .0) (a .ratios .now) (f .result - 128) (f .result) (l .i - 127) (l .i) (omega arith) (omega arith) (f .ensures .0 .1),
+          let q = f .ensures .2 (le-ltb (k .result) windowSize e) h in
+          planes-part (f .last .0) (a .ratios .now) (f .result - slots) (f .result) (l .i - windowSize) (l .i) (omega arith) (omega arith) (f .ensures .0 .1),
     )
 
 enum-known-r : tie.Need-enum-known-r Inv-loop μ-loop
@@ -70,50 +74,72 @@ enum-told c = search needs
 same-length : tie.Need-same-length Inv-loop μ-loop
 same-length c = search needs
 
-returns : tie.Need-returns Inv-loop μ-loop
-returns c =
-    let p = c .before .before .before .before .put-nth in
-    let l = c .before .before .before .before .before .before .before .before .before .before .before .before .loop in
-    let a = c .before .before .before .before .before .before .before .before .before .before .before .before .before .before .before .args in
-    sent-full (a .ratios .now) (a .out .now) (l .out) (l .at) (l .i) (l .inv .0) (omega arith) (p .result) (p .last .1 .1 .1 .1 .0) (c .enum-told .given .1) (p .ensures)
+-- where ratio i is put
+module _ (c : tie.After-put-nth Inv-loop μ-loop) where
+  abbrev up : tie.After-refresh Inv-loop μ-loop
+  up = c .before .before .before
 
--- what is written once ratio i is: the output, and how much of it
-module _ (c : tie.After-known-told Inv-loop μ-loop) where
+  abbrev placed : tie.After-place-of Inv-loop μ-loop
+  placed = up .before .before
+
+  abbrev turn : tie.At-loop Inv-loop μ-loop
+  turn = placed .before .before .before
+
+  abbrev start : tie.Start Inv-loop μ-loop
+  start = turn .before .before .before
+
   abbrev ratios : List ℕ
-  ratios = c .before .before .before .before .before .before .before .before .before .before .before .before .before .before .before .before .args .ratios .now
+  ratios = start .args .ratios .now
 
   abbrev lent : List ℕ
-  lent = c .before .before .before .before .before .before .before .before .before .before .before .before .before .before .before .before .args .out .now
+  lent = start .args .out .now
 
-  abbrev first : ℕ
-  first = c .before .before .before .before .before .before .before .before .before .before .before .before .before .loop .i
+  abbrev i : ℕ
+  i = turn .loop .i
 
-  abbrev wrote : ℕ
-  wrote = c .before .r .given .0 .0
+  abbrev at : ℕ
+  at = turn .loop .at
 
-  abbrev before : List ℕ
-  before = c .before .before .before .before .before .before .before .before .before .before .before .before .before .loop .out
+  abbrev out : List ℕ
+  out = turn .loop .out
 
-  abbrev start : ℕ
-  start = c .before .before .before .before .before .before .before .before .before .before .before .before .before .loop .at
+  -- its part of the output
+  abbrev own : List ℕ
+  own = c .put-nth .last .1 .1 .1 .1 .0
+
+  more : i < length ratios
+  more = placed .before .before .loop-test .taken
+
+returns : tie.Need-returns Inv-loop μ-loop
+returns c =
+    let d = c .before .before .before .before in
+    let p = d .put-nth in
+    writing-full (ratios d) (lent d) (out d) (at d) (i d) (turn d .loop .inv .0) (more d) (p .result) (own d) (c .enum-told .given .1) (p .ensures)
+
+-- what is written once it is put: the output, and how much of it
+module _ (c : tie.After-known-told Inv-loop μ-loop) where
+  abbrev known : tie.After-r Inv-loop μ-loop
+  known = c .before
+
+  abbrev put : tie.After-put-nth Inv-loop μ-loop
+  put = known .before .before .before .before
+
+  abbrev next : ℕ
+  next = at put + known .r .given .0 .0
 
   abbrev after : List ℕ
-  after = putMid start (length before - start) before (c .before .before .before .before .before .put-nth .last .1 .1 .1 .1 .0)
+  after = putMid (at put) (length (out put) - at put) (out put) (own put)
 
-  turn : first < length ratios
-  turn = c .before .before .before .before .before .before .before .before .before .before .before .before .loop-test .taken
-
-  one : Sent ratios lent after (start + wrote) (first + 1)
+  one : Writing (ratios put) (lent put) after next (i put + 1)
   one =
-      let p = c .before .before .before .before .before .put-nth in
-      let l = c .before .before .before .before .before .before .before .before .before .before .before .before .before .loop in
-      sent-more ratios lent before start first (l .inv .0) turn (p .result) wrote (p .last .1 .1 .1 .1 .0) (c .before .r .given .1) (p .ensures) (p .kept .1 .1 .1 .1 .0)
+      let p = put .put-nth in
+      writing-more (ratios put) (lent put) (out put) (at put) (i put) (turn put .loop .inv .0) (more put) (p .result) (known .r .given .0 .0) (own put) (known .r .given .1) (p .ensures) (p .kept .1 .1 .1 .1 .0)
 
 add-next : tie.Need-add-next Inv-loop μ-loop
-add-next c = omega (arith, one c .2, c .before .before .before .before .before .before .before .before .before .before .before .before .before .before .before .before .good)
+add-next c = omega (arith, one c .2, start (put c) .good)
 
 add-put-repeats : tie.Need-add-put-repeats Inv-loop μ-loop
-add-put-repeats c = omega (arith, turn c, c .before .before .before .before .before .before .before .before .before .before .before .before .before .before .before .before .pre)
+add-put-repeats c = omega (arith, more (put c), start (put c) .pre)
 
 sub-put-repeats : tie.Need-sub-put-repeats Inv-loop μ-loop
 sub-put-repeats c = omega (arith, one c .2, one c .3)
@@ -125,44 +151,58 @@ part-put-repeats-end : tie.Need-part-put-repeats-end Inv-loop μ-loop
 part-put-repeats-end c = search needs
 
 put-repeats-requires : tie.Need-put-repeats-requires Inv-loop μ-loop
-put-repeats-requires c κs = (omega arith, omega (arith, turn (c .before)))
+put-repeats-requires c κs = (omega arith, omega (arith, more (put (c .before))))
 
 -- and once those are that repeat it
-all : (c : tie.After-slice-known3 Inv-loop μ-loop) → let d = c .before .before .before .before in let p = c .before .before .put-repeats in
-    Sent (ratios d) (lent d) (putMid (start d + wrote d) (length (after d) - (start d + wrote d)) (after d) (p .last .1 .1 .0)) (start d + wrote d + p .result) (first d + 1 + p .result)
-all c =
-    let d = c .before .before .before .before in
-    let p = c .before .before .put-repeats in
-    let e = p .ensures in
-    let zs : List ℕ = replicate (p .result) 0 in
-    let z : p .result ≡ length zs = sym (length-replicate {A = ℕ} (p .result) 0) in
-    sent-on (ratios d) (lent d) (after d) (start d + wrote d) (first d + 1) (one d) zs (first d + 1 + p .result) (e .0)
-    (repeats-coded (ratios d) (first d + 1) (omega arith) (p .result) (e .0) (e .1)) (p .result) (p .last .1 .1 .0)
-    (z, omega (arith, z, e .2), e .3 ∙ ap (λ (n : ℕ). zs ++ drop n (part (ratios d) (lent d) (after d) (start d + wrote d) (first d + 1) (one d))) z)
-    (p .kept .1 .1 .0)
+module _ (c : tie.After-slice-known3 Inv-loop μ-loop) where
+  abbrev repeated : tie.After-put-repeats Inv-loop μ-loop
+  repeated = c .before .before
+
+  abbrev first : tie.After-known-told Inv-loop μ-loop
+  first = repeated .before .before
+
+  abbrev d : tie.After-put-nth Inv-loop μ-loop
+  d = put first
+
+  -- how many there are, and their part of the output
+  abbrev k : ℕ
+  k = repeated .put-repeats .result
+
+  abbrev zeros : List ℕ
+  zeros = repeated .put-repeats .last .1 .1 .0
+
+  all : Writing (ratios d) (lent d) (putMid (next first) (length (after first) - next first) (after first) zeros) (next first + k) (i d + 1 + k)
+  all =
+      let p = repeated .put-repeats in
+      let e = p .ensures in
+      let zs : List ℕ = replicate k 0 in
+      let z : k ≡ length zs = sym (length-replicate {A = ℕ} k 0) in
+      writing-on (ratios d) (lent d) (after first) (next first) (i d + 1) (one first) zs (i d + 1 + k) (e .0)
+      (repeats-coded (ratios d) (i d + 1) (omega arith) k (e .0) (e .1)) k zeros
+      (z, omega (arith, z, e .2), e .3 ∙ ap (λ (n : ℕ). zs ++ drop n (part (ratios d) (lent d) (after first) (next first) (i d + 1) (one first))) z)
+      (p .kept .1 .1 .0)
 
 add-at : tie.Need-add-at Inv-loop μ-loop
-add-at c = omega (arith, all c .2, c .before .before .before .before .before .before .before .before .before .before .before .before .before .before .before .before .before .before .before .before .good)
+add-at c = omega (arith, all c .2, start (d c) .good)
 
 add-i : tie.Need-add-i Inv-loop μ-loop
-add-i c = omega (arith, turn (c .before .before .before .before), c .before .before .before .before .before .before .before .before .before .before .before .before .before .before .before .before .before .before .before .before .pre)
+add-i c = omega (arith, more (d c), start (d c) .pre)
 
 add-i-2 : tie.Need-add-i-2 Inv-loop μ-loop
-add-i-2 c = omega (arith, all c .0, c .before .before .before .before .before .before .before .before .before .before .before .before .before .before .before .before .before .before .before .before .pre)
+add-i-2 c = omega (arith, all c .0, start (d c) .pre)
 
 loop-less : tie.Need-loop-less Inv-loop μ-loop
-loop-less c = omega (arith, turn (c .before .before .before .before), c .before .before .put-repeats .ensures .0)
+loop-less c = omega (arith, more (d c), repeated c .put-repeats .ensures .0)
 
 loop-again : tie.Need-loop-again Inv-loop μ-loop
 loop-again c =
-    let d = c .before .before .before .before in
-    let p = c .before .before .put-repeats in
-    let k = c .before .before .before .before .before .before .before .before .before .before .before .before .before .before .place-of in
-    let f = c .before .before .before .before .before .before .before .before .before .before .before .before .refresh in (
+    let p = repeated c .put-repeats in
+    let n = placed (d c) .place-of in
+    let f = up (d c) .refresh in (
       all c,
       f .ensures .0,
       omega (arith, f .ensures .1),
-      repeats-trailing (ratios d) (first d + 1) (omega arith) (k .last .0) (p .result) (p .ensures .1) (k .ensures .0),
+      repeats-trailing (ratios (d c)) (i (d c) + 1) (omega arith) (n .last .0) (k c) (p .ensures .1) (n .ensures .0),
     )
 
 same-length-2 : tie.Need-same-length-2 Inv-loop μ-loop
@@ -172,7 +212,7 @@ returns-2 : tie.Need-returns-2 Inv-loop μ-loop
 returns-2 c =
     let l = c .before .loop in
     let a = c .before .before .before .before .args in
-    sent-all (a .ratios .now) (a .out .now) (l .out) (l .at) (l .i) (l .inv .0) (omega arith)
+    writing-all (a .ratios .now) (a .out .now) (l .out) (l .at) (l .i) (l .inv .0) (omega arith)
 
 pub put-ratios-spec : {M : Type 1} → statement M
 put-ratios-spec =

@@ -1,13 +1,14 @@
 -- `open_ahead` meets its contract: a law for each outcome.
 use mathlib.Core.Path.{refl, sym, ap, _∙_}
-use Prim.Native.Nat.{_-_, _%_}
+use mathlib.Core.List.{List}
+use Prim.Native.Nat.{ℕ, _+_, _-_, _%_, _≤_, _<_}
 use native.Mathlib.Omega.{arith}
 use borrow.Author.Needs.{needs}
-use lib.ListN.{getD, take, drop}
+use lib.ListN.{length, getD, take, drop}
 use lib.Seq.{drop-drop}
 use Rattle.ratio_format.specs.Open.{openXor}
 use Rattle.ratio_format.specs.Windows.{windowSize, windowOf}
-use Rattle.ratio_bodies.proofs.Places.{rest-first, ten-some, ahead-exception, far, past, named, xored}
+use Rattle.ratio_bodies.proofs.FirstByte.{rest-first, ahead-some, ahead-exception, place-far, place-past, place-reference, place-xor}
 use Rattle.ratio_bodies.proofs.ahead.open_ahead.Statement.{statement}
 use Rattle.ratio_bodies.proofs.ahead.open_ahead.Tie as tie
 
@@ -23,25 +24,49 @@ add-get-bytes c = search needs
 get-bytes-requires : tie.Need-get-bytes-requires
 get-bytes-requires c κs = search needs
 
+-- where the first byte is known
+module _ (c : tie.After-shared-slice-known3) where
+  abbrev start : tie.Start
+  start = c .before .before .before
+
+  abbrev rs : List ℕ
+  rs = start .args .ratios .now
+
+  abbrev i : ℕ
+  i = start .args .i
+
+  abbrev body : List ℕ
+  body = start .args .body .now
+
+  abbrev at : ℕ
+  at = start .args .at
+
+  abbrev b : ℕ
+  b = getD body at 0
+
+  few : i ≤ length rs
+  few = start .pre .0
+
+  ten : at + 10 ≤ length body
+  ten = start .pre .1
+
+  byte : b < 256
+  byte = c .shared-slice-known3 .given at .fits
+
 returns : tie.Need-returns
 returns c =
-    let d = c .before .before .before .before .before in
-    let a = d .args in
-    ahead-exception (windowOf windowSize (take (a .i) (a .ratios .now))) (a .at) (a .body .now) (d .pre .1) (c .get-bytes .result) (c .before .if1 .taken) (c .get-bytes .ensures .0)
+    let r = c .before .before in
+    ahead-exception (windowOf windowSize (take (i r) (rs r))) (at r) (body r) (ten r) (c .get-bytes .result) (c .before .if1 .taken) (c .get-bytes .ensures .0)
 
 returns-2 : tie.Need-returns-2
 returns-2 c =
-    let d = c .before .before .before .before .before in
-    let a = d .args in
-    far (a .ratios .now) (a .i) (d .pre .0) (drop (a .at) (a .body .now)) (getD (a .body .now) (a .at) 0) (rest-first (a .at) (a .body .now))
-    (ten-some (a .at) (a .body .now) (d .pre .1)) (c .before .before .shared-slice-known3 .given (a .at) .fits) (c .before .if1 .left) (c .if2 .taken)
+    let r = c .before .before in
+    place-far (rs r) (i r) (few r) (drop (at r) (body r)) (b r) (rest-first (at r) (body r)) (ahead-some (at r) (body r) (ten r)) (byte r) (c .before .if1 .left) (c .if2 .taken)
 
 returns-3 : tie.Need-returns-3
 returns-3 c =
-    let d = c .before .before .before .before .before .before in
-    let a = d .args in
-    past (a .ratios .now) (a .i) (d .pre .0) (drop (a .at) (a .body .now)) (getD (a .body .now) (a .at) 0) (rest-first (a .at) (a .body .now))
-    (ten-some (a .at) (a .body .now) (d .pre .1)) (c .before .before .before .shared-slice-known3 .given (a .at) .fits) (c .before .before .if1 .left) (c .if3 .taken)
+    let r = c .before .before .before in
+    place-past (rs r) (i r) (few r) (drop (at r) (body r)) (b r) (rest-first (at r) (body r)) (ahead-some (at r) (body r) (ten r)) (byte r) (c .before .before .if1 .left) (c .if3 .taken)
 
 sub-u : tie.Need-sub-u
 sub-u c = search needs
@@ -55,14 +80,17 @@ mul-u c = search needs
 shared-slice-read-u : tie.Need-shared-slice-read-u
 shared-slice-read-u c = search needs
 
+-- the ratio at the place
+abbrev u : tie.After-shared-slice-known3 → ℕ
+u r = getD (rs r) (i r - 1 - b r % 128) 0
+
 returns-4 : tie.Need-returns-4
 returns-4 c =
-    let d = c .before .before .before .before .before .before .before .before in
-    let a = d .args in
-    let b = getD (a .body .now) (a .at) 0 in
-    named (a .ratios .now) (a .i) (d .pre .0) (drop (a .at) (a .body .now)) (getD (a .body .now) (a .at) 0) (rest-first (a .at) (a .body .now))
-    (ten-some (a .at) (a .body .now) (d .pre .1)) (c .before .before .before .before .before .shared-slice-known3 .given (a .at) .fits) (c .before .before .before .before .if1 .left)
-    (getD (a .ratios .now) (a .i - 1 - b % 128) 0) (c .before .before .before .if2 .left) (c .before .before .if3 .left) refl (c .if4 .taken)
+    let inside = c .before .before in
+    let near = inside .before in
+    let r = near .before .before in
+    place-reference (rs r) (i r) (few r) (drop (at r) (body r)) (b r) (rest-first (at r) (body r)) (ahead-some (at r) (body r) (ten r)) (byte r) (near .before .if1 .left)
+    (u r) (near .if2 .left) (inside .if3 .left) refl (c .if4 .taken)
 
 add-xor-ahead : tie.Need-add-xor-ahead
 add-xor-ahead c = search needs
@@ -72,13 +100,12 @@ xor-ahead-requires c κs = search needs
 
 returns-5 : tie.Need-returns-5
 returns-5 c =
-    let d = c .before .before .before .before .before .before .before .before .before in
-    let a = d .args in
-    let b = getD (a .body .now) (a .at) 0 in
-    xored (a .ratios .now) (a .i) (d .pre .0) (drop (a .at) (a .body .now)) (getD (a .body .now) (a .at) 0) (rest-first (a .at) (a .body .now))
-    (ten-some (a .at) (a .body .now) (d .pre .1)) (c .before .before .before .before .before .before .shared-slice-known3 .given (a .at) .fits) (c .before .before .before .before .before .if1 .left)
-    (getD (a .ratios .now) (a .i - 1 - b % 128) 0) (c .before .before .before .before .if2 .left) (c .before .before .before .if3 .left) refl (c .before .if4 .left)
-    (c .xor-ahead .result) (c .xor-ahead .ensures ∙ ap (openXor (getD (a .ratios .now) (a .i - 1 - b % 128) 0)) (sym (drop-drop 1 (a .at) (a .body .now))))
+    let high = c .before in
+    let inside = high .before .before in
+    let near = inside .before in
+    let r = near .before .before in
+    place-xor (rs r) (i r) (few r) (drop (at r) (body r)) (b r) (rest-first (at r) (body r)) (ahead-some (at r) (body r) (ten r)) (byte r) (near .before .if1 .left)
+    (u r) (near .if2 .left) (inside .if3 .left) refl (high .if4 .left) (c .xor-ahead .result) (c .xor-ahead .ensures ∙ ap (openXor (u r)) (sym (drop-drop 1 (at r) (body r))))
 
 pub open-ahead-spec : {M : Type 1} → statement M
 open-ahead-spec =

@@ -1,13 +1,10 @@
 -- `open_near` meets its contract: a reference by its law, any other form as `open_nth` reads it.
-use mathlib.Core.Path.{_≡_, sym, ap, _∙_}
+use mathlib.Core.Path.{_≡_, sym, ap}
 use Prim.Native.Nat.{ℕ, _-_, _%_}
 use native.Mathlib.Omega.{arith}
 use borrow.Author.Needs.{needs}
-use lib.ListN.{getD, take, drop, length-drop}
-use Rattle.outputs.proofs.Parts.{rest-is}
-use Rattle.ratio_format.specs.Open.{openRead}
-use Rattle.ratio_format.specs.Windows.{windowSize, windowOf}
-use Rattle.ratio_bodies.proofs.Places.{rest-first, named}
+use lib.ListN.{getD, drop, length-drop}
+use Rattle.ratio_bodies.proofs.FirstByte.{rest-first, place-reference}
 use Rattle.ratio_bodies.proofs.ahead.open_near.Statement.{statement}
 use Rattle.ratio_bodies.proofs.ahead.open_near.Tie as tie
 
@@ -31,30 +28,20 @@ shared-slice-read-t16 c = search needs
 
 returns : tie.Need-returns
 returns c =
-    let d = c .before .before .before .before .before .before .before in
-    let a = d .args in
+    let some = c .before .before .before .before in
+    let start = some .before .before .before in
+    let a = start .args in
     let b = getD (a .body .now) (a .at) 0 in
     let m : b % 128 ≡ b = omega arith in
-    named (a .ratios .now) (a .i) (d .pre .0) (drop (a .at) (a .body .now)) b (rest-first (a .at) (a .body .now))
-    (λ e. omega (arith, length-drop (a .at) (a .body .now), c .before .before .before .before .if1 .taken)) (omega arith) (λ e. omega arith)
+    place-reference (a .ratios .now) (a .i) (start .pre .0) (drop (a .at) (a .body .now)) b (rest-first (a .at) (a .body .now))
+    (λ e. omega (arith, length-drop (a .at) (a .body .now), some .if1 .taken)) (omega arith) (λ e. omega arith)
     (getD (a .ratios .now) (a .i - 1 - b) 0) (omega arith) (λ e. omega arith) (ap (λ (k : ℕ). getD (a .ratios .now) (a .i - 1 - k) 0) (sym m)) (omega arith)
-
-sub-open-nth : tie.Need-sub-open-nth
-sub-open-nth c = search needs
-
-part-open-nth-start : tie.Need-part-open-nth-start
-part-open-nth-start c = search needs
-
-part-open-nth-end : tie.Need-part-open-nth-end
-part-open-nth-end c = search needs
 
 open-nth-requires : tie.Need-open-nth-requires
 open-nth-requires c κs = search needs
 
 returns-2 : tie.Need-returns-2
-returns-2 c =
-    let a = c .before .before .before .before .before .args in
-    c .open-nth .ensures ∙ ap (openRead (windowOf windowSize (take (a .i) (a .ratios .now)))) (rest-is (a .at) (a .body .now))
+returns-2 c = search needs
 
 pub open-near-spec : {M : Type 1} → statement M
 open-near-spec =
@@ -67,8 +54,5 @@ open-near-spec =
     mul-t14
     shared-slice-read-t16
     returns
-    sub-open-nth
-    part-open-nth-start
-    part-open-nth-end
     open-nth-requires
     returns-2)

@@ -4,7 +4,7 @@ use native.Mathlib.Omega.{arith}
 use borrow.Author.Needs.{needs}
 use lib.ListN.{getD}
 use Rattle.ratio_format.proofs.Zeros.{raised-fits}
-use Rattle.ratio_bodies.proofs.Places.{ahead-high, ahead-good}
+use Rattle.ratio_bodies.proofs.FirstByte.{xor-ahead-high, xor-ahead-good}
 use Rattle.ratio_bodies.proofs.ahead.xor_ahead.Statement.{statement}
 use Rattle.ratio_bodies.proofs.ahead.xor_ahead.Tie as tie
 
@@ -20,7 +20,7 @@ add-if1 c = omega (arith, c .shared-slice-known2 .given (c .before .before .args
 returns : tie.Need-returns
 returns c =
     let d = c .before .before .before in
-    ahead-high (d .args .u) (d .args .at) (d .args .body .now) (d .pre) (c .if1 .taken)
+    xor-ahead-high (d .args .u) (d .args .at) (d .args .body .now) (d .pre) (omega (arith, c .if1 .taken))
 
 add-get-first : tie.Need-add-get-first
 add-get-first c = search needs
@@ -39,9 +39,10 @@ add-t10 c = search needs
 
 returns-2 : tie.Need-returns-2
 returns-2 c =
-    let d = c .before .before .before .before .before in
     let g = c .before .get-first in
-    ahead-good (d .args .u) (d .args .at) (d .args .body .now) (d .pre) (g .result) (c .raised .result) (c .before .before .if1 .left) (g .ensures .0) (c .raised .ensures)
+    let low = c .before .before in
+    let d = low .before .before .before in
+    xor-ahead-good (d .args .u) (d .args .at) (d .args .body .now) (d .pre) (g .result) (c .raised .result) (low .if1 .left) (g .ensures .0) (c .raised .ensures)
 
 pub xor-ahead-spec : {M : Type 1} → statement M
 xor-ahead-spec =

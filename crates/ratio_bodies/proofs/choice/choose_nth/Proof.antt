@@ -1,17 +1,26 @@
 -- `choose_nth` meets its contract: the part before the ratio is its window.
-use mathlib.Core.Path.{sym, ap, _∙_, subst}
-use mathlib.Core.List.{List}
-use Prim.Native.Nat.{ℕ}
+use mathlib.Core.Path.{_≡_, sym, ap, _∙_, subst}
+use mathlib.Core.List.{List, reverse}
+use Prim.Native.Nat.{ℕ, _-_}
 use native.Mathlib.Omega.{arith}
+use lib.ListN.{take, drop}
+use Rattle.ratio_format.specs.Windows.{windowSize, windowOf}
 use Rattle.ratio_format.specs.Choice.{ratioForm}
-use Rattle.ratio_codec.specs.Searched.{Searched}
-use Rattle.ratio_bodies.proofs.Start.{start-window}
+use Rattle.ratio_window.specs.Searched.{Searched}
+use Rattle.ratio_window.proofs.Windows.{window-part}
 use borrow.Author.Needs.{needs}
 use Rattle.ratio_bodies.proofs.choice.choose_nth.Statement.{statement}
 use Rattle.ratio_bodies.proofs.choice.choose_nth.Tie as tie
 
 window-start-requires : tie.Need-window-start-requires
 window-start-requires c κs = search needs
+
+-- the part from the window's start is the window
+part : (c : tie.After-window-start) → let a = c .before .before .args in let f = c .window-start .result in
+    reverse (take (a .i - f) (drop f (a .ratios .now))) ≡ windowOf windowSize (take (a .i) (a .ratios .now))
+part c =
+    let d = c .before .before in
+    window-part windowSize (d .args .ratios .now) (d .args .i) (d .pre .0) (c .window-start .result) (c .window-start .ensures)
 
 mul-choose : tie.Need-mul-choose
 mul-choose c = search needs
@@ -30,10 +39,8 @@ choose-requires c κs = search needs
 
 returns : tie.Need-returns
 returns c =
-    let d = c .before .before .before .before .before in
-    let a = d .args in
-    let f = c .before .before .before .window-start in
-    c .choose .ensures ∙ ap (ratioForm (a .v)) (start-window (a .ratios .now) (a .i) (f .result) (f .ensures) (d .pre .0))
+    let from = c .before .before .before in
+    c .choose .ensures ∙ ap (ratioForm (from .before .before .args .v)) (part from)
 
 find-requires : tie.Need-find-requires
 find-requires c κs =
@@ -54,19 +61,14 @@ part-form-of-end c = search needs
 
 form-of-requires : tie.Need-form-of-requires
 form-of-requires c κs =
-    let d = c .before .before .before .before .before in
-    let a = d .args in
-    let f = c .before .before .before .window-start in
+    let from = c .before .before .before in
     let b = c .before .find in
-    subst (λ (w : List ℕ). Searched (a .v) w (b .result .place) (b .result .sum))
-    (sym (start-window (a .ratios .now) (a .i) (f .result) (f .ensures) (d .pre .0))) (b .ensures)
+    subst (λ (w : List ℕ). Searched (from .before .before .args .v) w (b .result .place) (b .result .sum)) (sym (part from)) (b .ensures)
 
 returns-2 : tie.Need-returns-2
 returns-2 c =
-    let d = c .before .before .before .before .before .before in
-    let a = d .args in
-    let f = c .before .before .before .before .window-start in
-    c .form-of .ensures ∙ ap (ratioForm (a .v)) (start-window (a .ratios .now) (a .i) (f .result) (f .ensures) (d .pre .0))
+    let from = c .before .before .before .before in
+    c .form-of .ensures ∙ ap (ratioForm (from .before .before .args .v)) (part from)
 
 pub choose-nth-spec : {M : Type 1} → statement M
 choose-nth-spec =

@@ -6,14 +6,14 @@ use native.Mathlib.Omega.{arith}
 use borrow.Author.Needs.{needs}
 use lib.ListN.{getD, set}
 use Rattle.ratio_bodies.specs.Indexes.{keyOf, Indexed}
-use Rattle.ratio_bodies.proofs.Indexed.{trailing-first, trailing-more, noted}
+use Rattle.ratio_bodies.proofs.Indexes.{trailing-first, trailing-more, indexed-noted}
 use Rattle.ratio_bodies.proofs.index.place_of.Statement.{statement}
 use Rattle.ratio_bodies.proofs.index.place_of.Tie as tie
 
 returns : tie.Need-returns
 returns c =
     let d = c .before .before in
-    (rw (c .if1 .taken) (trailing-first (d .args .slots .now) (d .args .ratios .now) (rw (c .if1 .taken) at (d .pre .2))), λ h. absurd (omega arith))
+    (rw (c .if1 .taken) (trailing-first (d .args .newest .now) (d .args .ratios .now) (rw (c .if1 .taken) at (d .pre .2))), λ h. absurd (omega arith))
 
 sub-note : tie.Need-sub-note
 sub-note c = search needs
@@ -31,21 +31,25 @@ note-requires : tie.Need-note-requires
 note-requires c κs = search needs
 
 -- the index once the last ratio is noted
-passed : (d : tie.Start) → 0 < d .args .i → (ss : List ℕ) → ss ≡ set (d .args .slots .now) (keyOf (getD (d .args .ratios .now) (d .args .i - 1) 0)) (d .args .i - 1 + 1)
-    → Indexed ss (d .args .ratios .now) (d .args .i)
-passed d h ss e =
+passed : (d : tie.Start) → 0 < d .args .i → (ns : List ℕ) → ns ≡ set (d .args .newest .now) (keyOf (getD (d .args .ratios .now) (d .args .i - 1) 0)) (d .args .i - 1 + 1)
+    → Indexed ns (d .args .ratios .now) (d .args .i)
+passed d h ns e =
     let a = d .args in
-    subst (λ (x : List ℕ). Indexed x (a .ratios .now) (a .i)) (sym e) (noted (a .slots .now) (a .ratios .now) (a .i) h (d .pre .2))
+    subst (λ (x : List ℕ). Indexed x (a .ratios .now) (a .i)) (sym e) (indexed-noted (a .newest .now) (a .ratios .now) (a .i) h (d .pre .2))
 
 looked-up-requires : tie.Need-looked-up-requires
 looked-up-requires c κs =
-    let d = c .before .before .before .before .before .before in
-    (d .pre .0, passed d (omega arith) (c .before .note .last .0) (c .before .note .ensures))
+    let noted = c .before in
+    let later = noted .before .before .before in
+    let d = later .before .before in
+    (d .pre .0, passed d (omega arith) (noted .note .last .0) (noted .note .ensures))
 
 returns-2 : tie.Need-returns-2
 returns-2 c =
-    let d = c .before .before .before .before .before .before .before in
-    let n = c .before .before .note in (
+    let noted = c .before .before in
+    let later = noted .before .before .before in
+    let d = later .before .before in
+    let n = noted .note in (
       trailing-more (n .last .0) (d .args .ratios .now) (d .args .i) (passed d (omega arith) (n .last .0) (n .ensures)),
       c .looked-up .ensures,
     )

@@ -68,8 +68,9 @@ loop-less c = search needs
 
 loop-again : tie.Need-loop-again Inv-loop μ-loop
 loop-again c =
-    let l = c .before .before .before .before .loop in
-    let a = c .before .before .before .before .before .before .args in (
+    let turn = c .before .before .before .before in
+    let l = turn .loop in
+    let a = turn .before .before .args in (
       omega arith,
       repeats-more (a .ratios .now) (a .from) (l .k) (l .inv .1) (c .before .if1 .left),
       clear-more (a .out .now) (l .out) (l .k) (l .inv .2) (omega arith),

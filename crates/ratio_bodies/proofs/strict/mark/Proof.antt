@@ -2,6 +2,7 @@
 use mathlib.Core.Path.{refl, ap}
 use Prim.Native.Nat.{ℕ, _%_}
 use lib.ListN.{set}
+use Rattle.ratio_search.specs.Planes.{slots}
 use borrow.Author.Needs.{needs}
 use Rattle.ratio_bodies.proofs.strict.mark.Statement.{statement}
 use Rattle.ratio_bodies.proofs.strict.mark.Tie as tie
@@ -18,7 +19,7 @@ element-write-again-2 c = search needs
 returns : tie.Need-returns
 returns c =
     let a = c .before .before .before .args in
-    (λ e. ap (λ (k : ℕ). set (set (a .again .now) k 1) (a .i % 128) 0) (c .slot-of .ensures .0), λ n. absurd (n (c .before .if1 .taken)))
+    (λ e. ap (λ (k : ℕ). set (set (a .again .now) k 1) (a .i % slots) 0) (c .slot-of .ensures .0), λ n. absurd (n (c .before .if1 .taken)))
 
 element-write-again-3 : tie.Need-element-write-again-3
 element-write-again-3 c = search needs

@@ -3,6 +3,7 @@ use mathlib.Core.Path.{sym, ap, _∙_, subst}
 use native.Mathlib.Omega.{arith}
 use Rattle.lists.specs.Compare.{begins}
 use Rattle.ratio_format.specs.declared.RatioForm.{RatioForm}
+use Rattle.ratio_format.specs.Windows.{windowSize}
 use Rattle.ratio_format.specs.Forms.{Fit}
 use Rattle.ratio_codec.specs.Heads.{formHead}
 use borrow.Author.Needs.{needs}
@@ -19,13 +20,13 @@ enum-known-f-2 : tie.Need-enum-known-f-2
 enum-known-f-2 c = search needs
 
 add-has-two : tie.Need-add-has-two
-add-has-two c = let h = subst (Fit 127) (c .before .f2 .given .1) (c .before .before .before .before .pre) in omega arith
+add-has-two c = let h = subst (Fit windowSize) (c .before .f2 .given .1) (c .before .before .before .before .pre) in omega arith
 
 mul-has-two : tie.Need-mul-has-two
-mul-has-two c = let h = subst (Fit 127) (c .before .f2 .given .1) (c .before .before .before .before .pre) in omega arith
+mul-has-two c = let h = subst (Fit windowSize) (c .before .f2 .given .1) (c .before .before .before .before .pre) in omega arith
 
 add-has-two-2 : tie.Need-add-has-two-2
-add-has-two-2 c = let h = subst (Fit 127) (c .before .f2 .given .1) (c .before .before .before .before .pre) in omega arith
+add-has-two-2 c = let h = subst (Fit windowSize) (c .before .f2 .given .1) (c .before .before .before .before .pre) in omega arith
 
 has-two-requires : tie.Need-has-two-requires
 has-two-requires c κs = search needs
@@ -38,13 +39,15 @@ has-one-requires-2 c κs = search needs
 
 returns : tie.Need-returns
 returns c =
-    let a = c .before .before .before .before .before .args in
-    c .has-one .ensures ∙ ap (λ (f : RatioForm). begins (formHead f) (a .s .now)) (sym (c .before .before .f .given .1))
+    let known = c .before .before in
+    let a = known .before .before .before .args in
+    c .has-one .ensures ∙ ap (λ (f : RatioForm). begins (formHead f) (a .s .now)) (sym (known .f .given .1))
 
 returns-2 : tie.Need-returns-2
 returns-2 c =
-    let a = c .before .before .before .before .before .args in
-    c .has-two .ensures ∙ ap (λ (f : RatioForm). begins (formHead f) (a .s .now)) (sym (c .before .before .f2 .given .1))
+    let known = c .before .before in
+    let a = known .before .before .before .args in
+    c .has-two .ensures ∙ ap (λ (f : RatioForm). begins (formHead f) (a .s .now)) (sym (known .f2 .given .1))
 
 returns-3 : tie.Need-returns-3
 returns-3 c =

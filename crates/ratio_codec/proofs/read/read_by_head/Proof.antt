@@ -6,6 +6,8 @@ use lib.ListN.{length, length-reverse}
 use Rattle.lists.specs.Compare.{begins}
 use Rattle.lists.proofs.Below.{below-of}
 use Rattle.ratio_format.specs.declared.RatioForm.{RatioForm}
+use Rattle.ratio_format.specs.declared.Read.the-variants.{Ratio}
+use Rattle.ratio_format.specs.Windows.{windowSize}
 use Rattle.ratio_format.specs.Forms.{coded}
 use Rattle.ratio_format.proofs.Open.{strict-nothing, strict-good, strict-other}
 use Rattle.ratio_codec.specs.Heads.{formHead}
@@ -26,8 +28,9 @@ enum-told c = search needs
 
 returns : tie.Need-returns
 returns c =
-    let o = c .before .before .read-open in
-    let a = c .before .before .before .before .before .args in
+    let read = c .before .before in
+    let o = read .read-open in
+    let a = read .before .before .before .args in
     strict-nothing (reverse (a .window .now)) (a .s .now) (o .result) (o .ensures) (c .enum-told .given .1)
 
 choose-requires : tie.Need-choose-requires
@@ -35,42 +38,56 @@ choose-requires c κs = search needs
 
 has-head-requires : tie.Need-has-head-requires
 has-head-requires c κs =
-    let d = c .before .before .before .before .before .before .before in
-    chosen-fit (d .args .window .now) (c .before .before .r .given .0 .0) (c .choose .result) (c .choose .ensures) (d .pre)
+    let known = c .before .before in
+    let read = known .before .before in
+    let start = read .before .before .before in
+    chosen-fit (start .args .window .now) (known .r .given .0 .0) (c .choose .result) (c .choose .ensures) (start .pre)
 
 -- what the test of the head says
 module _ (c : tie.After-has-head) where
+  -- where the ratio is known, where it was read, and the start
+  abbrev known : tie.After-r
+  known = c .before .before .before
+
+  abbrev read : tie.After-read-open
+  read = known .before .before
+
+  abbrev start : tie.Start
+  start = read .before .before .before
+
   abbrev l : List ℕ
-  l = c .before .before .before .before .before .before .before .before .args .window .now
+  l = start .args .window .now
 
   abbrev s : List ℕ
-  s = c .before .before .before .before .before .before .before .before .args .s .now
+  s = start .args .s .now
 
   abbrev v : ℕ
-  v = c .before .before .before .r .given .0 .0
+  v = known .r .given .0 .0
 
   abbrev n : ℕ
-  n = c .before .before .before .r .given .0 .1 .0
+  n = known .r .given .0 .1 .0
+
+  is : read .read-open .result ≡ Ratio v n
+  is = known .r .given .1
 
   says : c .has-head .result ≡ begins (coded v (reverse l)) s
   says =
-      let k = c .before .before .before .before .before .before .shared-slice-known2 in
-      let o = c .before .before .before .before .before .read-open in
-      let h : length (reverse l) ≤ 127 = rw length-reverse (c .before .before .before .before .before .before .before .before .pre) in
+      let k = read .before .shared-slice-known2 in
+      let h : length (reverse l) ≤ windowSize = rw length-reverse (start .pre) in
       c .has-head .ensures ∙ ap (λ (f : RatioForm). begins (formHead f) s) (c .before .choose .ensures)
-      ∙ sym (head-decides v n (reverse l) h s (below-of 256 s (λ i. k .given i .fits)) (sym (o .ensures) ∙ c .before .before .before .r .given .1))
+      ∙ sym (head-decides v n (reverse l) h s (below-of 256 s (λ i. k .given i .fits)) (sym (read .read-open .ensures) ∙ is))
 
 returns-2 : tie.Need-returns-2
 returns-2 c =
     let d = c .before in
-    let o = d .before .before .before .before .before .read-open in
-    strict-good (reverse (l d)) (s d) (o .result) (o .ensures) (v d) (n d) (d .has-head .result) (d .before .before .before .r .given .1) (says d) (c .if1 .taken)
+    let o = read d .read-open in
+    strict-good (reverse (l d)) (s d) (o .result) (o .ensures) (v d) (n d) (d .has-head .result) (is d) (says d) (c .if1 .taken)
 
 returns-3 : tie.Need-returns-3
 returns-3 c =
     let d = c .before in
-    let o = d .before .before .before .before .before .read-open in
-    strict-other (reverse (l d)) (s d) (o .result) (o .ensures) (v d) (n d) (d .has-head .result) (d .before .before .before .r .given .1) (says d) (c .if1 .left)
+    let o = read d .read-open in
+    strict-other (reverse (l d)) (s d) (o .result) (o .ensures) (v d) (n d) (d .has-head .result) (is d) (says d) (c .if1 .left)
 
 pub read-by-head-spec : {M : Type 1} → statement M
 read-by-head-spec =

@@ -37,17 +37,19 @@ shared-slice-read-t16 c = search needs
 
 returns-2 : tie.Need-returns-2
 returns-2 c =
-    let a = c .before .before .before .before .before .before .before .args in
+    let low = c .before .before in
+    let some = low .before .before in
+    let a = some .before .before .before .args in
     let l = a .window .now in
     let b = getD (a .s .now) 0 0 in
     let h = c .before .if3 .taken in
-    open-reference (reverse l) (a .s .now) (getD l (length l - 1 - b) 0) (c .before .before .before .before .if1 .left) (c .before .before .if2 .taken)
-    (rw length-reverse h) (sym (back l b h))
+    open-reference (reverse l) (a .s .now) (getD l (length l - 1 - b) 0) (some .if1 .left) (low .if2 .taken) (rw length-reverse h) (sym (back l b h))
 
 returns-3 : tie.Need-returns-3
 returns-3 c =
-    let a = c .before .before .before .before .before .before .args in
-    open-far (reverse (a .window .now)) (a .s .now) (c .before .before .before .if1 .left) (c .before .if2 .taken) (rw length-reverse (c .if3 .left))
+    let some = c .before .before .before in
+    let a = some .before .before .before .args in
+    open-far (reverse (a .window .now)) (a .s .now) (some .if1 .left) (c .before .if2 .taken) (rw length-reverse (c .if3 .left))
 
 sub-read-xor : tie.Need-sub-read-xor
 sub-read-xor c = search needs
@@ -75,33 +77,39 @@ read-xor-requires c κs = search needs
 
 returns-4 : tie.Need-returns-4
 returns-4 c =
-    let d = c .before .before .before in
-    let a = d .before .before .before .before .before .before .before .args in
+    let inside = c .before .before .before in
+    let high = inside .before .before in
+    let some = high .before .before in
+    let a = some .before .before .before .args in
     let l = a .window .now in
     let s = a .s .now in
     let p = getD s 0 0 - 128 in
     let u = getD l (length l - 1 - p) 0 in
-    open-xor (reverse l) s u (c .read-xor .result) (d .before .before .before .before .if1 .left) (d .before .before .if2 .left) (d .before .if4 .taken)
-    (rw length-reverse (d .if5 .taken)) (sym (back l p (d .if5 .taken))) (c .read-xor .ensures ∙ ap (openXor u) (rest-is 1 s))
+    open-xor (reverse l) s u (c .read-xor .result) (some .if1 .left) (high .if2 .left) (inside .before .if4 .taken)
+    (rw length-reverse (inside .if5 .taken)) (sym (back l p (inside .if5 .taken))) (c .read-xor .ensures ∙ ap (openXor u) (rest-is 1 s))
 
 returns-5 : tie.Need-returns-5
 returns-5 c =
-    let a = c .before .before .before .before .before .before .before .args in
-    open-away (reverse (a .window .now)) (a .s .now) (c .before .before .before .before .if1 .left) (c .before .before .if2 .left) (c .before .if4 .taken)
-    (rw length-reverse (c .if5 .left))
+    let high = c .before .before in
+    let some = high .before .before in
+    let a = some .before .before .before .args in
+    open-away (reverse (a .window .now)) (a .s .now) (some .if1 .left) (high .if2 .left) (c .before .if4 .taken) (rw length-reverse (c .if5 .left))
 
 get-bytes-requires : tie.Need-get-bytes-requires
 get-bytes-requires c κs = search needs
 
 returns-6 : tie.Need-returns-6
 returns-6 c =
-    let a = c .before .before .before .before .before .before .before .before .args in
-    open-exception (reverse (a .window .now)) (a .s .now) (c .get-bytes .result) (c .before .before .if4 .left) (c .before .if6 .taken) (c .get-bytes .ensures .0)
+    let last = c .before .before in
+    let some = last .before .before .before in
+    let a = some .before .before .before .args in
+    open-exception (reverse (a .window .now)) (a .s .now) (c .get-bytes .result) (last .if4 .left) (c .before .if6 .taken) (c .get-bytes .ensures .0)
 
 returns-7 : tie.Need-returns-7
 returns-7 c =
-    let a = c .before .before .before .before .before .before .before .args in
-    open-cut (reverse (a .window .now)) (a .s .now) (c .before .before .before .before .if1 .left) (c .before .if4 .left) (c .if6 .left)
+    let some = c .before .before .before .before in
+    let a = some .before .before .before .args in
+    open-cut (reverse (a .window .now)) (a .s .now) (some .if1 .left) (c .before .if4 .left) (c .if6 .left)
 
 pub read-open-spec : {M : Type 1} → statement M
 read-open-spec =

@@ -5,10 +5,11 @@ use Prim.Native.Nat.{ℕ, _-_, _≤_}
 use native.Mathlib.Omega.{arith}
 use lib.ListN.{length, getD, length-reverse}
 use Rattle.ratio_format.specs.declared.Read.the-variants.{Nothing}
+use Rattle.ratio_format.specs.Windows.{windowSize}
 use Rattle.ratio_format.specs.Choice.{find}
 use Rattle.ratio_format.proofs.Windows.{back}
 use Rattle.ratio_format.proofs.Open.{open-empty, strict-nothing}
-use Rattle.ratio_codec.proofs.Named.{Named, named-good, named-other}
+use Rattle.ratio_codec.proofs.References.{Named, named-good, named-other}
 use borrow.Author.Needs.{needs}
 use Rattle.ratio_codec.proofs.read.read_strict.Statement.{statement}
 use Rattle.ratio_codec.proofs.read.read_strict.Tie as tie
@@ -42,17 +43,22 @@ pass-equal-requires c κs = search needs
 
 -- the ratio at the place, and that the place was looked for
 module _ (c : tie.After-pass-equal) where
+  abbrev start : tie.Start
+  start =
+      let some = c .before .before .before .before in
+      some .before .before .before
+
   abbrev l : List ℕ
-  l = c .before .before .before .before .before .before .before .args .window .now
+  l = start .args .window .now
 
   abbrev s : List ℕ
-  s = c .before .before .before .before .before .before .before .args .s .now
+  s = start .args .s .now
 
   abbrev v : ℕ
   v = getD l (length l - 1 - getD s 0 0) 0
 
-  small : length (reverse l) ≤ 127
-  small = rw length-reverse (c .before .before .before .before .before .before .before .pre)
+  small : length (reverse l) ≤ windowSize
+  small = rw length-reverse (start .pre)
 
   named : Named (reverse l) v s
   named =

@@ -30,26 +30,30 @@ sub-if3 c = search needs
 
 returns-3 : tie.Need-returns-3
 returns-3 c =
-    let a = c .before .before .before .before .before .args in
-    xor-short (a .u) (a .s .now) (c .before .before .before .if1 .left) (c .before .if2 .left) (c .if3 .taken)
+    let some = c .before .before .before in
+    let a = some .before .before .args in
+    xor-short (a .u) (a .s .now) (some .if1 .left) (c .before .if2 .left) (c .if3 .taken)
 
 middle-of-requires : tie.Need-middle-of-requires
 middle-of-requires c κs = search needs
 
 raised-requires : tie.Need-raised-requires
 raised-requires c κs =
-    let b = getD (c .before .before .before .before .before .before .args .s .now) 0 0 in
-    (omega arith, raised-fits (c .middle-of .result) (b % 16) (b / 16) (c .middle-of .ensures .1) (c .before .before .if2 .left))
+    let low = c .before .before in
+    let b = getD (low .before .before .before .before .args .s .now) 0 0 in
+    (omega arith, raised-fits (c .middle-of .result) (b % 16) (b / 16) (c .middle-of .ensures .1) (low .if2 .left))
 
 add-t7 : tie.Need-add-t7
 add-t7 c = search needs
 
 returns-4 : tie.Need-returns-4
 returns-4 c =
-    let a = c .before .before .before .before .before .before .before .args in
+    let whole = c .before .before in
+    let low = whole .before in
+    let some = low .before .before in
+    let a = some .before .before .args in
     let g = c .before .middle-of in
-    xor-good (a .u) (a .s .now) (g .result) (c .raised .result) (c .before .before .before .before .before .if1 .left) (c .before .before .before .if2 .left)
-    (c .before .before .if3 .left) (g .ensures .0) (c .raised .ensures)
+    xor-good (a .u) (a .s .now) (g .result) (c .raised .result) (some .if1 .left) (low .if2 .left) (whole .if3 .left) (g .ensures .0) (c .raised .ensures)
 
 pub read-xor-spec : {M : Type 1} → statement M
 read-xor-spec =

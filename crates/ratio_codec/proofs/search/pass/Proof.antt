@@ -10,7 +10,7 @@ use Rattle.lists.proofs.Below.{below-of}
 use Rattle.bits.proofs.Digits.{pow-bytes}
 use Rattle.ratio_format.proofs.Zeros.{raised-fits}
 use Rattle.ratio_format.proofs.Windows.{reverse-below}
-use Rattle.ratio_codec.proofs.First.{from-le, from-passed}
+use Rattle.ratio_codec.proofs.Find.{findFrom-le, findFrom-passed}
 use Rattle.ratio_codec.proofs.search.pass.Statement.{statement}
 use Rattle.ratio_codec.proofs.search.pass.Tie as tie
 
@@ -26,8 +26,8 @@ returns c =
     let known = reverse-below (2 ^ 64) l (below-of (2 ^ 64) l (λ k. c .before .before .shared-slice-known .given k .fits)) in
     let r = c .pass-equal in (
       omega arith,
-      omega (arith, r .ensures, from-le (a .v) w (a .from) (rw length-reverse (d .pre .0)), length-reverse l),
-      rw (r .ensures, c .before .if1 .taken) (from-passed (a .v) w (d .fits .v .fits) known (a .from)),
+      omega (arith, r .ensures, findFrom-le (a .v) w (a .from) (rw length-reverse (d .pre .0)), length-reverse l),
+      rw (r .ensures, c .before .if1 .taken) (findFrom-passed (a .v) w (d .fits .v .fits) known (a .from)),
     )
 
 sub-pass-over : tie.Need-sub-pass-over

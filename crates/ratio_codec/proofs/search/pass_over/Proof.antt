@@ -4,9 +4,9 @@ use Prim.Native.Nat.{ℕ, _-_, _^_, _≤_}
 use native.Mathlib.Omega.{arith}
 use lib.ListN.{length, getD}
 use Rattle.ratio_format.proofs.Windows.{back}
-use Rattle.ratio_codec.specs.Passed.{Passed}
-use Rattle.ratio_codec.proofs.Passed.{passed-none, passed-next}
-use Rattle.ratio_codec.proofs.Sums.{sum-under}
+use Rattle.ratio_window.specs.Passed.{Passed}
+use Rattle.ratio_window.proofs.Passed.{passed-none, passed-next}
+use Rattle.ratio_window.proofs.Sums.{sum-under}
 use Rattle.ratio_codec.proofs.search.pass_over.Statement.{statement}
 use Rattle.ratio_codec.proofs.search.pass_over.Tie as tie
 
@@ -47,9 +47,10 @@ loop-less c = omega arith
 
 loop-again : tie.Need-loop-again Inv-loop μ-loop
 loop-again c =
-    let d = c .before .before .before .before .before in
-    let a = d .args in
-    let l = c .before .before .before .before .loop in
+    let turn = c .before .before .before .before in
+    let l = turn .loop in
+    let start = turn .before in
+    let a = start .args in
     let w = a .window .now in
     let h = c .before .before .before .loop-test .taken in
     let k = length w - 1 - l .i in
@@ -58,7 +59,7 @@ loop-again c =
       omega arith,
       λ s q.
           passed-next (a .v) (reverse w) s (a .from) (l .i) (l .inv .2 s q)
-          (rw (back w (l .i) h) (sum-under (a .v) (getD w k 0) s (d .fits .v .fits) known (omega (arith, c .before .if1 .left)) (c .if2 .left))),
+          (rw (back w (l .i) h) (sum-under (a .v) (getD w k 0) s (start .fits .v .fits) known (omega (arith, c .before .if1 .left)) (c .if2 .left))),
     )
 
 returns-3 : tie.Need-returns-3 Inv-loop μ-loop

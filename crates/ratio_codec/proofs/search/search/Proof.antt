@@ -7,7 +7,7 @@ use borrow.Author.Needs.{needs}
 use lib.ListN.{length, getD}
 use Rattle.ratio_format.specs.Choice.{Best}
 use Rattle.ratio_format.proofs.Sums.{sum-other}
-use Rattle.ratio_codec.proofs.Scan.{Scanned, scan-none, scan-wins, scan-loses, scan-pass, scan-equal, scan-all}
+use Rattle.ratio_codec.proofs.Scanned.{Scanned, scanned-none, scanned-wins, scanned-loses, scanned-pass, scanned-equal, scanned-all}
 use Rattle.ratio_codec.proofs.search.search.Statement.{statement}
 use Rattle.ratio_codec.proofs.search.search.Tie as tie
 
@@ -18,7 +18,7 @@ abbrev μ-loop : tie.MeasureT-loop
 μ-loop window v place₀ sum₀ i₀ place sum i = length window - i
 
 loop-holds : tie.Need-loop-holds Inv-loop μ-loop
-loop-holds c = scan-none (c .before .args .v) (c .before .args .window .now)
+loop-holds c = scanned-none (c .before .args .v) (c .before .args .window .now)
 
 sub-u : tie.Need-sub-u Inv-loop μ-loop
 sub-u c = omega arith
@@ -34,29 +34,38 @@ shared-slice-read-u c = omega arith
 
 returns : tie.Need-returns Inv-loop μ-loop
 returns c =
-    let a = c .before .before .before .before .before .args in
-    let l = c .before .before .before .loop in
-    let e = scan-equal (a .v) (a .window .now) (l .i) (l .place) (l .sum) (l .inv) (omega arith) (c .if1 .taken) in
+    let turn = c .before .before .before in
+    let l = turn .loop in
+    let a = turn .before .before .args in
+    let e = scanned-equal (a .v) (a .window .now) (l .i) (l .place) (l .sum) (l .inv) (omega arith) (c .if1 .taken) in
     (sym (ap (λ (b : Best). b .place) e), sym (ap (λ (b : Best). b .sum) e))
 
 sum-of-requires : tie.Need-sum-of-requires Inv-loop μ-loop
 sum-of-requires c κs = search needs
 
+-- the loop's turn in which a sum is compared
+abbrev turnOf : tie.Joined2 Inv-loop μ-loop → tie.At-loop Inv-loop μ-loop
+turnOf c =
+    let unequal = c .before .before in
+    unequal .before .before .before
+
 -- the ratio at place i is counted
 counted : (c : tie.Joined2 Inv-loop μ-loop)
-    → let d = c .before .before .before .before .before .before .before in
-    Scanned (d .args .v) (d .args .window .now) (c .before .before .before .before .before .loop .i + 1) (c .if2 .place) (c .if2 .sum)
+    → let turn = turnOf c in
+    let a = turn .before .before .args in
+    Scanned (a .v) (a .window .now) (turn .loop .i + 1) (c .if2 .place) (c .if2 .sum)
 counted c =
-    let d = c .before .before .before .before .before .before .before in
-    let a = d .args in
-    let l = c .before .before .before .before .before .loop in
+    let turn = turnOf c in
+    let l = turn .loop in
+    let start = turn .before .before in
+    let a = start .args in
     let w = a .window .now in
-    let k = c .before .before .before .before .before .before .shared-slice-known .given (length w - 1 - l .i) .fits in
+    let k = turn .before .shared-slice-known .given (length w - 1 - l .i) .fits in
     let h : l .i < length w = omega arith in
-    let o = sum-other (a .v) (getD w (length w - 1 - l .i) 0) (d .fits .v .fits) k (λ q. c .before .before .if1 .left (sym q)) in
+    let o = sum-other (a .v) (getD w (length w - 1 - l .i) 0) (start .fits .v .fits) k (λ q. c .before .before .if1 .left (sym q)) in
     ⊎-elim
-    (λ t. let n = scan-wins (a .v) w (l .i) (l .place) (l .sum) (l .inv) h (omega arith) (omega arith) in let e = n .2 in (n .0, omega arith, cc))
-    (λ t. let n = scan-loses (a .v) w (l .i) (l .place) (l .sum) (l .inv) h (omega arith) in let e = n .2 in (n .0, omega arith, cc))
+    (λ t. let n = scanned-wins (a .v) w (l .i) (l .place) (l .sum) (l .inv) h (omega arith) (omega arith) in let e = n .2 in (n .0, omega arith, cc))
+    (λ t. let n = scanned-loses (a .v) w (l .i) (l .place) (l .sum) (l .inv) h (omega arith) in let e = n .2 in (n .0, omega arith, cc))
     (c .if2 .came)
 
 add-pass : tie.Need-add-pass Inv-loop μ-loop
@@ -71,16 +80,17 @@ loop-less c = omega arith
 loop-again : tie.Need-loop-again Inv-loop μ-loop
 loop-again c =
     let b = c .before in
-    let a = b .before .before .before .before .before .before .before .args in
-    let l = b .before .before .before .before .before .loop in
+    let turn = turnOf b in
+    let l = turn .loop in
+    let a = turn .before .before .args in
     let p = c .pass in
-    scan-pass (a .v) (a .window .now) (l .i + 1) (b .if2 .place) (b .if2 .sum) (counted b) (p .result) (p .ensures .0) (p .ensures .2) (p .ensures .1)
+    scanned-pass (a .v) (a .window .now) (l .i + 1) (b .if2 .place) (b .if2 .sum) (counted b) (p .result) (p .ensures .0) (p .ensures .2) (p .ensures .1)
 
 returns-2 : tie.Need-returns-2 Inv-loop μ-loop
 returns-2 c =
     let a = c .before .before .before .args in
     let l = c .before .loop in
-    let e = scan-all (a .v) (a .window .now) (l .i) (l .place) (l .sum) (l .inv) (omega arith) in
+    let e = scanned-all (a .v) (a .window .now) (l .i) (l .place) (l .sum) (l .inv) (omega arith) in
     (sym (ap (λ (b : Best). b .place) e), sym (ap (λ (b : Best). b .sum) e))
 
 pub search-spec : {M : Type 1} → statement M

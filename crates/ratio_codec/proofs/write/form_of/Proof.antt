@@ -4,7 +4,7 @@ use mathlib.Core.List.{List, reverse}
 use native.Mathlib.Omega.{arith}
 use borrow.Author.Needs.{needs}
 use lib.ListN.{length, getD}
-use Rattle.ratio_codec.specs.Searched.{Searched}
+use Rattle.ratio_window.specs.Searched.{Searched}
 use Rattle.ratio_codec.proofs.Chosen.{chosen-reference, chosen-exception, chosen-in, chosen-small, chosen-short, chosen-xor}
 use Rattle.ratio_codec.proofs.write.form_of.Statement.{statement}
 use Rattle.ratio_codec.proofs.write.form_of.Tie as tie
@@ -81,7 +81,7 @@ returns-2 : tie.Need-returns-2
 returns-2 c =
     let b = c .before .before in
     let d = b .before .before in
-    chosen-xor (l d) (v d) (p d) (s d) (known d) (v64 d) (found d) (b .before .if1 .left) (b .if2 .taken) (c .trail-zeros .result) (c .trail-zeros .ensures)
+    chosen-xor (l d) (v d) (p d) (s d) (known d) (v64 d) (found d) (b .before .if1 .left) (b .if2 .taken) (c .trail-zeros .result) (c .trail-zeros .ensures .0)
 
 returns-3 : tie.Need-returns-3
 returns-3 c =

@@ -5,6 +5,7 @@ use Prim.Native.Nat.{ℕ}
 use Rattle.outputs.specs.declared.Wrote.{Wrote}
 use Rattle.outputs.specs.Outputs.{Placed}
 use Rattle.ratio_format.specs.declared.RatioForm.{RatioForm}
+use Rattle.ratio_format.specs.Windows.{windowSize}
 use Rattle.ratio_format.specs.Forms.{written, Fit}
 use borrow.Author.Needs.{needs}
 use Rattle.ratio_codec.proofs.write.put_form.Statement.{statement}
@@ -15,14 +16,16 @@ enum-known-f c = search needs
 
 put-reference-requires : tie.Need-put-reference-requires
 put-reference-requires c κs =
-    subst (Fit 127) (c .before .before .f .given .1) (c .before .before .before .before .before .pre)
+    let known = c .before .before in
+    subst (Fit windowSize) (known .f .given .1) (known .before .before .before .pre)
 
 enum-known-f-2 : tie.Need-enum-known-f-2
 enum-known-f-2 c = search needs
 
 put-xor-requires : tie.Need-put-xor-requires
 put-xor-requires c κs =
-    subst (Fit 127) (c .before .before .f2 .given .1) (c .before .before .before .before .before .pre)
+    let known = c .before .before in
+    subst (Fit windowSize) (known .f2 .given .1) (known .before .before .before .pre)
 
 enum-told : tie.Need-enum-told
 enum-told c = search needs
@@ -40,10 +43,11 @@ same-form v r o p e h = subst (λ (x : RatioForm). Placed (written v x) r o p) (
 returns : tie.Need-returns
 unfolding written
 returns c =
-    let d = c .before .before .before .before .before in
-    let a = d .before .before .before .args in
-    let p = c .before .before .put-reference in
-    same-form (a .v) (p .result) (a .out .now) (p .last .0) (d .f .given .1) (p .ensures)
+    let put = c .before .before in
+    let known = put .before .before .before in
+    let a = known .before .before .before .args in
+    let p = put .put-reference in
+    same-form (a .v) (p .result) (a .out .now) (p .last .0) (known .f .given .1) (p .ensures)
 
 same-length-2 : tie.Need-same-length-2
 same-length-2 c = search needs
@@ -51,10 +55,11 @@ same-length-2 c = search needs
 returns-2 : tie.Need-returns-2
 unfolding written
 returns-2 c =
-    let d = c .before .before .before .before .before in
-    let a = d .before .before .before .args in
-    let p = c .before .before .put-xor in
-    same-form (a .v) (p .result) (a .out .now) (p .last .0) (d .f2 .given .1) (p .ensures)
+    let put = c .before .before in
+    let known = put .before .before .before in
+    let a = known .before .before .before .args in
+    let p = put .put-xor in
+    same-form (a .v) (p .result) (a .out .now) (p .last .0) (known .f2 .given .1) (p .ensures)
 
 same-length-3 : tie.Need-same-length-3
 same-length-3 c = search needs
@@ -62,10 +67,11 @@ same-length-3 c = search needs
 returns-3 : tie.Need-returns-3
 unfolding written
 returns-3 c =
-    let d = c .before .before .before .before in
-    let a = d .before .before .before .args in
-    let p = c .before .before .put-exception in
-    same-form (a .v) (p .result) (a .out .now) (p .last .0) (d .enum-told .given .1) (p .ensures)
+    let put = c .before .before in
+    let told = put .before .before in
+    let a = told .before .before .before .args in
+    let p = put .put-exception in
+    same-form (a .v) (p .result) (a .out .now) (p .last .0) (told .enum-told .given .1) (p .ensures)
 
 pub put-form-spec : {M : Type 1} → statement M
 put-form-spec =

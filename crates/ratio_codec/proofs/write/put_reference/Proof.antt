@@ -2,7 +2,7 @@
 use mathlib.Core.Path.{refl}
 use native.Mathlib.Omega.{arith}
 use borrow.Author.Needs.{needs}
-use Rattle.ratio_codec.proofs.Front.{front-none}
+use Rattle.ratio_codec.proofs.Over.{over-one}
 use Rattle.ratio_codec.proofs.write.put_reference.Statement.{statement}
 use Rattle.ratio_codec.proofs.write.put_reference.Tie as tie
 
@@ -19,7 +19,7 @@ same-length : tie.Need-same-length
 same-length c = search needs
 
 returns-2 : tie.Need-returns-2
-returns-2 c = (refl, omega arith, front-none (c .before .args .out .now) (c .before .args .place) (omega arith))
+returns-2 c = (refl, omega arith, over-one (c .before .args .out .now) (c .before .args .place) (omega arith))
 
 pub put-reference-spec : {M : Type 1} → statement M
 put-reference-spec = tie.close (tie.spec returns cast-out slice-write-out same-length returns-2)

@@ -6,7 +6,7 @@ use borrow.Author.Needs.{needs}
 use lib.ListN.{length-set}
 use Rattle.bits.specs.Digits.{bytesOf}
 use Rattle.bits.proofs.Digits.{length-digits}
-use Rattle.ratio_codec.proofs.Front.{front-two}
+use Rattle.ratio_codec.proofs.Over.{over-two-more}
 use Rattle.ratio_codec.proofs.write.put_xor.Statement.{statement}
 use Rattle.ratio_codec.proofs.write.put_xor.Tie as tie
 
@@ -48,9 +48,10 @@ same-length c = c .before .before .put-bytes .kept .0 ∙ simp length-set
 
 returns-2 : tie.Need-returns-2
 returns-2 c =
-    let a = c .before .before .before .before .before .before .args in
+    let put = c .before .before in
+    let a = put .before .before .before .before .args in
     let n = length-digits 256 (a .len) (a .middle) in
-    (omega arith, omega arith, c .before .before .put-bytes .ensures ∙ front-two (a .out .now) (bytesOf (a .len) (a .middle)) (a .place + 128) (a .trail * 16 + a .len) (a .len) n (omega arith))
+    (omega arith, omega arith, put .put-bytes .ensures ∙ over-two-more (a .out .now) (bytesOf (a .len) (a .middle)) (a .place + 128) (a .trail * 16 + a .len) (a .len) n (omega arith))
 
 pub put-xor-spec : {M : Type 1} → statement M
 put-xor-spec =

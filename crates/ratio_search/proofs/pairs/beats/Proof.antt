@@ -3,7 +3,6 @@ use Prim.Native.Nat.{_+_}
 use native.Mathlib.Omega.{arith}
 use borrow.Author.Needs.{needs}
 use borrow.Author.Tests.{ltb-false}
-use Rattle.ratio_format.proofs.Zeros.{lead-le, trail-le}
 use Rattle.ratio_search.proofs.pairs.beats.Statement.{statement}
 use Rattle.ratio_search.proofs.pairs.beats.Tie as tie
 
@@ -17,9 +16,7 @@ trail-zeros-requires : tie.Need-trail-zeros-requires
 trail-zeros-requires c κs = search needs
 
 add-result : tie.Need-add-result
-add-result c =
-    let x = c .before .before .before .before .args .x in
-    omega (arith, lead-le x, trail-le x)
+add-result c = search needs
 
 returns : tie.Need-returns
 returns c = λ e.

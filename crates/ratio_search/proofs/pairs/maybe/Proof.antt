@@ -1,5 +1,5 @@
 -- `maybe` meets its contract: bytes that are not 0 at a pair of places far apart leave no larger sum.
-use Rattle.ratio_search.proofs.Bytes.{apart-le}
+use Rattle.ratio_search.proofs.Apart.{apart-le}
 use borrow.Author.Needs.{needs}
 use Rattle.ratio_search.proofs.pairs.maybe.Statement.{statement}
 use Rattle.ratio_search.proofs.pairs.maybe.Tie as tie

@@ -4,6 +4,7 @@ use mathlib.Core.Bool.{false}
 use mathlib.Core.Logic.{⊎-map}
 use Prim.Native.Nat.{_+_, _-_, _*_, _≤_}
 use native.Mathlib.Omega.{arith}
+use Rattle.ratio_search.specs.Planes.{slots}
 use Rattle.ratio_search.proofs.Blocks.{Quiet, quiet-more, slot-differs}
 use Rattle.ratio_search.proofs.pairs.suspect.Statement.{statement}
 use Rattle.ratio_search.proofs.pairs.suspect.Tie as tie
@@ -14,6 +15,12 @@ Inv-loop planes slot v a b c d x y z w any₀ j₀ any j =
 
 abbrev μ-loop : tie.MeasureT-loop
 μ-loop planes slot v a b c d x y z w any₀ j₀ any j = 16 - j
+
+-- the start, from where the four bytes are known
+abbrev startOf : tie.After-byte-of4 Inv-loop μ-loop → tie.Start Inv-loop μ-loop
+startOf c =
+    let first = c .before .before .before .before in
+    first .before .before .before .before
 
 mul-a : tie.Need-mul-a Inv-loop μ-loop
 mul-a c = omega arith
@@ -86,28 +93,30 @@ loop-less c = omega arith
 
 loop-again : tie.Need-loop-again Inv-loop μ-loop
 loop-again c =
-    let l = c .before .before .before .before .before .loop in
-    let n = c .before .before .before .before .before .before in
-    let a = n .before .before .before .before .before .before .before .before .args in
+    let copied = c .before .before .before in
+    let turn = copied .before .before in
+    let l = turn .loop in
+    let bytes = turn .before in
+    let a = startOf bytes .args in
     let p = a .p in (
       omega arith,
       λ e. quiet-more (a .planes .now)
-          (p .a * 128 + a .slot) (n .before .before .before .byte-of .result) (p .b * 128 + a .slot) (n .before .before .byte-of2 .result)
-          (p .c * 128 + a .slot) (n .before .byte-of3 .result) (p .d * 128 + a .slot) (n .byte-of4 .result)
+          (p .a * slots + a .slot) (bytes .before .before .before .byte-of .result) (p .b * slots + a .slot) (bytes .before .before .byte-of2 .result)
+          (p .c * slots + a .slot) (bytes .before .byte-of3 .result) (p .d * slots + a .slot) (bytes .byte-of4 .result)
           (l .any) (l .j) (l .inv .1) e,
     )
 
 returns : tie.Need-returns Inv-loop μ-loop
 returns c = λ e t h g.
-    let n = c .before in
-    let d = n .before .before .before .before .before .before .before .before .before in
-    let a = d .args in
+    let turn = c .before in
+    let bytes = turn .before in
+    let a = startOf bytes .args in
     let ps = a .planes .now in
     let p = a .p in
     ⊎-map
-    (slot-differs ps (a .v) (p .a) (p .b) (a .slot) _ _ t (n .before .before .before .before .byte-of .ensures) (n .before .before .before .byte-of2 .ensures) h)
-    (slot-differs ps (a .v) (p .c) (p .d) (a .slot) _ _ t (n .before .before .byte-of3 .ensures) (n .before .byte-of4 .ensures) h)
-    (n .loop .inv .1 e (t - a .slot) (omega arith))
+    (slot-differs ps (a .v) (p .a) (p .b) (a .slot) _ _ t (bytes .before .before .before .byte-of .ensures) (bytes .before .before .byte-of2 .ensures) h)
+    (slot-differs ps (a .v) (p .c) (p .d) (a .slot) _ _ t (bytes .before .byte-of3 .ensures) (bytes .byte-of4 .ensures) h)
+    (turn .loop .inv .1 e (t - a .slot) (omega arith))
 
 pub suspect-spec : {M : Type 1} → statement M
 suspect-spec =

@@ -3,13 +3,13 @@ use mathlib.Core.Path.{_≡_}
 use Prim.Native.Nat.{_-_, _≤_}
 use native.Mathlib.Omega.{arith}
 use lib.ListN.{length}
-use Rattle.ratio_search.specs.Planes.{Planes}
-use Rattle.ratio_search.proofs.Slots.{planes-start, planes-more}
+use Rattle.ratio_search.specs.Planes.{slots, cells, Planes}
+use Rattle.ratio_search.proofs.BytePlanes.{planes-start, planes-more}
 use Rattle.ratio_search.proofs.planes.fill_planes.Statement.{statement}
 use Rattle.ratio_search.proofs.planes.fill_planes.Tie as tie
 
 abbrev Inv-loop : tie.InvT-loop
-Inv-loop planes₀ ratios done to k₀ planes k = (length planes ≡ 1024) × (to - 128 ≤ k) × (k ≤ to) × Planes planes ratios (to - 128) k
+Inv-loop planes₀ ratios done to k₀ planes k = (length planes ≡ cells) × (to - slots ≤ k) × (k ≤ to) × Planes planes ratios (to - slots) k
 
 abbrev μ-loop : tie.MeasureT-loop
 μ-loop planes₀ ratios done to k₀ planes k = to - k
@@ -46,8 +46,9 @@ loop-less c = omega arith
 loop-again : tie.Need-loop-again Inv-loop μ-loop
 loop-again c =
     let e = c .put-planes .ensures in
-    let l = c .before .before .before .before .loop in
-    let a = c .before .before .before .before .before .before .before .args in (
+    let turn = c .before .before .before .before in
+    let l = turn .loop in
+    let a = turn .before .before .before .args in (
       e .0,
       omega arith,
       omega arith,

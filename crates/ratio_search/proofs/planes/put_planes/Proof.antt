@@ -1,18 +1,18 @@
 -- `put_planes` meets its contract. The invariant: the lowest j bytes are put, and all other slots stay.
 use Prim.Native.Nat.{_-_}
 use native.Mathlib.Omega.{arith}
-use Rattle.ratio_search.proofs.Slots.{Put, put-none, put-more}
+use Rattle.ratio_search.proofs.BytePlanes.{InSlot, in-slot-none, in-slot-more}
 use Rattle.ratio_search.proofs.planes.put_planes.Statement.{statement}
 use Rattle.ratio_search.proofs.planes.put_planes.Tie as tie
 
 abbrev Inv-loop : tie.InvT-loop
-Inv-loop planes₀ i v slot j₀ planes j = Put planes₀ i v planes j
+Inv-loop planes₀ i v slot j₀ planes j = InSlot planes₀ i v planes j
 
 abbrev μ-loop : tie.MeasureT-loop
 μ-loop planes₀ i v slot j₀ planes j = 8 - j
 
 loop-holds : tie.Need-loop-holds Inv-loop μ-loop
-loop-holds c = put-none (c .args .planes .now) (c .args .i) (c .args .v) (c .pre)
+loop-holds c = in-slot-none (c .args .planes .now) (c .args .i) (c .args .v) (c .pre)
 
 byte-of-requires : tie.Need-byte-of-requires Inv-loop μ-loop
 byte-of-requires c κs = omega arith
@@ -36,7 +36,7 @@ loop-again : tie.Need-loop-again Inv-loop μ-loop
 loop-again c =
     let l = c .before .before .loop in
     let a = c .before .before .before .args in
-    put-more (a .planes .now) (l .planes) (a .i) (a .v) (l .j) (c .byte-of .result) (l .inv) (omega arith) (c .byte-of .ensures)
+    in-slot-more (a .planes .now) (l .planes) (a .i) (a .v) (l .j) (c .byte-of .result) (l .inv) (omega arith) (c .byte-of .ensures)
 
 returns : tie.Need-returns Inv-loop μ-loop
 returns c =

@@ -1,6 +1,6 @@
 -- `pass` meets its contract: blocks are passed over first, and then ratios of a block that has a suspect.
 use native.Mathlib.Omega.{arith}
-use Rattle.ratio_codec.proofs.Passed.{passed-join}
+use Rattle.ratio_window.proofs.Passed.{passed-join}
 use Rattle.ratio_search.proofs.search.pass.Statement.{statement}
 use Rattle.ratio_search.proofs.search.pass.Tie as tie
 
@@ -29,8 +29,9 @@ pass-ratios-requires c κs =
 
 returns-2 : tie.Need-returns-2
 returns-2 c =
-    let a = c .before .before .before .before .before .args in
-    let b = c .before .before .before .pass-blocks in
+    let blocks = c .before .before .before in
+    let b = blocks .pass-blocks in
+    let a = blocks .before .before .args in
     let p = c .pass-ratios in (
       omega (arith, c .before .later .ensures),
       omega arith,

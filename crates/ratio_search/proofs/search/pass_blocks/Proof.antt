@@ -36,8 +36,9 @@ loop-less c = omega arith
 
 loop-again : tie.Need-loop-again Inv-loop μ-loop
 loop-again c =
-    let l = c .before .before .before .loop in
-    let d = c .before .before .before .before .before in
+    let turn = c .before .before .before in
+    let l = turn .loop in
+    let d = turn .before .before in
     let a = d .args in (
       omega arith,
       behind-block (a .planes .now) (a .ratios .now) (a .v) (a .sum) (a .from) (a .high) (l .h) (a .p .a) (a .p .b) (a .p .c) (a .p .d)

@@ -3,8 +3,8 @@ use Prim.Native.Nat.{_≤_}
 use native.Mathlib.Omega.{arith}
 use borrow.Author.Needs.{needs}
 use Rattle.ratio_format.specs.Zeros.{sumOf}
-use Rattle.ratio_codec.specs.Passed.{Passed}
-use Rattle.ratio_codec.proofs.Passed.{passed-none, passed-more}
+use Rattle.ratio_window.specs.Passed.{Passed}
+use Rattle.ratio_window.proofs.Passed.{passed-none, passed-more}
 use Rattle.ratio_search.proofs.search.pass_ratios.Statement.{statement}
 use Rattle.ratio_search.proofs.search.pass_ratios.Tie as tie
 
@@ -45,8 +45,9 @@ loop-less c = omega arith
 loop-again : tie.Need-loop-again Inv-loop μ-loop
 unfolding sumOf
 loop-again c =
-    let l = c .before .before .before .before .loop in
-    let a = c .before .before .before .before .before .before .args in
+    let turn = c .before .before .before .before in
+    let l = turn .loop in
+    let a = turn .before .before .args in
     (omega arith, omega arith, passed-more (a .v) (a .ratios .now) (a .sum) (l .k) (a .high) (omega arith) (c .before .beats .ensures (c .if1 .left)) (l .inv .2))
 
 returns-2 : tie.Need-returns-2 Inv-loop μ-loop

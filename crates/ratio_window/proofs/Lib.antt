@@ -1,0 +1,4 @@
+pub mod Passed
+pub mod Sums
+pub mod Windows
+pub mod Searched

@@ -22,7 +22,7 @@ text-is : listingOf listedRun ≡ listedText
 unfolding spanned firstOf isRate rates member firstIndex digitsOf trimmed decimal hex16 signed rateLine countLine spanLine pointLine pointLines listing
 text-is = refl
 
--- no input ends inside the first field
+-- of no input the head of the rate's field is not whole
 refused-is : printed [] ≡ refusedText
 unfolding readWith firstOf textOf digitsOf trimmed decimal refusedLine
 refused-is = refl

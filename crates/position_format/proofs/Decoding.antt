@@ -14,18 +14,18 @@ use Rattle.lists.proofs.Below.{below-take, below-drop}
 use Rattle.lists.proofs.Compare.{begins-own, begins-rest}
 use Rattle.bits.proofs.Digits.{two⁺, length-digits, number-lt, number-digits-lt, digits-number}
 use Rattle.position_format.specs.Rows.{Row, holds, inTable, residue, reading, codeIn, codeLength, code, noRow, rowOf}
-use Rattle.position_format.specs.Positions.{Taken, stepAt}
+use Rattle.position_format.specs.Positions.{StepTaken, stepAt}
 use Rattle.position_format.proofs.Lists.{every-at}
 use Rattle.position_format.proofs.Prefixes.{apart-not, begins-take}
 use Rattle.position_format.proofs.Rows.{goodTable, full, apart, good-cons, good-full, residue-lt, reading-residue, residue-reading}
 use Rattle.position_format.proofs.Codes.{inTable-row, row-inTable, row-holds, code-row}
 
 -- a step and the bits after it
-abbrev pub taken : ℤ → List ℕ → Taken
+abbrev pub taken : ℤ → List ℕ → StepTaken
 taken z ds = record { step = z; rest = ds }
 
 -- by the row r, of the bits after its prefix
-abbrev pub takenBy : Row → List ℕ → Taken
+abbrev pub takenBy : Row → List ℕ → StepTaken
 takenBy r ds = taken (reading r (numberOf 2 (take (r .width) ds))) (drop (r .width) ds)
 
 -- the row whose prefix the bits begin with reads them
@@ -96,7 +96,7 @@ module _ (d : Row) (rs : List Row) (good : goodTable rs ≡ true) (k : ℕ) (k< 
   -- where the code of a step stands there, the bits are read as that step
   module _ (z : ℤ) (e : inTable rs z ≡ true) (es : List ℕ) (is : ds ≡ code rs z ++ es) where
     pub front-step : reading here (numberOf 2 (take (here .width) (drop (length (here .prefix)) ds))) ≡ z
-    front-step = ap (λ (t : Taken). t .step) (sym stepAt-front ∙ ap (stepAt rs) is ∙ stepAt-code rs good z e es)
+    front-step = ap (λ (t : StepTaken). t .step) (sym stepAt-front ∙ ap (stepAt rs) is ∙ stepAt-code rs good z e es)
 
   -- where there are bits enough, the row holds what they are read as, and they are its code by this row
   module _ (below : Below 2 ds) (enough : codeLength here ≤ length ds) where

@@ -19,7 +19,7 @@ use Rattle.bits.proofs.Packing.{bits-pack}
 use Rattle.lists.specs.Lists.{firstIndex}
 use Rattle.position_format.specs.Rows.{Row, inTable, code}
 use Rattle.position_format.specs.Steps.{stepOf, stepsFrom, steps, outside}
-use Rattle.position_format.specs.Positions.{Taken, stepAt, after, stepBits, positionBits, codedPositions, validPositions, decodedSteps, decodedBits, decoded, readPositions}
+use Rattle.position_format.specs.Positions.{StepTaken, stepAt, after, stepBits, positionBits, codedPositions, validPositions, decodedSteps, decodedBits, decoded, readPositions}
 use Rattle.position_format.proofs.Integers.{after-step}
 use Rattle.position_format.proofs.Lists.{none-cons}
 use Rattle.position_format.proofs.Rows.{goodTable}
@@ -59,7 +59,7 @@ module _ (rs : List Row) (good : goodTable rs ≡ true) where
   steps-decoded (t ∷ ts) a b e ds =
       let c = none-cons (outside rs) (stepOf a b t) (stepsFrom b t ts) e in
       let es = stepBits rs (stepsFrom b t ts) ++ ds in
-      ap (λ (s : Taken). after a b (s .step) ∷ decodedSteps rs (length ts) b (after a b (s .step)) (s .rest))
+      ap (λ (s : StepTaken). after a b (s .step) ∷ decodedSteps rs (length ts) b (after a b (s .step)) (s .rest))
       (ap (stepAt rs) (append-assoc (code rs (stepOf a b t)) (stepBits rs (stepsFrom b t ts)) ds) ∙ stepAt-code rs good (stepOf a b t) (held (stepOf a b t) (c .0)) es)
       ∙ ap (λ (u : ℕ). u ∷ decodedSteps rs (length ts) b u es) (after-step a b t)
       ∙ ap (λ (l : List ℕ). t ∷ l) (steps-decoded ts b t (c .1) ds)

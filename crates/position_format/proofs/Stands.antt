@@ -18,7 +18,7 @@ use Rattle.bits.proofs.Packing.{bits-eight, length-left}
 use Rattle.limits.specs.Points.{maxPosition}
 use Rattle.position_format.specs.Rows.{Row, inTable, code}
 use Rattle.position_format.specs.Steps.{stepOf}
-use Rattle.position_format.specs.Positions.{Taken, stepAt, after}
+use Rattle.position_format.specs.Positions.{StepTaken, stepAt, after}
 use Rattle.position_format.specs.Points.{nextBits, Stands}
 use Rattle.position_format.proofs.Integers.{after-step}
 use Rattle.position_format.proofs.Rows.{goodTable}
@@ -40,7 +40,7 @@ module _ (rs : List Row) (good : goodTable rs ≡ true) where
   code-one : (y z : ℤ) (ds : List ℕ) → inTable rs y ≡ true → inTable rs z ≡ true → begins (code rs y) ds ≡ true → begins (code rs z) ds ≡ true → y ≡ z
   code-one y z ds hy hz ey ez =
       let read : (x : ℤ) → inTable rs x ≡ true → begins (code rs x) ds ≡ true → stepAt rs ds .step ≡ x =
-      λ x h e. let r = begins-rest (code rs x) ds e in ap (λ (l : List ℕ). stepAt rs l .step) (r .1) ∙ ap (λ (s : Taken). s .step) (stepAt-code rs good x h (r .0)) in
+      λ x h e. let r = begins-rest (code rs x) ds e in ap (λ (l : List ℕ). stepAt rs l .step) (r .1) ∙ ap (λ (s : StepTaken). s .step) (stepAt-code rs good x h (r .0)) in
       sym (read y hy ey) ∙ read z hz ez
 
   -- a position by its step

@@ -3,15 +3,17 @@
 --   positionBits rs ts       the bits of the positions ts: the first two raw, then the codes of the steps
 --   codedPositions rs ts     those bits laid in bytes
 --   validPositions rs ts     every position is in its range, and every step in the table
---   Taken                    a step and the bits after its code
+--   StepTaken                a step and the bits after its code
 --   stepAt rs ds             the step whose code stands at the front of the bits ds, and the bits after it
+--   atLeastZero z            a number that is not below zero, else 0
 --   after a b z              the position after a and b whose step is z, and 0 where it would be negative
 --   decodedSteps rs n a b ds the n positions after a and b whose steps stand in ds
 --   decodedBits rs n ds      the n positions that the bits ds give
 --   decoded rs n body        the n positions that a body gives, if it is a coding at all
 --   readPositions rs n body  the n positions that the body is the coding of, or nothing
--- Fill bits are, in the standard term, padding. A body is read by decoding it and coding the result again. So a row other than the first that holds a step, a 1 among the fill bits,
--- a byte too many, bits too few and a position outside its range are each refused, whatever the decoding makes of them.
+-- Fill bits are, in the standard term, padding. A body is read by decoding it and coding the result again. So a row other than the first
+-- that holds a step, a 1 among the fill bits, a byte too many, bits too few and a position outside its range are each refused, whatever the
+-- decoding makes of them.
 use mathlib.Core.Bool.{Bool, cond}
 use mathlib.Core.List.{List, [], _∷_, _++_}
 use mathlib.Core.Option.{Option, none, some}
@@ -38,7 +40,7 @@ positionBits rs [] = []
 positionBits rs (a ∷ []) = bitsOf 64 a
 positionBits rs (a ∷ b ∷ ts) = bitsOf 64 a ++ (bitsOf 64 b ++ stepBits rs (stepsFrom a b ts))
 
--- the body of field 3
+-- the body of the positions' field
 unfoldable pub codedPositions : List Row → List ℕ → List ℕ
 codedPositions rs ts = pack (positionBits rs ts)
 
@@ -47,12 +49,12 @@ unfoldable pub validPositions : List Row → List ℕ → Bool
 validPositions rs ts = both (eqb (firstHigh ts) (length ts)) (eqb (firstIndex (outside rs) (steps ts)) (length (steps ts)))
 
 -- a step and the bits after its code
-pub record Taken : Type 0 where
+pub record StepTaken : Type 0 where
   pub step : ℤ
   pub rest : List ℕ
 
 -- the step by the row whose prefix the bits begin with
-unfoldable pub stepAt : List Row → List ℕ → Taken
+unfoldable pub stepAt : List Row → List ℕ → StepTaken
 stepAt [] ds = record { step = pos 0; rest = [] }
 stepAt (r ∷ rs) ds =
     let tail = drop (length (r .prefix)) ds in

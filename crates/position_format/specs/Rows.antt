@@ -8,7 +8,7 @@
 --   codeIn r z      the code of z by the row r: the prefix, then z modulo 2 ^ width
 --   codeLength r    how many bits the codes by the row r have
 --   code rs z       the code of z by the first row that holds it
---   rowOf rs z      the index of the first row that holds z
+--   rowOf rs z      the index of the first row that holds z; noRow: what stands for a row past the table
 --   reading r x     the one number inside the row's range that is x modulo 2 ^ width, of a row that holds 2 ^ width numbers, 0 among them
 -- The definitions that go by a table take it as an argument, and their laws are proved of every table that passes one computed test: no
 -- prefix begins another, and each row holds 2 ^ width numbers, 0 among them (proofs/Rows, goodTable). The coder asks two more computed tests

@@ -1,4 +1,4 @@
-// One ratio of document 01's field 4: its form against the window, its bytes, and reading them back.
+// One ratio of the ratios' field (document 01, "Ratios"): its form against the window, its bytes, and reading them back.
 // A window is a slice with the oldest ratio first; the definitions have the newest first. Internal: callers meet each `requires`.
 pub mod read;
 mod search;

@@ -1,6 +1,6 @@
 -- Document 01, "Ratios": the coding of a list of ratios, and what a body is the coding, or an open form, of.
 --   codedFrom size w vs    the ratios vs coded one after the other, from the window w of that size
---   codedRatios vs         from a fresh window of our size: the body of field 4
+--   codedRatios vs         from a fresh window of our size: the body of the ratios' field
 --   before, atEnd, onRatio the parts of a reading: a ratio before the rest, the end of the bytes, what follows a ratio
 --   openFrom size w n s    the n ratios that the open rule reads from the bytes s, every byte used; or nothing
 --   openRatios n s         from a fresh window of our size
@@ -30,7 +30,7 @@ unfoldable pub codedFrom : ℕ → List ℕ → List ℕ → List ℕ
 codedFrom size w [] = []
 codedFrom size w (v ∷ vs) = coded v w ++ codedFrom size (push size v w) vs
 
--- the body of field 4
+-- the body of the ratios' field
 abbrev pub codedRatios : List ℕ → List ℕ
 codedRatios vs = codedFrom windowSize [] vs
 

@@ -1,5 +1,5 @@
--- Document 01, "Ratios" (Stepping, and kept states) and "Numbers that come back": reading coded ratios one by one. The standard term is a pull decoder. What document
--- 01 calls a reader's place is the offset in its body of the next form.
+-- Document 01, "Ratios" (Stepping, and kept states) and "Numbers that come back": reading coded ratios one by one. The standard term is a
+-- pull decoder. What document 01 calls a reader's place is the offset in its body of the next form.
 --   makeTests n        the test of making a reader with the count n: 15
 --   made n             number and place of making
 --   madeBody n b       the body that the reader then holds

@@ -1,7 +1,7 @@
 -- `reading_in` meets its contract: the number counted from the row's lowest step.
 use mathlib.Core.Path.{ap, _∙_}
-use Prim.Native.Nat.{ℕ, _+_, _-_, _/_, _%_, _^_, _<_}
-use native.Mathlib.Nat.{mod-lt}
+use Prim.Native.Nat.{ℕ, _+_, _-_, _/_, _%_, _^_, _≤_, _<_}
+use native.Mathlib.Nat.{mod-lt, le-trans, lt-of-lt-of-le, sub-le}
 use native.Mathlib.Omega.{arith}
 use lib.IntN.{pos, _-ℤ_}
 use Rattle.position_codec.proofs.Differences.{diff-fits, diff-back}
@@ -25,32 +25,28 @@ add-y c = search needs
 rem-y : tie.Need-rem-y
 rem-y c = search needs
 
--- how many steps are below zero, and the number counted so, are small
-abbrev below : tie.After-size-of → ℕ
-below c = (c .size-of .result - 1) / 2
-
-abbrev number : tie.After-size-of → ℕ
-number c = (c .before .args .x + below c) % c .size-of .result
-
-small : (c : tie.After-size-of) → (number c < 2 ^ 32) × (below c < 2 ^ 32)
-small c =
-    let e = c .size-of .ensures in
-    (omega (arith, mod-lt (c .before .args .x + below c) (e .1), e .2), omega (arith, e .2))
-
 cast-result : tie.Need-cast-result
-cast-result c = record { sfits = omega (arith, small c .0) }
+cast-result c = let e = c .size-of .ensures in record { sfits = lt-of-lt-of-le (mod-lt _ (e .1)) (omega (arith, e .2)) }
 
 cast-result-2 : tie.Need-cast-result-2
 cast-result-2 c = search needs
 
+-- what is counted, and how many steps are below zero, are small
+counted-lt : (x : ℕ) {m : ℕ} → 0 < m → m ≤ 2 ^ 32 → x % m < 2 ^ 62
+counted-lt x some few = omega (arith, mod-lt x some)
+
+half-lt : {m : ℕ} → m ≤ 2 ^ 32 → m / 2 < 2 ^ 62
+half-lt few = omega arith
+
 sub-result : tie.Need-sub-result
-sub-result c = diff-fits (number c) (below c) (omega (arith, small c .0)) (omega (arith, small c .1))
+sub-result c = let e = c .size-of .ensures in diff-fits _ _ (counted-lt _ (e .1) (e .2)) (half-lt (le-trans (sub-le _ _) (e .2)))
 
 returns : tie.Need-returns
 returns c =
     let s = c .before in
-    diff-back (number c) (below c) (omega (arith, small c .0)) (omega (arith, small c .1))
-    ∙ ap (λ (m : ℕ). pos ((s .args .x + (m - 1) / 2) % m) -ℤ pos ((m - 1) / 2)) (c .size-of .ensures .0)
+    let e = c .size-of .ensures in
+    diff-back _ _ (counted-lt _ (e .1) (e .2)) (half-lt (le-trans (sub-le _ _) (e .2)))
+    ∙ ap (λ (m : ℕ). pos ((s .args .x + (m - 1) / 2) % m) -ℤ pos ((m - 1) / 2)) (e .0)
     ∙ reading-counted rows rows-good rows-widening (s .args .row) (omega (arith, s .pre .0, rows-count)) (s .args .x) (s .pre .1)
 
 pub reading-in-spec : {M : Type 1} → statement M

@@ -10,10 +10,8 @@ use Rattle.lists.specs.Below.{Below}
 use Rattle.lists.specs.Compare.{same}
 use Rattle.lists.proofs.Compare.{same-own, same-is}
 use Rattle.ratio_format.specs.Windows.{windowSize}
-use Rattle.ratio_format.specs.Open.{strictRead}
 use Rattle.ratio_format.specs.Bodies.{codedRatios, openRatios, strictRatios, ifCoded}
-use Rattle.ratio_format.proofs.Open.{strict-open, open-value}
-use Rattle.ratio_format.proofs.ReadFrom.{Gives64, open-coded, open-length, open-below}
+use Rattle.ratio_format.proofs.ReadFrom.{open-coded, open-length, open-below}
 
 -- the coding is accepted
 pub strict-coded : (vs : List ℕ) → Below (2 ^ 64) vs → strictRatios (length vs) (codedRatios vs) ≡ some vs
@@ -41,15 +39,3 @@ strict-only-body n s vs e = let r = strict-reads n s vs e in (r .1, open-length 
 pub strict-below : (n : ℕ) (s vs : List ℕ) → Below 256 s → strictRatios n s ≡ some vs → Below (2 ^ 64) vs
 unfolding Below
 strict-below n s vs hs e = open-below windowSize [] n s vs hs tt (strict-reads n s vs e .0)
-
--- bytes that are no coding of n ratios are refused
-pub strict-none : (n : ℕ) (s : List ℕ) → Below 256 s → ((vs : List ℕ) → length vs ≡ n → Below (2 ^ 64) vs → codedRatios vs ≡ s → ⊥) → strictRatios n s ≡ none
-strict-none n s hs other = go (strictRatios n s) refl
-  where
-    go : (r : Option (List ℕ)) → strictRatios n s ≡ r → r ≡ none
-    go none e = refl
-    go (some vs) e = let r = strict-only-body n s vs e in absurd (other vs (r .1) (strict-below n s vs hs e) (sym (r .0)))
-
--- the ratio that is read strictly has 64 bits
-pub strict-gives : Gives64 strictRead
-strict-gives w s v k hs ha e = open-value w s v k hs ha (strict-open v k w s e .0) .0

@@ -3,7 +3,7 @@
 use mathlib.Core.Path.{_≡_, refl, sym, ap, ap₂, _∙_}
 use mathlib.Core.Bool.{Bool, true, false, cond}
 use mathlib.Core.List.{List, [], _∷_, _++_, append-nil, append-assoc}
-use mathlib.Core.Option.{none, some}
+use mathlib.Core.Option.{Option, none, some}
 use Prim.Native.Nat.{ℕ, zero, suc, _+_, _^_, _≤_, _<_}
 use native.Mathlib.Omega.{arith}
 use borrow.Author.Tests.{eqb-true, eqb-false, eq-eqb}
@@ -20,10 +20,9 @@ use Rattle.ratio_format.specs.Forms.{coded}
 use Rattle.ratio_format.specs.Open.{openRead, strictRead}
 use Rattle.ratio_format.specs.Bodies.{codedFrom, codedRatios, before, openRatios, strictRatios, Taken, noneTaken, andTaken, onTaken, takenFrom, openTaken, strictTaken, wholeTaken}
 use Rattle.ratio_format.proofs.Windows.{push-length, push-below}
-use Rattle.ratio_format.proofs.Open.{strict-takes, strict-open, strict-only}
-use Rattle.ratio_format.proofs.Open.{open-used}
-use Rattle.ratio_format.proofs.ReadFrom.{Rule, readFrom, open-is}
-use Rattle.ratio_format.proofs.Strict.{strict-gives, strict-coded, strict-none}
+use Rattle.ratio_format.proofs.Open.{strict-takes, strict-open, strict-only, open-used, open-value}
+use Rattle.ratio_format.proofs.ReadFrom.{Rule, Gives64, readFrom, open-is}
+use Rattle.ratio_format.proofs.Strict.{strict-coded, strict-only-body, strict-below}
 
 -- one ratio, by any rule
 
@@ -105,6 +104,10 @@ pub open-taken : (n : ℕ) (s : List ℕ) → openRatios n s ≡ wholeTaken n s 
 open-taken n s = open-is windowSize [] n s ∙ read-taken openRead open-within windowSize [] n s
 
 -- strictly
+
+-- the ratio that is read has 64 bits
+strict-gives : Gives64 strictRead
+strict-gives w s v k hs ha e = open-value w s v k hs ha (strict-open v k w s e .0) .0
 
 module _ (size : ℕ) (hz : size ≤ windowSize) where
   -- the bytes begin with the coding of what was taken
@@ -195,11 +198,16 @@ module _ (n : ℕ) (s : List ℕ) where
           empty [] z = refl
           empty (x ∷ l) z = absurd (omega arith)
 
+      -- bytes that are the coding of n ratios are taken whole
       other : (length (t .ratios) ≡ n → t .used ≡ length s → ⊥) → strictRatios n s ≡ none
-      other never =
-          strict-none n s hs (λ vs e hv q.
-          let i = same vs e hv q in
-          never (ap length i ∙ e) (front .1 ∙ ap (λ (l : List ℕ). length (codedRatios l)) i ∙ ap length q))
+      other never = read (strictRatios n s) refl
+        where
+          read : (r : Option (List ℕ)) → strictRatios n s ≡ r → strictRatios n s ≡ none
+          read none e = e
+          read (some vs) e =
+              let o = strict-only-body n s vs e in
+              let i = same vs (o .1) (strict-below n s vs hs e) (sym (o .0)) in
+              absurd (never (ap length i ∙ o .1) (front .1 ∙ ap (λ (l : List ℕ). length (codedRatios l)) i ∙ ap length (sym (o .0))))
 
       go : (x : Bool) → eqb (length (t .ratios)) n ≡ x → (y : Bool) → eqb (t .used) (length s) ≡ y → strictRatios n s ≡ cond (both x y) (some (t .ratios)) none
       go true e true f = all (eqb-true (length (t .ratios)) n e) (eqb-true (t .used) (length s) f)

@@ -16,7 +16,7 @@ use Rattle.ratio_format.proofs.ReadFrom.{open-coded, open-length, open-
 -- the coding is accepted
 pub strict-coded : (vs : List ℕ) → Below (2 ^ 64) vs → strictRatios (length vs) (codedRatios vs) ≡ some vs
 unfolding strictRatios Below
-strict-coded vs hs = rw (open-coded 127 (omega arith) [] vs (omega arith) tt hs, same-own (codedRatios vs))
+strict-coded vs hs = rw (open-coded windowSize (omega arith) [] vs (omega arith) tt hs, same-own (codedRatios vs))
 
 -- what is accepted is read openly, and the bytes are its coding
 pub strict-reads : (n : ℕ) (s vs : List ℕ) → strictRatios n s ≡ some vs → (openRatios n s ≡ some vs) × (s ≡ codedRatios vs)
@@ -33,7 +33,7 @@ strict-reads n s vs e = go (openRatios n s) refl e
     go (some us) q e = at us q (same (codedRatios us) s) refl e
 
 pub strict-only-body : (n : ℕ) (s vs : List ℕ) → strictRatios n s ≡ some vs → (s ≡ codedRatios vs) × (length vs ≡ n)
-strict-only-body n s vs e = let r = strict-reads n s vs e in (r .1, open-length 127 [] n s vs (r .0))
+strict-only-body n s vs e = let r = strict-reads n s vs e in (r .1, open-length windowSize [] n s vs (r .0))
 
 -- the ratios that are read have 64 bits
 pub strict-below : (n : ℕ) (s vs : List ℕ) → Below 256 s → strictRatios n s ≡ some vs → Below (2 ^ 64) vs

@@ -8,6 +8,7 @@ use Prim.Native.Nat.{ℕ, _^_, _≤_, _<_}
 use lib.IntN.{ℤ}
 use lib.ListN.{length}
 use Rattle.bits.specs.Digits.{bitsOf}
+use Rattle.limits.specs.Points.{maxPoints}
 use Rattle.position_format.specs.Rows.{Row, code}
 use Rattle.position_format.specs.Positions.{validPositions}
 use Rattle.position_codec.specs.declared.table.Code.{Code}
@@ -24,5 +25,5 @@ pub record Coded (rs : List Row) (z : ℤ) (c : Code) : Type 0 where
 -- a point of a run that can be coded
 pub record Point (rs : List Row) (ts : List ℕ) (i : ℕ) : Type 0 where
   pub valid : validPositions rs ts ≡ true
-  pub many : length ts ≤ 4096
+  pub many : length ts ≤ maxPoints
   pub here : i < length ts

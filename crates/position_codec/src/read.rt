@@ -6,6 +6,7 @@ ghost use lib.ListN.{length, getD, take, drop, replicate};
 ghost use Rattle.lists.specs.Compare.{same};
 ghost use Rattle.bits.specs.Digits.{numberOf};
 ghost use Rattle.bits.specs.Packing.{bits, fillOf};
+ghost use Rattle.limits.specs.Points.{maxPoints};
 ghost use Rattle.outputs.specs.Outputs.{Filled};
 ghost use Rattle.position_format.specs.Rows.{Row, rows, noRow, codeLength};
 ghost use Rattle.position_format.specs.Positions.{readPositions};
@@ -135,7 +136,7 @@ fn is_fill(body: &[u8], at: usize) -> bool
 
 // The positions that the body is the coding of are put at the front of the output, whose rest stays; or the body is no coding of so many.
 pub fn get_positions(body: &[u8], count: usize, out: &mut [u64]) -> bool
-    requires { ⌜ (count ≤ length (now out)) × (count ≤ 4096) ⌝ }
+    requires { ⌜ (count ≤ length (now out)) × (count ≤ maxPoints) ⌝ }
     ensures { λ r. ⌜ Filled (readPositions rows count (now (body .entry))) r (now (out .entry)) (now (out .exit)) ⌝ }
 {
     if MAX_BYTES < body.len() {

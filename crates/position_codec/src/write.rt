@@ -6,7 +6,7 @@ ghost use Prim.Native.Nat.{ℕ, _+_, _^_, _≤_, _<_};
 ghost use lib.ListN.{length, take};
 ghost use Rattle.bits.specs.Sinks.{Sound, Held, PlacedBits};
 ghost use Rattle.outputs.specs.Outputs.{Placed};
-ghost use Rattle.limits.specs.Points.{firstHigh};
+ghost use Rattle.limits.specs.Points.{maxPoints, firstHigh};
 ghost use Rattle.position_format.specs.Rows.{rows};
 ghost use Rattle.position_format.specs.Steps.{stepOf, firstOutside, stepHere};
 ghost use Rattle.position_format.specs.Positions.{positionBits, codedPositions, validPositions};
@@ -34,7 +34,7 @@ fn step_at(positions: &[u64], i: usize) -> i64
 
 // The index of the first point whose step the table does not hold; where there is none, the number of points, or 2 if that is more.
 pub fn first_outside(positions: &[u64]) -> usize
-    requires { ⌜ (length (now positions) ≤ firstHigh (now positions)) × (length (now positions) ≤ 4096) ⌝ }
+    requires { ⌜ (length (now positions) ≤ firstHigh (now positions)) × (length (now positions) ≤ maxPoints) ⌝ }
     ensures { λ r. ⌜ r ≡ firstOutside rows (now (positions .entry)) ⌝ }
 {
     let mut i = 2;
@@ -86,7 +86,7 @@ fn put_point(positions: &[u64], i: usize, out: &mut [u8], s: Sink) -> Sink
 
 // The coding of the positions is written at the front of the output, whose rest stays, if there is room.
 pub fn put_positions(positions: &[u64], out: &mut [u8]) -> Wrote
-    requires { ⌜ (validPositions rows (now positions) ≡ true) × (length (now positions) ≤ 4096) ⌝ }
+    requires { ⌜ (validPositions rows (now positions) ≡ true) × (length (now positions) ≤ maxPoints) ⌝ }
     ensures { λ r. ⌜ Placed (codedPositions rows (now (positions .entry))) r (now (out .entry)) (now (out .exit)) ⌝ }
 {
     let mut s = put_first(positions, out);

@@ -4,6 +4,7 @@ ghost use mathlib.Core.List.{[], _∷_};
 ghost use mathlib.Core.Path.{_≡_};
 ghost use Prim.Native.Nat.{_+_, _%_, _≤_, _<_};
 ghost use lib.ListN.{length, take, getD, set};
+ghost use Rattle.limits.specs.Points.{maxPoints};
 ghost use Rattle.ratio_format.specs.Windows.{windowSize, windowOf};
 ghost use Rattle.ratio_format.specs.Forms.{coded};
 ghost use Rattle.ratio_bodies.specs.Indexes.{keyOf, keys, Indexed, Trailing};
@@ -44,7 +45,7 @@ fn looked_up(newest: &[u16; KEYS], ratios: &[u64], i: usize) -> usize
 
 // Ratio i, of value v, is passed.
 fn note(newest: &mut [u16; KEYS], i: usize, v: u64)
-    requires { ⌜ i < 4096 ⌝ }
+    requires { ⌜ i < maxPoints ⌝ }
     ensures { λ _. ⌜ now (newest .exit) ≡ set (now (newest .entry)) (keyOf v) (i + 1) ⌝ }
 {
     let k = key_of(v);
@@ -53,7 +54,7 @@ fn note(newest: &mut [u16; KEYS], i: usize, v: u64)
 
 // The ratio before ratio i is noted, and then the place of ratio i is looked up. Of repeats only the last needs to be noted.
 pub(crate) fn place_of(newest: &mut [u16; KEYS], ratios: &[u64], i: usize) -> usize
-    requires { ⌜ (i < length (now ratios)) × (length (now ratios) ≤ 4096) × Trailing (now newest) (now ratios) i ⌝ }
+    requires { ⌜ (i < length (now ratios)) × (length (now ratios) ≤ maxPoints) × Trailing (now newest) (now ratios) i ⌝ }
     ensures { λ r. ⌜ Trailing (now (newest .exit)) (now (ratios .entry)) (i + 1)
         × (r < windowSize → coded (getD (now (ratios .entry)) i 0) (windowOf windowSize (take i (now (ratios .entry)))) ≡ r ∷ []) ⌝ }
 {

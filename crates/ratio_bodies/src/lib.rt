@@ -21,6 +21,7 @@ ghost use Prim.Native.Nat.{_-_, _≤_, _<_};
 ghost use lib.Dec.{eqb};
 ghost use lib.ListN.{length, take, getD};
 ghost use Rattle.lists.specs.Compare.{both};
+ghost use Rattle.limits.specs.Points.{maxPoints};
 ghost use Rattle.outputs.specs.Outputs.{Placed};
 ghost use Rattle.ratio_format.specs.Windows.{windowSize, windowOf};
 ghost use Rattle.ratio_format.specs.Forms.{coded};
@@ -68,7 +69,7 @@ fn put_nth(planes: &[u8; CELLS], ratios: &[u64], i: usize, place: usize, out: &m
 
 // The coding of the ratios is put at the front of the output.
 pub fn put_ratios(ratios: &[u64], out: &mut [u8]) -> Wrote
-    requires { ⌜ length (now ratios) ≤ 4096 ⌝ }
+    requires { ⌜ length (now ratios) ≤ maxPoints ⌝ }
     ensures { λ r. ⌜ Placed (codedRatios (now (ratios .entry))) r (now (out .entry)) (now (out .exit)) ⌝ }
 {
     let mut planes = [0; CELLS];

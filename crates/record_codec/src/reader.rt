@@ -57,14 +57,14 @@ fn read_record(
             ratios,
         );
     }
-    let first = read_coded(Coding::Positions, false, input, front.end, count, positions);
-    let refused2 = first.refusal;
+    let points = read_coded(Coding::Positions, false, input, front.end, count, positions);
+    let refused2 = points.refusal;
     let number2 = refused2.number;
     if number2 != 0 {
         return refuse_read(refused2, positions, ratios);
     }
-    let second = read_coded(Coding::Ratios, openly, input, first.end, count, ratios);
-    let refused3 = second.refusal;
+    let values = read_coded(Coding::Ratios, openly, input, points.end, count, ratios);
+    let refused3 = values.refusal;
     let number3 = refused3.number;
     if number3 != 0 {
         return refuse_read(refused3, positions, ratios);
@@ -74,7 +74,7 @@ fn read_record(
         place: 0,
         rate: front.rate,
         count: count as u32,
-        used: second.end as u64,
+        used: values.end as u64,
     }
 }
 

@@ -37,16 +37,16 @@ record Read (s : List ℕ) : Type 0 where
 
 passed : (e : ℕ) (s : List ℕ) (m n : ℕ) → firstOf (readTests strictRatios e s m n) .number ≡ 0 → Read s
 passed e s m n clear =
-    let last = ratiosTests strictRatios s in
-    let third = positionsTests s ++ last in
-    let second = roomTests s m n ++ third in
-    let a = field-clear s (rateTag ∷ []) (some rateSize) rateAt (test (not (isRate (rateIn s))) 13 rateAt ∷ test (otherRate e (rateIn s)) 14 rateAt ∷ (countTests s ++ second)) clear in
+    let from-ratios = ratiosTests strictRatios s in
+    let from-positions = positionsTests s ++ from-ratios in
+    let from-room = roomTests s m n ++ from-positions in
+    let a = field-clear s (rateTag ∷ []) (some rateSize) rateAt (test (not (isRate (rateIn s))) 13 rateAt ∷ test (otherRate e (rateIn s)) 14 rateAt ∷ (countTests s ++ from-room)) clear in
     let a13 = first-clear _ _ (lit< tt) (a .1) in
     let a14 = first-clear _ _ (lit< tt) (a13 .1) in
-    let b = field-clear s (countTag ∷ []) (some countSize) (countAt s) (test (ltb maxPoints (countIn s)) 15 (countAt s) ∷ second) (a14 .1) in
+    let b = field-clear s (countTag ∷ []) (some countSize) (countAt s) (test (ltb maxPoints (countIn s)) 15 (countAt s) ∷ from-room) (a14 .1) in
     let b15 = first-clear _ _ (lit< tt) (b .1) in
     let b16 = first-clear _ _ (lit< tt) (b15 .1) in
-    let c = field-clear s (positionsTag ∷ []) none (positionsAt s) (test (missing (positionsIn s)) 17 (positionsAt s) ∷ last) (b16 .1) in
+    let c = field-clear s (positionsTag ∷ []) none (positionsAt s) (test (missing (positionsIn s)) 17 (positionsAt s) ∷ from-ratios) (b16 .1) in
     let c17 = first-clear _ _ (lit< tt) (c .1) in
     let d = field-clear s (ratiosTag ∷ []) none (ratiosAt s) (test (missing (ratiosIn strictRatios s)) 18 (ratiosAt s) ∷ []) (c17 .1) in
     let d18 = first-clear _ _ (lit< tt) (d .1) in

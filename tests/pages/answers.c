@@ -184,7 +184,7 @@ static void form(char **words)
     farigolenc_live state = farigolenc_live_new();
     farigolenc_write_answer added = {0, 0, 0};
     for (; *words != NULL; words++) {
-        added = farigolenc_live_add(&state, strtoull(*words, NULL, 16), bytes, FARIGOLENC_FORM);
+        added = farigolenc_live_add(&state, strtoull(*words, NULL, 16), bytes, FARIGOLENC_RATIO_FORM);
     }
     print_bytes(bytes, (size_t)added.length);
 }
@@ -239,7 +239,7 @@ static void live(char **words)
     farigolenc_live state = farigolenc_live_new();
     state.fill = decimal(words[0]);
     state.seen = decimal(words[1]);
-    printf("%" PRIu32 "\n", farigolenc_live_add(&state, 0, bytes, FARIGOLENC_FORM).number);
+    printf("%" PRIu32 "\n", farigolenc_live_add(&state, 0, bytes, FARIGOLENC_RATIO_FORM).number);
 }
 
 static void reader(char **words)

@@ -1,10 +1,11 @@
 // Fields of coded numbers: the codings, each with its tag, its refusal, and its writer and reader of a body.
 ghost use mathlib.Core.Path.{_≡_};
+ghost use mathlib.Core.Bool.{false};
 ghost use Prim.Native.Nat.{_≤_};
 ghost use lib.ListN.{length};
 ghost use Rattle.limits.specs.Points.{maxPoints};
 ghost use Rattle.outputs.specs.Outputs.{Placed, Filled};
-ghost use Rattle.record_codec.specs.Fields.{farthest, ratiosBy, tagOf, numberFor, codedBy, readBy, Codable, CodedRead};
+ghost use Rattle.record_codec.specs.Fields.{farthest, ratiosBy, tagOf, codedBy, Codable, CodedRead};
 use super::field::Length;
 use super::field::read_field;
 use outputs::Wrote;
@@ -34,16 +35,6 @@ pub(crate) fn tag_of(coding: Coding) -> u8
     }
 }
 
-// The number of the refusal of a body that is none.
-fn number_for(coding: Coding) -> u32
-    ensures { λ r. ⌜ r ≡ numberFor coding ⌝ }
-{
-    match coding {
-        Coding::Positions => 17,
-        Coding::Ratios => 18,
-    }
-}
-
 // The body of the numbers, at the front of the output.
 pub(crate) fn put_body(coding: Coding, numbers: &[u64], out: &mut [u8]) -> Wrote
     requires { ⌜ Codable coding (now numbers) ⌝ }
@@ -69,30 +60,12 @@ fn get_ratios(openly: bool, body: &[u8], count: usize, out: &mut [u64]) -> bool
     }
 }
 
-// The numbers of a body, ratios by the open rule or strictly.
-fn get_body(coding: Coding, openly: bool, body: &[u8], count: usize, out: &mut [u64]) -> bool
-    requires { ⌜ (count ≤ length (now out)) × (count ≤ maxPoints) ⌝ }
-    ensures { λ r. ⌜ Filled (readBy coding openly count (now (body .entry))) r (now (out .entry)) (now (out .exit)) ⌝ }
-{
-    match coding {
-        Coding::Positions => position_codec::get_positions(body, count, out),
-        Coding::Ratios => get_ratios(openly, body, count, out),
-    }
-}
-
-// The field of count coded numbers at an offset: its tests, and its numbers at the front of the output.
-pub(crate) fn read_coded(
-    coding: Coding,
-    openly: bool,
-    input: &[u8],
-    at: usize,
-    count: usize,
-    out: &mut [u64],
-) -> Part
+// The positions' field at an offset: its tests, and its positions at the front of the output.
+pub(crate) fn read_positions(input: &[u8], at: usize, count: usize, out: &mut [u64]) -> Part
     requires { ⌜ (at ≤ length (now input)) × (at ≤ farthest) × (count ≤ length (now out)) × (count ≤ maxPoints) ⌝ }
-    ensures { λ r. ⌜ CodedRead coding openly count (now (input .entry)) at r (now (out .entry)) (now (out .exit)) ⌝ }
+    ensures { λ r. ⌜ CodedRead Coding.Positions false count (now (input .entry)) at r (now (out .entry)) (now (out .exit)) ⌝ }
 {
-    let tags = [tag_of(coding)];
+    let tags = [POSITIONS_TAG];
     let field = read_field(input, at, &tags, Length::Any);
     let refusal = field.refusal;
     let number = refusal.number;
@@ -101,10 +74,42 @@ pub(crate) fn read_coded(
     }
     let from = field.from;
     let to = field.to;
-    if !get_body(coding, openly, &input[from..to], count, out) {
+    if !position_codec::get_positions(&input[from..to], count, out) {
         return Part {
             refusal: Refusal {
-                number: number_for(coding),
+                number: 17,
+                place: at as u32,
+            },
+            end: 0,
+        };
+    }
+    Part { refusal, end: to }
+}
+
+// The same of the ratios' field, by the open rule or strictly.
+pub(crate) fn read_ratios(
+    openly: bool,
+    input: &[u8],
+    at: usize,
+    count: usize,
+    out: &mut [u64],
+) -> Part
+    requires { ⌜ (at ≤ length (now input)) × (at ≤ farthest) × (count ≤ length (now out)) × (count ≤ maxPoints) ⌝ }
+    ensures { λ r. ⌜ CodedRead Coding.Ratios openly count (now (input .entry)) at r (now (out .entry)) (now (out .exit)) ⌝ }
+{
+    let tags = [RATIOS_TAG];
+    let field = read_field(input, at, &tags, Length::Any);
+    let refusal = field.refusal;
+    let number = refusal.number;
+    if number != 0 {
+        return Part { refusal, end: 0 };
+    }
+    let from = field.from;
+    let to = field.to;
+    if !get_ratios(openly, &input[from..to], count, out) {
+        return Part {
+            refusal: Refusal {
+                number: 18,
                 place: at as u32,
             },
             end: 0,

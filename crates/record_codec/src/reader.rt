@@ -2,8 +2,8 @@
 ghost use mathlib.Core.Path.{_≡_};
 ghost use Rattle.record_format.specs.Reading.{refusalAnswer, lacksRoom, readWith, readStrict, readOpen};
 ghost use Rattle.record_codec.specs.Fields.{ratiosBy, Answered};
-use super::coding::Coding;
-use super::coding::read_coded;
+use super::coding::read_positions;
+use super::coding::read_ratios;
 use super::front::read_front;
 use record_format::ReadAnswer;
 use refusals::Refusal;
@@ -57,13 +57,13 @@ fn read_record(
             ratios,
         );
     }
-    let points = read_coded(Coding::Positions, false, input, front.end, count, positions);
+    let points = read_positions(input, front.end, count, positions);
     let refused2 = points.refusal;
     let number2 = refused2.number;
     if number2 != 0 {
         return refuse_read(refused2, positions, ratios);
     }
-    let values = read_coded(Coding::Ratios, openly, input, points.end, count, ratios);
+    let values = read_ratios(openly, input, points.end, count, ratios);
     let refused3 = values.refusal;
     let number3 = refused3.number;
     if number3 != 0 {

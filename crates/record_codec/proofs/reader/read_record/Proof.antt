@@ -20,16 +20,16 @@ entry k = k .before .before .before .before
 abbrev front : tie.Else1 → tie.After-read-front
 front k = k .before .before
 
-abbrev room : tie.After-read-coded → tie.Else2
+abbrev room : tie.After-read-positions → tie.Else2
 room k = k .before .before
 
-abbrev positions : tie.After-refused2 → tie.After-read-coded
+abbrev positions : tie.After-refused2 → tie.After-read-positions
 positions k = k .before .before .before
 
-abbrev later : tie.After-read-coded2 → tie.Else3
+abbrev later : tie.After-read-ratios → tie.Else3
 later k = k .before .before
 
-abbrev ratios : tie.After-refused3 → tie.After-read-coded2
+abbrev ratios : tie.After-refused3 → tie.After-read-ratios
 ratios k = k .before .before .before
 
 -- the call that clears the outputs, as each return of a refusal sees it
@@ -115,8 +115,8 @@ returns-2 c =
     (sym (l .lacks .ensures) ∙ i .if2 .taken))
     (cleared2 c .refuse-read2 .ensures)
 
-read-coded-requires : tie.Need-read-coded-requires
-read-coded-requires c κs =
+read-positions-requires : tie.Need-read-positions-requires
+read-positions-requires c κs =
     let k = c .before in
     let g = good-front k in
     let h = fronted k .read-front .ensures in
@@ -145,11 +145,11 @@ returns-3 c =
     let f = fronted r in
     let a = start r .args in
     answered-as
-    (read-positions (a .openly) (a .expected) (a .input .now) (a .positions .now) (a .ratios .now) (f .read-front .result) (f .read-front .ensures) (good-front r) (enough r) (p .read-coded .result) _ (p .read-coded .ensures) (i .if3 .taken) (p .read-coded .kept .1 .1 .1 .1 .1 .0))
+    (read-positions (a .openly) (a .expected) (a .input .now) (a .positions .now) (a .ratios .now) (f .read-front .result) (f .read-front .ensures) (good-front r) (enough r) (p .read-positions .result) _ (p .read-positions .ensures) (i .if3 .taken) (p .read-positions .kept .1 .1 .1 .0))
     (cleared3 c .refuse-read3 .ensures)
 
-read-coded-requires-2 : tie.Need-read-coded-requires-2
-read-coded-requires-2 c κs =
+read-ratios-requires : tie.Need-read-ratios-requires
+read-ratios-requires c κs =
     let i = c .before in
     let p = positions (i .before) in
     let r = room p in
@@ -160,8 +160,8 @@ read-coded-requires-2 c κs =
     let near = f .read-front .ensures .near g in
     let count = f .read-front .ensures .count g in
     let few = f .read-front .ensures .few g in
-    let inside = positions-inside (a .openly) (a .expected) (a .input .now) (a .positions .now) (a .ratios .now) (f .read-front .result) (f .read-front .ensures) (good-front r) (enough r) (p .read-coded .result) _ (p .read-coded .ensures) (i .if3 .left) in
-    let close = positions-near (a .openly) (a .expected) (a .input .now) (a .positions .now) (a .ratios .now) (f .read-front .result) (f .read-front .ensures) (good-front r) (enough r) (p .read-coded .result) _ (p .read-coded .ensures) (i .if3 .left) in
+    let inside = positions-inside (a .openly) (a .expected) (a .input .now) (a .positions .now) (a .ratios .now) (f .read-front .result) (f .read-front .ensures) (good-front r) (enough r) (p .read-positions .result) _ (p .read-positions .ensures) (i .if3 .left) in
+    let close = positions-near (a .openly) (a .expected) (a .input .now) (a .positions .now) (a .ratios .now) (f .read-front .result) (f .read-front .ensures) (good-front r) (enough r) (p .read-positions .result) _ (p .read-positions .ensures) (i .if3 .left) in
     (omega arith, omega arith, room-ratios (a .openly) (a .expected) (a .input .now) (a .positions .now) (a .ratios .now) _ (f .read-front .ensures) g (enough r), omega arith)
 
 refuse-read-requires-4 : tie.Need-refuse-read-requires-4
@@ -183,12 +183,12 @@ returns-4 c =
     let f = fronted r in
     let a = start r .args in
     answered-as
-    (read-ratios (a .openly) (a .expected) (a .input .now) (a .positions .now) (a .ratios .now) (f .read-front .result) (f .read-front .ensures) (good-front r) (enough r) (p .read-coded .result) _ (p .read-coded .ensures) (i .if3 .left)
-    (q .read-coded2 .result) _ (q .read-coded2 .ensures) (j .if4 .taken) (p .read-coded .kept .1 .1 .1 .1 .1 .0) (q .read-coded2 .kept .1 .1 .1 .1 .1 .0))
+    (read-ratios (a .openly) (a .expected) (a .input .now) (a .positions .now) (a .ratios .now) (f .read-front .result) (f .read-front .ensures) (good-front r) (enough r) (p .read-positions .result) _ (p .read-positions .ensures) (i .if3 .left)
+    (q .read-ratios .result) _ (q .read-ratios .ensures) (j .if4 .taken) (p .read-positions .kept .1 .1 .1 .0) (q .read-ratios .kept .1 .1 .1 .1 .0))
     (cleared4 c .refuse-read4 .ensures)
 
-cast-t43 : tie.Need-cast-t43
-cast-t43 c =
+cast-t42 : tie.Need-cast-t42
+cast-t42 c =
     let q = ratios (c .before) in
     let r = room (positions (later q .before)) in
     let count = fronted r .read-front .ensures .count (good-front r) in
@@ -209,8 +209,8 @@ returns-5 c =
     let r = room p in
     let f = fronted r in
     let a = start r .args in
-    read-found (a .openly) (a .expected) (a .input .now) (a .positions .now) (a .ratios .now) (f .read-front .result) (f .read-front .ensures) (good-front r) (enough r) (p .read-coded .result) _ (p .read-coded .ensures) (i .if3 .left)
-    (q .read-coded2 .result) _ (q .read-coded2 .ensures) (c .if4 .left)
+    read-found (a .openly) (a .expected) (a .input .now) (a .positions .now) (a .ratios .now) (f .read-front .result) (f .read-front .ensures) (good-front r) (enough r) (p .read-positions .result) _ (p .read-positions .ensures) (i .if3 .left)
+    (q .read-ratios .result) _ (q .read-ratios .ensures) (c .if4 .left)
 
 pub read-record-spec : {M : Type 1} → statement M
 read-record-spec =
@@ -227,17 +227,17 @@ read-record-spec =
     same-length-3
     same-length-4
     returns-2
-    read-coded-requires
+    read-positions-requires
     refuse-read-requires-3
     same-length-5
     same-length-6
     returns-3
-    read-coded-requires-2
+    read-ratios-requires
     refuse-read-requires-4
     same-length-7
     same-length-8
     returns-4
-    cast-t43
+    cast-t42
     same-length-9
     same-length-10
     returns-5)

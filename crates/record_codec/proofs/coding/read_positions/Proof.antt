@@ -1,0 +1,96 @@
+-- `read_positions` meets its contract, by what `read_field` and `get_positions` find.
+use mathlib.Core.Bool.{false}
+use mathlib.Core.Path.{refl}
+use borrow.Author.Needs.{needs}
+use borrow.Author.Tests.{not-true, not-false}
+use Rattle.record_codec.specs.declared.coding.Coding.the-variants.{Positions}
+use Rattle.record_codec.proofs.Codings.{coded-refused, body-order, body-inside, coded-none, coded-found}
+use Rattle.record_codec.proofs.coding.read_positions.Statement.{statement}
+use Rattle.record_codec.proofs.coding.read_positions.Tie as tie
+
+-- the places of the field and of its body, and the entry, as later places see them
+abbrev entry : tie.After-read-field → tie.Start
+entry k = k .before .before .before .before
+
+abbrev field : tie.Else1 → tie.After-read-field
+field k = k .before .before
+
+abbrev found : tie.After-get-positions → tie.Else1
+found k = k .before .before .before
+
+slice-aggregate-read-field : tie.Need-slice-aggregate-read-field
+slice-aggregate-read-field c = search needs
+
+read-field-requires : tie.Need-read-field-requires
+read-field-requires c κs = search needs
+
+returns : tie.Need-returns
+returns c =
+    let k = c .before .before in
+    let a = entry k .args in
+    coded-refused Positions false (a .count) (a .input .now) (a .at) _ refl (k .read-field .result) (k .read-field .ensures) (a .out .now) (a .out .now) (c .if1 .taken)
+
+sub-get-positions : tie.Need-sub-get-positions
+sub-get-positions c =
+    let k = field c in
+    let a = entry k .args in
+    body-order Positions false (a .count) (a .input .now) (a .at) _ refl (k .read-field .result) (k .read-field .ensures) (c .if1 .left)
+
+part-get-positions-start : tie.Need-part-get-positions-start
+part-get-positions-start c =
+    let k = field c in
+    let a = entry k .args in
+    body-order Positions false (a .count) (a .input .now) (a .at) _ refl (k .read-field .result) (k .read-field .ensures) (c .if1 .left)
+
+part-get-positions-end : tie.Need-part-get-positions-end
+part-get-positions-end c =
+    let k = field c in
+    let a = entry k .args in
+    body-inside Positions false (a .count) (a .input .now) (a .at) _ refl (k .read-field .result) (k .read-field .ensures) (c .if1 .left)
+
+get-positions-requires : tie.Need-get-positions-requires
+get-positions-requires c κs = search needs
+
+cast-t22 : tie.Need-cast-t22
+cast-t22 c = search needs
+
+same-length : tie.Need-same-length
+same-length c = search needs
+
+returns-2 : tie.Need-returns-2
+returns-2 c =
+    let b = c .before .before .before in
+    let g = found b in
+    let k = field g in
+    let a = entry k .args in
+    coded-none Positions false (a .count) (a .input .now) (a .at) _ refl (k .read-field .result) (k .read-field .ensures) (g .if1 .left)
+    (b .get-positions .result) (a .out .now) _ (b .get-positions .ensures) (not-true _ (c .if2 .taken)) _ refl
+
+same-length-2 : tie.Need-same-length-2
+same-length-2 c = search needs
+
+returns-3 : tie.Need-returns-3
+returns-3 c =
+    let b = c .before .before .before in
+    let g = found b in
+    let k = field g in
+    let a = entry k .args in
+    coded-found Positions false (a .count) (a .input .now) (a .at) _ refl (k .read-field .result) (k .read-field .ensures) (g .if1 .left)
+    (b .get-positions .result) (a .out .now) _ (b .get-positions .ensures) (not-false _ (c .if2 .left))
+
+pub read-positions-spec : {M : Type 1} → statement M
+read-positions-spec =
+    tie.close
+    (tie.spec
+    slice-aggregate-read-field
+    read-field-requires
+    returns
+    sub-get-positions
+    part-get-positions-start
+    part-get-positions-end
+    get-positions-requires
+    cast-t22
+    same-length
+    returns-2
+    same-length-2
+    returns-3)

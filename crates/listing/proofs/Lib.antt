@@ -1,3 +1,3 @@
-pub mod Texts
+pub mod Printed
 pub mod Claims
 pub mod Examples

@@ -1,24 +1,31 @@
--- An integer of 64 bits in two's complement: its bits as the machine has them, and those of it that a narrower field has.
+-- An integer of 64 bits in two's complement: its bits as the machine has them, those of it that a narrower field has, and the integer that the
+-- bits of a row stand for.
 use mathlib.Core.Path.{_≡_, refl, sym, ap, ap₂, _∙_}
-use mathlib.Core.Bool.{true, false}
-use Prim.Native.Nat.{ℕ, suc, _+_, _-_, _*_, _/_, _%_, _≤_, _<_, _^_}
-use native.Mathlib.Nat.{div-add-mod', mod-lt, mod-eq-of-lt, mul-sub, mul-comm, suc-mul, mul-le-mul-right, div-lt-iff-lt-mul}
+use mathlib.Core.Bool.{Bool, true, false, cond}
+use Prim.Native.Nat.{ℕ, zero, suc, _+_, _-_, _*_, _/_, _%_, _≤_, _<_, _^_}
+use native.Mathlib.Nat.{div-add-mod', mod-lt, mod-eq-of-lt, mul-sub, mul-comm, suc-mul, mul-le-mul-right, div-lt-iff-lt-mul, pow-zero}
 use native.Mathlib.Omega.{arith}
-use borrow.Author.Tests.{ltb-true}
+use borrow.Author.Tests.{ltb-true, le-leb, lt-leb}
 use lib.Arith.{digits-mod}
-use lib.IntN.{ℤ, pos, negsuc, _-ℤ_}
-use lib.Pow.{pow-pos, pow-add, mod-mod-pow}
-use lib.Signed.{mag, ltZ}
+use lib.Dec.{leb}
+use lib.IntN.{ℤ, pos, negsuc, natAbs, _-ℤ_}
+use lib.Pow.{pow-pos, pow-add, mod-mod-pow, ones-split, ones-lt, high}
+use lib.Signed.{mag, ltZ, leZ}
 use mir.Syntax.{w64}
 use mir.Val.{toZ, ofZ, SFits}
-use mir.ValLaws.{toZ-ofZ}
-use Rattle.integers.proofs.Integers.{diff-pos}
-use Rattle.position_format.specs.Rows.{residue}
+use mir.ValLaws.{toZ-ofZ, toZ-pos}
+use Rattle.integers.proofs.Integers.{diff-pos, diff-neg}
+use Rattle.position_format.specs.Rows.{Row, residue, reading}
+use Rattle.position_format.proofs.Rows.{full, full-is}
 
 -- ---- -1 less an integer
 
 less-neg : (n : ℕ) → negsuc 0 -ℤ negsuc n ≡ pos n
 less-neg n = let e : suc n - 1 ≡ n = omega arith in diff-pos (suc n) 1 (omega arith) ∙ ap pos e
+
+less-pos : (n : ℕ) → negsuc 0 -ℤ pos n ≡ negsuc n
+less-pos zero = refl
+less-pos (suc n) = let e : suc (0 + n) ≡ suc n = omega arith in ap negsuc e
 
 -- ---- the bits of an integer of 64 bits
 
@@ -94,3 +101,59 @@ module _ (k : ℕ) (k≤ : k ≤ 64) where
   residue-down (pos n) = mod-down n
   residue-down (negsuc n) =
       below (2 ^ k) (2 ^ (64 - k)) (2 ^ 64) (n % 2 ^ 64) (pow-pos k) whole (mod-lt n (pow-pos 64)) ∙ ap (λ (x : ℕ). 2 ^ k - suc x) (mod-down n)
+
+  -- k ones, by a shift of 64 ones
+  ones : (2 ^ 64 - 1) / 2 ^ (64 - k) ≡ 2 ^ k - 1
+  ones =
+      let e : k + (64 - k) ≡ 64 = omega arith in
+      ap (λ (m : ℕ). (2 ^ m - 1) / 2 ^ (64 - k)) (sym e) ∙ ap (λ (x : ℕ). x / 2 ^ (64 - k)) (ones-split k (64 - k)) ∙ high (2 ^ k - 1) (64 - k) (ones-lt (64 - k))
+
+-- ---- the integer that the bits x of a row stand for, by the row's highest step h
+
+-- a row whose steps fit 64 bits
+pub record Fitted (r : Row) (h : ℕ) : Type 0 where
+  pub full : full r ≡ true
+  pub width : r .width ≤ 64
+  pub high : r .high ≡ pos h
+  pub high-fits : h < 2 ^ 63
+  pub low-fits : natAbs (r .low) ≤ 2 ^ 63
+
+module _ (r : Row) (h : ℕ) (f : Fitted r h) (x : ℕ) (x< : x < 2 ^ r .width) where
+  by-top : reading r x ≡ cond (leb x h) (pos x) (pos x -ℤ pos (2 ^ r .width))
+  by-top = ap (λ (z : ℤ). cond (leZ (pos x) z) (pos x) (pos x -ℤ pos (2 ^ r .width))) (f .high)
+
+  -- up to it they are the step
+  pub reading-low : x ≤ h → toZ w64 x ≡ reading r x
+  reading-low l = toZ-pos w64 x (omega (arith, f .high-fits)) ∙ sym (by-top ∙ ap (λ (t : Bool). cond t (pos x) (pos x -ℤ pos (2 ^ r .width))) (le-leb x h l))
+
+  -- above it they lack as much to 2 ^ width as the step is below 0
+  module _ (g : h < x) where
+    pub some-bits : 0 < r .width
+    some-bits = go (r .width) x<
+      where
+        go : (j : ℕ) → x < 2 ^ j → 0 < j
+        go zero l = absurd (omega (arith, pow-zero 2))
+        go (suc j) l = omega arith
+
+    abbrev pub lacks : ℕ
+    lacks = (2 ^ 64 - 1) / 2 ^ (64 - r .width) - x
+
+    pub lacks-from : x ≤ (2 ^ 64 - 1) / 2 ^ (64 - r .width)
+    lacks-from = rw (ones (r .width) (f .width)) (omega arith)
+
+    lacks-is : lacks ≡ 2 ^ r .width - suc x
+    lacks-is = ap (λ (n : ℕ). n - x) (ones (r .width) (f .width)) ∙ (let s : 2 ^ r .width - 1 - x ≡ 2 ^ r .width - suc x = omega arith in s)
+
+    pub lacks-small : lacks < 2 ^ 63
+    lacks-small = omega (arith, lacks-is, full-is r (f .full) .size, ap natAbs (f .high), f .low-fits)
+
+    below-zero : negsuc 0 -ℤ toZ w64 lacks ≡ negsuc lacks
+    below-zero = ap (λ (y : ℤ). negsuc 0 -ℤ y) (toZ-pos w64 lacks lacks-small) ∙ less-pos lacks
+
+    pub below-fits : SFits w64 (negsuc 0 -ℤ toZ w64 lacks)
+    below-fits = rw below-zero (record { sfits = lacks-small })
+
+    pub reading-high : toZ w64 (ofZ w64 (negsuc 0 -ℤ toZ w64 lacks)) ≡ reading r x
+    reading-high =
+        toZ-ofZ w64 _ below-fits ∙ below-zero ∙ ap negsuc lacks-is ∙ sym (diff-neg x (2 ^ r .width) x<)
+        ∙ sym (by-top ∙ ap (λ (t : Bool). cond t (pos x) (pos x -ℤ pos (2 ^ r .width))) (lt-leb x h g))

@@ -7,8 +7,9 @@ use Prim.Native.Nat.{ℕ, zero, suc, _+_, _-_, _*_, _/_, _%_, _^_, _≤_, _<_}
 use native.Mathlib.Omega.{arith}
 use borrow.Author.Tests.{ltb-true, leb-true, le-ltb, lt-ltb, eqb-true, eqb-false}
 use lib.Dec.{ltb, leb, eqb}
-use lib.IntN.{ℤ, pos}
+use lib.IntN.{ℤ, pos, natAbs}
 use lib.ListN.{length, getD, take, drop}
+use lib.Signed.{leZ}
 use mir.Syntax.{w64}
 use mir.Val.{toZ, ofZ}
 use Rattle.lists.specs.Compare.{both, begins}
@@ -19,9 +20,10 @@ use Rattle.bits.specs.Digits.{digitsOf, bitsOf, numberOf}
 use Rattle.bits.specs.Packing.{ahead}
 use Rattle.bits.proofs.Ahead.{ahead-first}
 use Rattle.position_format.specs.Rows.{Row, row, rows, neg, code, codeLength, reading, noRow, rowOf}
+use Rattle.position_format.proofs.Integers.{at-least}
 use Rattle.position_format.proofs.Rows.{rows-good}
 use Rattle.position_format.proofs.Codes.{lengths}
-use Rattle.position_format.proofs.Ranges.{widening}
+use Rattle.position_format.proofs.Ranges.{widening, evenUpTo}
 use Rattle.position_codec.specs.declared.table.GotStep.the-variants.{Step}
 use Rattle.position_codec.specs.Found.{Leads, StepFound}
 use Rattle.position_codec.proofs.StepFound.{shortPrefixes, found-by}
@@ -42,10 +44,15 @@ pub rows-short : shortPrefixes 4 rows ≡ true
 unfolding rows
 rows-short = refl
 
--- the ranges widen, and are even around 0
+-- the ranges widen
 pub rows-widening : widening rows ≡ true
 unfolding rows widening
 rows-widening = refl
+
+-- and those of rows of at most 57 bits are even around 0
+pub rows-even : evenUpTo 57 rows ≡ true
+unfolding rows
+rows-even = refl
 
 -- the first row has no bits after its prefix, and holds 0
 rows-zero : (pos 0 ≡ reading (getD rows 0 noRow) 0) × (rowOf rows (pos 0) ≡ 0)
@@ -120,25 +127,40 @@ rows-are = refl
 pub row-at : (i : ℕ) → i < 5 → getD rows i noRow ≡ rowFrom i
 row-at i h = let e : 0 + i ≡ i = omega arith in ap (λ (rs : List Row). getD rs i noRow) rows-are ∙ from-at 0 5 i h ∙ ap rowFrom e
 
--- they are small
+-- they are small: each fits the word that it is put in
 abbrev small : ℕ → Bool
-small i = both (both (ltb (prefixOf i) (2 ^ prefixLenOf i)) (ltb 0 (prefixLenOf i))) (both (leb (prefixLenOf i) 4) (leb (widthOf i) 32))
+small i = both (both (ltb (prefixOf i) (2 ^ prefixLenOf i)) (ltb 0 (prefixLenOf i))) (both (leb (prefixLenOf i) 64) (leb (widthOf i) 64))
 
 pub record Small (i : ℕ) : Type 0 where
   pub prefix : prefixOf i < 2 ^ prefixLenOf i
   pub some : 0 < prefixLenOf i
-  pub short : prefixLenOf i ≤ 4
-  pub narrow : widthOf i ≤ 32
+  pub short : prefixLenOf i ≤ 64
+  pub narrow : widthOf i ≤ 64
 
 pub row-small : (i : ℕ) → i < 5 → Small i
 row-small i h =
     let p = both-true (both (ltb (prefixOf i) (2 ^ prefixLenOf i)) (ltb 0 (prefixLenOf i))) _ (all-at 5 small refl i h) in
     let q = both-true (ltb (prefixOf i) (2 ^ prefixLenOf i)) _ (p .0) in
-    let r = both-true (leb (prefixLenOf i) 4) _ (p .1) in
+    let r = both-true (leb (prefixLenOf i) 64) _ (p .1) in
     record { prefix = ltb-true _ _ (q .0); some = ltb-true _ _ (q .1); short = leb-true _ _ (r .0); narrow = leb-true _ _ (r .1) }
 
-pub row-narrow : (i : ℕ) → i < 5 → getD rows i noRow .width ≤ 32
+pub row-narrow : (i : ℕ) → i < 5 → getD rows i noRow .width ≤ 64
 row-narrow i h = rw (row-at i h) (row-small i h .narrow)
+
+-- the highest step is not below 0, and both ends fit 64 bits
+abbrev ends : ℕ → Bool
+ends i = both (leZ (pos 0) (highOf i)) (both (ltb (natAbs (highOf i)) (2 ^ 63)) (leb (natAbs (lowOf i)) (2 ^ 63)))
+
+pub record Ends (i : ℕ) : Type 0 where
+  pub high : highOf i ≡ pos (natAbs (highOf i))
+  pub high-fits : natAbs (highOf i) < 2 ^ 63
+  pub low-fits : natAbs (lowOf i) ≤ 2 ^ 63
+
+pub row-ends : (i : ℕ) → i < 5 → Ends i
+row-ends i h =
+    let p = both-true (leZ (pos 0) (highOf i)) _ (all-at 5 ends refl i h) in
+    let q = both-true (ltb (natAbs (highOf i)) (2 ^ 63)) _ (p .1) in
+    record { high = at-least (highOf i) (p .0); high-fits = ltb-true _ _ (q .0); low-fits = leb-true _ _ (q .1) }
 
 -- ---- the row that four bits lead to
 

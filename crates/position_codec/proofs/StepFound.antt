@@ -1,8 +1,8 @@
 -- Laws of a step found at the front of bits, for any table that passes the test of a table and whose prefixes are short: by the row that the
 -- first bits lead to.
-use mathlib.Core.Bool.{Bool, true}
+use mathlib.Core.Bool.{Bool, true, false}
 use mathlib.Core.List.{List}
-use mathlib.Core.Path.{_≡_, sym, ap, ap₂, _∙_}
+use mathlib.Core.Path.{_≡_, refl, sym, ap, ap₂, _∙_}
 use Prim.Native.Nat.{ℕ, _+_, _-_, _*_, _/_, _%_, _^_, _≤_, _<_}
 use native.Mathlib.Nat.{mod-lt}
 use native.Mathlib.Omega.{arith}
@@ -20,10 +20,11 @@ use Rattle.bits.specs.Digits.{bitsOf, numberOf}
 use Rattle.bits.specs.Packing.{bits, ahead}
 use Rattle.bits.proofs.Ahead.{take-ahead, ahead-field}
 use Rattle.bits.proofs.Word.{mask}
-use Rattle.position_format.specs.Rows.{Row, inTable, reading, code, codeLength, noRow, rowOf}
+use Rattle.position_format.specs.Rows.{Row, holds, inTable, reading, code, codeLength, noRow, rowOf}
 use Rattle.position_format.proofs.Lists.{not-so, every-at}
 use Rattle.position_format.proofs.Prefixes.{begins-take, take-begins, begins-short}
-use Rattle.position_format.proofs.Rows.{goodTable}
+use Rattle.position_format.proofs.Rows.{goodTable, good-full, reading-held}
+use Rattle.position_format.proofs.Ranges.{widening, row-before, row-first}
 use Rattle.position_format.proofs.Codes.{inTable-row, length-code, lengths, code-within}
 use Rattle.position_format.proofs.Decoding.{code-begins, prefix-one, front-step, front-table, front-code}
 use Rattle.position_codec.specs.declared.table.GotStep.{GotStep}
@@ -35,13 +36,11 @@ pub found-none : (lo hi : ℕ) (rs : List Row) → lengths lo hi rs ≡ true →
 found-none lo hi rs within some ds h z e = begins-short (code rs z) ds (omega (arith, code-within lo hi rs within z e .0))
 
 -- the bits after a row's prefix, as the code has them: in the word w that begins with the bits ds, with 0 bits past their end
-module _ (r : Row) (ds : List ℕ) (w : ℕ) (alike : take 57 (bitsOf 64 w) ≡ ahead 57 ds) (n k : ℕ) (en : n ≡ codeLength r) (ek : k ≡ r .width) (few : n ≤ 57) (room : n ≤ length ds) where
-  pub field-word : (w / 2 ^ (64 - n) % (1 * 2 ^ k % 2 ^ 64) ≡ numberOf 2 (take (r .width) (drop (length (r .prefix)) ds))) × (w / 2 ^ (64 - n) % (1 * 2 ^ k % 2 ^ 64) < 2 ^ r .width)
+module _ (r : Row) (ds : List ℕ) (w : ℕ) (alike : take 57 (bitsOf 64 w) ≡ ahead 57 ds) (n : ℕ) (en : n ≡ codeLength r) (few : n ≤ 57) (room : n ≤ length ds) where
+  pub field-word : w / 2 ^ (64 - n) % 2 ^ r .width ≡ numberOf 2 (take (r .width) (drop (length (r .prefix)) ds))
   field-word =
-      let k< : k < 64 = omega arith in
-      let e : w / 2 ^ (64 - n) % (1 * 2 ^ k % 2 ^ 64) ≡ w / 2 ^ (64 - codeLength r) % 2 ^ r .width =
-      ap (λ (m : ℕ). w / 2 ^ (64 - n) % m) (mask k k<) ∙ ap₂ (λ (m j : ℕ). w / 2 ^ (64 - m) % 2 ^ j) en ek in
-      (e ∙ sym (ahead-field w 57 (omega arith) ds alike (length (r .prefix)) (r .width) (omega arith) (omega arith)), rw e (mod-lt (w / 2 ^ (64 - codeLength r)) (pow-pos (r .width))))
+      ap (λ (m : ℕ). w / 2 ^ (64 - m) % 2 ^ r .width) en
+      ∙ sym (ahead-field w 57 (omega arith) ds alike (length (r .prefix)) (r .width) (omega arith) (omega arith))
 
 -- or after it in the body
 pub field-body : (r : Row) (body : List ℕ) (at n k x : ℕ) → n ≡ codeLength r → k ≡ r .width
@@ -50,6 +49,18 @@ field-body r body at n k x en ek ex =
     let p : n - k ≡ length (r .prefix) = omega arith in
     ex ∙ ap₂ (λ (m j : ℕ). numberOf 2 (take m (drop (at + j) (bits body)))) ek p
     ∙ ap (λ (l : List ℕ). numberOf 2 (take (r .width) l)) (sym (drop-drop (length (r .prefix)) at (bits body)))
+
+-- ---- the step that row i reads in its bits x, by the row before it
+
+module _ (rs : List Row) (good : goodTable rs ≡ true) (wide : widening rs ≡ true) (i : ℕ) (some : 0 < i) (i< : i < length rs)
+    (x : ℕ) (x< : x < 2 ^ getD rs i noRow .width) (n : ℕ) where
+  pub read-early : holds (getD rs (i - 1) noRow) (reading (getD rs i noRow) x) ≡ true → ReadBy rs i n x Nothing
+  read-early e = row-before rs good wide (reading (getD rs i noRow) x) i some i< e
+
+  pub read-first : holds (getD rs (i - 1) noRow) (reading (getD rs i noRow) x) ≡ false → (z : ℤ) → z ≡ reading (getD rs i noRow) x → ReadBy rs i n x (Step z n)
+  read-first e z is =
+      let r = getD rs i noRow in
+      (is, ap (rowOf rs) is ∙ row-first rs good wide (reading r x) i some i< e (reading-held r (good-full noRow rs good i i<) x x<), refl)
 
 -- ---- prefixes of at most q bits
 

@@ -1,7 +1,7 @@
 // Positions read: point by point, each in the one form that it is written in, and then the fill.
 ghost use mathlib.Core.List.{List};
 ghost use mathlib.Core.Path.{_≡_};
-ghost use Prim.Native.Nat.{ℕ, _*_, _^_, _≤_, _<_};
+ghost use Prim.Native.Nat.{ℕ, _-_, _*_, _/_, _%_, _^_, _≤_, _<_};
 ghost use lib.ListN.{length, getD, take, drop, replicate};
 ghost use Rattle.lists.specs.Compare.{same};
 ghost use Rattle.bits.specs.Digits.{numberOf};
@@ -13,6 +13,7 @@ ghost use Rattle.position_format.specs.Positions.{readPositions};
 ghost use Rattle.position_codec.specs.Found.{Within, Ahead, StepFound, PositionFound, PointFound};
 use crate::table::GotStep;
 use crate::table::lead_of;
+use crate::table::short_step;
 use crate::table::step_by;
 use crate::table::width_of;
 use crate::table::within;
@@ -33,22 +34,26 @@ pub enum GotPoint {
     Nothing,
 }
 
-// The number of the bits after the prefix of a code of n bits by the row, which stands at the bit offset `at`: they stand in the word of
-// the bits ahead, unless the code is longer than it is sure to hold.
-fn field_ahead(body: &[u8], at: usize, w: u64, row: usize, n: usize) -> u64
-    requires { ⌜ Within (now body) at × Ahead (now body) at w × (row < 5) × (n ≡ codeLength (getD rows row noRow)) × (n ≤ length (drop at (bits (now body)))) ⌝ }
+// The number of the bits after the prefix of a code of n bits by the row, which stands at the front of the word w.
+fn field_ahead(w: u64, row: usize, n: usize) -> u64
+    requires { ⌜ (row < 5) × (n ≡ codeLength (getD rows row noRow)) × (n ≤ 57) ⌝ }
+    ensures { λ r. ⌜ r ≡ w / 2 ^ (64 - n) % 2 ^ getD rows row noRow .width ⌝ }
+{
+    (w >> (64 - n)) % (1 << width_of(row))
+}
+
+// The same of a code which stands at the bit offset `at`.
+fn field_at(body: &[u8], at: usize, row: usize, n: usize) -> u64
+    requires { ⌜ Within (now body) at × (row < 5) × (n ≡ codeLength (getD rows row noRow)) × (n ≤ length (drop at (bits (now body)))) ⌝ }
     ensures { λ r. ⌜ (r ≡ numberOf 2 (take (getD rows row noRow .width) (drop (length (getD rows row noRow .prefix)) (drop at (bits (now (body .entry)))))))
         × (r < 2 ^ getD rows row noRow .width) ⌝ }
 {
     let width = width_of(row);
-    if n <= 57 {
-        return (w >> (64 - n)) % (1 << width);
-    }
     bits::get_bits(body, at + (n - width), width)
 }
 
 // The step whose code stands at the bit offset `at`, by the word w of the bits ahead: one bit, 0, for the step 0, or by the row of its first
-// four bits, if there are as many bits as its codes have.
+// four bits, if there are as many bits as its codes have. The word is sure to hold a code of 57 bits; a longer one is read from the body.
 fn step_ahead(body: &[u8], at: usize, w: u64) -> GotStep
     requires { ⌜ Within (now body) at × Ahead (now body) at w × (at < 8 * length (now body)) ⌝ }
     ensures { λ r. ⌜ StepFound rows (drop at (bits (now (body .entry)))) r ⌝ }
@@ -62,7 +67,10 @@ fn step_ahead(body: &[u8], at: usize, w: u64) -> GotStep
     if 8 * body.len() - at < n {
         return GotStep::Nothing;
     }
-    step_by(row, n, field_ahead(body, at, w, row, n))
+    if n <= 57 {
+        return short_step(row, n, field_ahead(w, row, n));
+    }
+    step_by(row, n, field_at(body, at, row, n))
 }
 
 // The step whose code stands at the bit offset `at`.

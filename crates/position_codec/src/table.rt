@@ -1,5 +1,5 @@
 // The table of steps: its data, the first row that holds a step, a step's code, and the step that a code's bits stand for. A code may have
-// 64 bits after its prefix; only the reading of a row's bits, at the end, goes by what the rows' widths and ranges have in common.
+// 64 bits after its prefix, and a row's range may be any that holds 0; rows of at most 57 bits have a quicker way at the end.
 ghost use mathlib.Core.Bool.{true};
 ghost use mathlib.Core.Path.{_≡_};
 ghost use Prim.Native.Nat.{_-_, _^_, _≤_, _<_};
@@ -158,18 +158,43 @@ pub(crate) fn lead_of(four: u64) -> Lead
     }
 }
 
-// How many steps a row holds: 2^width. No row has more than 32 bits.
+// The one number in a row's range that is x modulo 2^width: x, or where that is too high as far below 0 as x is below 2^width.
+fn reading_in(row: usize, x: u64) -> i64
+    requires { ⌜ (row < 5) × (x < 2 ^ getD rows row noRow .width) ⌝ }
+    ensures { λ r. ⌜ r ≡ reading (getD rows row noRow) x ⌝ }
+{
+    let high = HIGH[row] as u64;
+    if x <= high {
+        return x as i64;
+    }
+    -1 - ((18446744073709551615 >> (64 - width_of(row))) - x) as i64
+}
+
+// The step that the bits x stand for in a row but the first, whose codes have n bits: if the row before that one, whose range lies within
+// its range, does not hold it, and so no earlier one.
+pub(crate) fn step_by(row: usize, n: usize, x: u64) -> GotStep
+    requires { ⌜ (0 < row) × (row < 5) × (x < 2 ^ getD rows row noRow .width) ⌝ }
+    ensures { λ r. ⌜ ReadBy rows row n x r ⌝ }
+{
+    let z = reading_in(row, x);
+    if in_row(row - 1, z) {
+        return GotStep::Nothing;
+    }
+    GotStep::Step(z, n)
+}
+
+// How many steps a row of at most 57 bits holds: 2^width.
 fn size_of(row: usize) -> u64
-    requires { ⌜ row < 5 ⌝ }
-    ensures { λ r. ⌜ (r ≡ 2 ^ getD rows row noRow .width) × (0 < r) × (r ≤ 2 ^ 32) ⌝ }
+    requires { ⌜ (row < 5) × (getD rows row noRow .width ≤ 57) ⌝ }
+    ensures { λ r. ⌜ (r ≡ 2 ^ getD rows row noRow .width) × (0 < r) × (r ≤ 2 ^ 57) ⌝ }
 {
     1 << width_of(row)
 }
 
-// The one number in a row's range, which is even around 0, that is x modulo 2^width: counted from the lowest, and not by a test of x,
-// which is hard to foretell.
-fn reading_in(row: usize, x: u64) -> i64
-    requires { ⌜ (row < 5) × (x < 2 ^ getD rows row noRow .width) ⌝ }
+// `reading_in` for a row of at most 57 bits, whose range is even around 0: counted from its lowest step, and not by a test of x, which is
+// hard to foretell.
+fn short_reading(row: usize, x: u64) -> i64
+    requires { ⌜ (row < 5) × (x < 2 ^ getD rows row noRow .width) × (getD rows row noRow .width ≤ 57) ⌝ }
     ensures { λ r. ⌜ r ≡ reading (getD rows row noRow) x ⌝ }
 {
     let size = size_of(row);
@@ -178,9 +203,9 @@ fn reading_in(row: usize, x: u64) -> i64
     y as i64 - below as i64
 }
 
-// Whether the row before this one, whose range lies within its range, holds that number too.
-fn early(row: usize, x: u64) -> bool
-    requires { ⌜ (0 < row) × (row < 5) × (x < 2 ^ getD rows row noRow .width) ⌝ }
+// Whether the row before such a row holds that number too.
+fn short_early(row: usize, x: u64) -> bool
+    requires { ⌜ (0 < row) × (row < 5) × (x < 2 ^ getD rows row noRow .width) × (getD rows row noRow .width ≤ 57) ⌝ }
     ensures { λ r. ⌜ r ≡ holds (getD rows (row - 1) noRow) (reading (getD rows row noRow) x) ⌝ }
 {
     let size = size_of(row);
@@ -188,15 +213,14 @@ fn early(row: usize, x: u64) -> bool
     (x + (before - 1) / 2) % size < before
 }
 
-// The step that the bits x stand for in a row but the first, whose codes have n bits: if the row before that one does not hold it, and so
-// no earlier one.
-pub(crate) fn step_by(row: usize, n: usize, x: u64) -> GotStep
-    requires { ⌜ (0 < row) × (row < 5) × (x < 2 ^ getD rows row noRow .width) ⌝ }
+// `step_by` for such a row.
+pub(crate) fn short_step(row: usize, n: usize, x: u64) -> GotStep
+    requires { ⌜ (0 < row) × (row < 5) × (x < 2 ^ getD rows row noRow .width) × (getD rows row noRow .width ≤ 57) ⌝ }
     ensures { λ r. ⌜ ReadBy rows row n x r ⌝ }
 {
-    if early(row, x) {
+    if short_early(row, x) {
         return GotStep::Nothing;
     }
-    let z = reading_in(row, x);
+    let z = short_reading(row, x);
     GotStep::Step(z, n)
 }

@@ -4,6 +4,7 @@ pub mod Rows
 pub mod Codes
 pub mod Prefixes
 pub mod Decoding
+pub mod Steps
 pub mod Valid
 pub mod Raw
 pub mod Positions

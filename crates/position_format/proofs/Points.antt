@@ -19,7 +19,8 @@ use Rattle.position_format.specs.Steps.{stepOf, stepsFrom, steps, outsid
 use Rattle.position_format.specs.Positions.{stepBits, positionBits, validPositions}
 use Rattle.position_format.specs.Points.{nextBits, pointBits}
 use Rattle.position_format.proofs.Lists.{none-snoc}
-use Rattle.position_format.proofs.Valid.{length-steps, step-at, valid-parts, valid-of, valid-step}
+use Rattle.position_format.proofs.Steps.{length-steps, step-at}
+use Rattle.position_format.proofs.Valid.{valid-parts, valid-of, valid-step}
 
 -- ---- a position at the end
 

@@ -1,62 +1,44 @@
--- Rows whose ranges widen from one row to the next, each as even as can be around 0: the first row that holds a step is known by the row before
--- it, and a row's reading by counting from its lowest step.
+-- Rows whose ranges widen from one row to the next: the first row that holds a step is known by the row before it. And rows whose ranges are as even
+-- as can be around 0: what their bits are read as is known by counting from the lowest step.
 use mathlib.Core.Bool.{Bool, true, false, cond, false≢true}
 use mathlib.Core.List.{List, [], _∷_}
 use mathlib.Core.Path.{_≡_, refl, sym, ap, _∙_}
 use Prim.Native.Nat.{ℕ, zero, suc, _+_, _-_, _/_, _%_, _^_, _≤_, _<_}
-use native.Mathlib.Nat.{mod-eq-of-lt, mod-eq-sub-mod}
+use native.Mathlib.Nat.{mod-eq-of-lt, mod-eq-sub-mod, lt-of-not-le}
 use native.Mathlib.Omega.{arith}
 use borrow.Author.Tests.{lt-ltb, le-ltb, le-leb, leb-true, leb-false, eqb-true}
 use lib.Dec.{ltb, leb, eqb}
 use lib.IntN.{ℤ, pos, negsuc, natAbs, _-ℤ_}
 use lib.ListN.{length, getD}
+use lib.Pow.{pow-mono, pow-lt}
 use lib.Signed.{leZ}
 use Rattle.lists.specs.Compare.{both}
 use Rattle.lists.proofs.Compare.{both-true}
-use Rattle.lists.proofs.Lists.{first-below}
+use Rattle.lists.proofs.Lists.{every, first-below}
 use Rattle.position_format.specs.Rows.{Row, neg, holds, reading, noRow, rowOf}
 use Rattle.integers.proofs.Integers.{diff-pos, diff-neg}
 use Rattle.position_format.proofs.Integers.{neg-holds, neg-le-pos, neg-le-neg}
-use Rattle.position_format.proofs.Lists.{not-so}
+use Rattle.position_format.proofs.Lists.{not-so, every-at}
 use Rattle.position_format.proofs.Rows.{goodTable, full, good-full, full-is, reading-ends, holds-ends}
 use Rattle.position_format.proofs.Codes.{row-is}
 
--- ---- the test
+-- ---- ranges that widen
 
 -- each end of s is at least as far as that of r
 abbrev wider : Row → Row → Bool
 wider r s = both (leb (natAbs (r .low)) (natAbs (s .low))) (leb (natAbs (r .high)) (natAbs (s .high)))
 
--- the row holds as many steps below 0 as above it, or one fewer
-abbrev even : Row → Bool
-even r = eqb (natAbs (r .low)) ((2 ^ r .width - 1) / 2)
-
 unfoldable pub widening : List Row → Bool
 widening [] = true
-widening (r ∷ []) = even r
-widening (r ∷ s ∷ rs) = both (even r) (both (wider r s) (widening (s ∷ rs)))
-
-widening-cons : (r s : Row) (rs : List Row) → widening (r ∷ s ∷ rs) ≡ true → (even r ≡ true) × (wider r s ≡ true) × (widening (s ∷ rs) ≡ true)
-unfolding widening
-widening-cons r s rs e =
-    let p = both-true (even r) _ e in
-    let q = both-true (wider r s) _ (p .1) in
-    (p .0, q .0, q .1)
-
--- at each index
-even-at : (rs : List Row) → widening rs ≡ true → (i : ℕ) → i < length rs → even (getD rs i noRow) ≡ true
-unfolding widening
-even-at [] e i h = absurd (omega arith)
-even-at (r ∷ []) e zero h = e
-even-at (r ∷ []) e (suc i) h = absurd (omega arith)
-even-at (r ∷ s ∷ rs) e zero h = widening-cons r s rs e .0
-even-at (r ∷ s ∷ rs) e (suc i) h = even-at (s ∷ rs) (widening-cons r s rs e .2) i (omega arith)
+widening (r ∷ []) = true
+widening (r ∷ s ∷ rs) = both (wider r s) (widening (s ∷ rs))
 
 wider-at : (rs : List Row) → widening rs ≡ true → (i : ℕ) → suc i < length rs → wider (getD rs i noRow) (getD rs (suc i) noRow) ≡ true
+unfolding widening
 wider-at [] e i h = absurd (omega arith)
 wider-at (r ∷ []) e i h = absurd (omega arith)
-wider-at (r ∷ s ∷ rs) e zero h = widening-cons r s rs e .1
-wider-at (r ∷ s ∷ rs) e (suc i) h = wider-at (s ∷ rs) (widening-cons r s rs e .2) i (omega arith)
+wider-at (r ∷ s ∷ rs) e zero h = both-true (wider r s) _ e .0
+wider-at (r ∷ s ∷ rs) e (suc i) h = wider-at (s ∷ rs) (both-true (wider r s) _ e .1) i (omega arith)
 
 -- ---- a range with further ends holds what one with nearer ends does
 
@@ -82,6 +64,21 @@ module _ (rs : List Row) (good : goodTable rs ≡ true) (wide : widening rs ≡ 
   holds-later : (z : ℤ) (i n : ℕ) → i + n < length rs → holds (getD rs i noRow) z ≡ true → holds (getD rs (i + n) noRow) z ≡ true
   holds-later z i zero h e = let s : i + 0 ≡ i = omega arith in rw s e
   holds-later z i (suc n) h e = let s : i + suc n ≡ suc (i + n) = omega arith in rw s (holds-next z (i + n) (omega arith) (holds-later z i n (omega arith) e))
+
+  -- and the row before has no more bits
+  width-next : (i k : ℕ) → suc i < length rs → getD rs (suc i) noRow .width ≤ k → getD rs i noRow .width ≤ k
+  width-next i k h w≤ =
+      let r = getD rs i noRow in
+      let s = getD rs (suc i) noRow in
+      let o = ends-at i h in
+      let few : 2 ^ r .width ≤ 2 ^ s .width =
+      omega (arith, full-is r (good-full noRow rs good i (omega arith)) .size, full-is s (good-full noRow rs good (suc i) h) .size, o .0, o .1) in
+      omega (arith, lt-of-not-le (λ (g : suc k ≤ r .width). omega (arith, few, pow-mono w≤, pow-lt g)))
+
+  pub width-before : (i k : ℕ) → 0 < i → i < length rs → getD rs i noRow .width ≤ k → getD rs (i - 1) noRow .width ≤ k
+  width-before i k some h w≤ =
+      let one : suc (i - 1) ≡ i = omega arith in
+      width-next (i - 1) k (omega arith) (rw one w≤)
 
   -- ---- the first row that holds z, by the row before row i
 
@@ -146,38 +143,51 @@ module _ (l h m a b n x : ℕ) (size : suc (l + h) ≡ m) (part : suc (a + b) �
       go true e = at-low (leb-true x h e)
       go false e = at-high (leb-false x h e) ∙ ap held (sym (diff-neg x m x<))
 
-module _ (rs : List Row) (good : goodTable rs ≡ true) (wide : widening rs ≡ true) where
-  -- how many steps below zero the row of index i holds
-  abbrev belowOf : ℕ → ℕ
-  belowOf i = (2 ^ getD rs i noRow .width - 1) / 2
+-- ---- rows whose ranges are even around 0
 
-  below-is : (i : ℕ) → i < length rs → natAbs (getD rs i noRow .low) ≡ belowOf i
-  below-is i h = eqb-true (natAbs (getD rs i noRow .low)) (belowOf i) (even-at rs wide i h)
+-- as many steps below 0 as above it, or one fewer
+abbrev belowOf : Row → ℕ
+belowOf r = (2 ^ r .width - 1) / 2
 
-  module _ (i : ℕ) (i< : i < length rs) (x : ℕ) (x< : x < 2 ^ getD rs i noRow .width) where
+abbrev even : Row → Bool
+even r = eqb (natAbs (r .low)) (belowOf r)
+
+-- every row of at most k bits is so
+abbrev pub evenUpTo : ℕ → List Row → Bool
+evenUpTo k rs = every (λ (r : Row). cond (leb (r .width) k) (even r) true) rs
+
+module _ (rs : List Row) (good : goodTable rs ≡ true) (k : ℕ) (evens : evenUpTo k rs ≡ true) where
+  below-is : (i : ℕ) → i < length rs → getD rs i noRow .width ≤ k → natAbs (getD rs i noRow .low) ≡ belowOf (getD rs i noRow)
+  below-is i h w≤ =
+      let r = getD rs i noRow in
+      let e = every-at (λ (r : Row). cond (leb (r .width) k) (even r) true) rs noRow evens i h in
+      eqb-true (natAbs (r .low)) (belowOf r) (rw (le-leb (r .width) k w≤) at e)
+
+  -- what the row of index i reads its bits x as
+  module _ (i : ℕ) (i< : i < length rs) (x : ℕ) (x< : x < 2 ^ getD rs i noRow .width) (w≤ : getD rs i noRow .width ≤ k) where
     abbrev here : Row
     here = getD rs i noRow
 
     g : full here ≡ true
     g = good-full noRow rs good i i<
 
-    -- the reading of its bits x
-    pub reading-counted : pos ((x + belowOf i) % 2 ^ here .width) -ℤ pos (belowOf i) ≡ reading here x
+    pub reading-counted : pos ((x + belowOf here) % 2 ^ here .width) -ℤ pos (belowOf here) ≡ reading here x
     reading-counted =
-        ap (λ (l : ℕ). pos ((x + l) % 2 ^ here .width) -ℤ pos l) (sym (below-is i i<))
+        ap (λ (l : ℕ). pos ((x + l) % 2 ^ here .width) -ℤ pos l) (sym (below-is i i< w≤))
         ∙ counted (natAbs (here .low)) (natAbs (here .high)) (2 ^ here .width) x (full-is here g .size) x<
         ∙ sym (reading-ends here g x)
 
     -- whether the row before holds it
-    pub before-counted : 0 < i → ltb ((x + belowOf (i - 1)) % 2 ^ here .width) (2 ^ getD rs (i - 1) noRow .width) ≡ holds (getD rs (i - 1) noRow) (reading here x)
-    before-counted some =
+    pub before-counted : widening rs ≡ true → 0 < i
+        → ltb ((x + belowOf (getD rs (i - 1) noRow)) % 2 ^ here .width) (2 ^ getD rs (i - 1) noRow .width) ≡ holds (getD rs (i - 1) noRow) (reading here x)
+    before-counted wide some =
         let prior = getD rs (i - 1) noRow in
         let one : suc (i - 1) ≡ i = omega arith in
         let j< : i - 1 < length rs = omega arith in
-        let k = good-full noRow rs good (i - 1) j< in
+        let f = good-full noRow rs good (i - 1) j< in
         let o = rw one at (ends-at rs good wide (i - 1) (omega arith)) in
-        ap (λ (l : ℕ). ltb ((x + l) % 2 ^ here .width) (2 ^ prior .width)) (sym (below-is (i - 1) j<))
+        ap (λ (l : ℕ). ltb ((x + l) % 2 ^ here .width) (2 ^ prior .width)) (sym (below-is (i - 1) j< (width-before rs good wide i k some i< w≤)))
         ∙ narrower (natAbs (here .low)) (natAbs (here .high)) (2 ^ here .width) (natAbs (prior .low)) (natAbs (prior .high)) (2 ^ prior .width) x
-        (full-is here g .size) (full-is prior k .size) (o .0) (o .1) x<
-        ∙ sym (holds-ends prior k _)
+        (full-is here g .size) (full-is prior f .size) (o .0) (o .1) x<
+        ∙ sym (holds-ends prior f _)
         ∙ ap (holds prior) (sym (reading-ends here g x))

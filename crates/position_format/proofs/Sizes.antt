@@ -18,7 +18,8 @@ use Rattle.position_format.specs.Steps.{stepsFrom, steps, outside}
 use Rattle.position_format.specs.Positions.{stepBits, positionBits, codedPositions, validPositions}
 use Rattle.position_format.proofs.Lists.{none-cons}
 use Rattle.position_format.proofs.Codes.{lengths, code-within}
-use Rattle.position_format.proofs.Valid.{length-from, valid-parts}
+use Rattle.position_format.proofs.Steps.{length-from}
+use Rattle.position_format.proofs.Valid.{valid-parts}
 
 pub length-coded : (rs : List Row) (ts : List ℕ) → length (codedPositions rs ts) ≡ (length (positionBits rs ts) + 7) / 8
 unfolding codedPositions

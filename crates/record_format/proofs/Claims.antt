@@ -32,7 +32,8 @@ use Rattle.record_format.specs.Reading.{Answer, readStrict, readOpen, li
 use Rattle.record_format.specs.Claims.{Accepted, AllAccepted, joined, ownTests, ownAnswer, runAnswer, ReadsBack, ReadsOnly, AcceptsExactly, OpenAgrees, PrefixFree, ListsApart, TrailingBytes, Shortest, NineEach, Demand3}
 use Rattle.record_format.proofs.Fields.{laid-same}
 use Rattle.record_format.proofs.Reading.{answer-quiet, answer-good}
-use Rattle.record_format.proofs.ReadsBack.{fields-small, read-record}
+use Rattle.record_format.proofs.Runs.{fields-small}
+use Rattle.record_format.proofs.ReadsBack.{read-record}
 use Rattle.record_format.proofs.ReadsOnly.{accepted-begins}
 use Rattle.record_format.proofs.Followed.{followed}
 use Rattle.record_format.proofs.Writing.{accepted-fits, fitting-accepted}

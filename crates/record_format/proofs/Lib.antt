@@ -1,6 +1,7 @@
 pub mod Fields
 pub mod Reading
 pub mod Writing
+pub mod Runs
 pub mod ReadsBack
 pub mod ReadsOnly
 pub mod Followed

@@ -34,28 +34,12 @@ use Rattle.record_format.specs.Reading.{Answer, refusalAnswer, recordAns
 use Rattle.record_format.proofs.Fields.{Stands, Small, StandAll, length-field, length-laid, laid-stand, pastAll, stand-past}
 use Rattle.record_format.proofs.Reading.{field-passes}
 use Rattle.record_format.proofs.Writing.{Fitting}
+use Rattle.record_format.proofs.Runs.{fields-small, length-record}
 
 -- a test before two lists that give the same
 first-cong : (t : Test) (us ts : List Test) → firstOf us ≡ firstOf ts → firstOf (t ∷ us) ≡ firstOf (t ∷ ts)
 unfolding firstOf
 first-cong t us ts e = ap (cond (t .applies) (record { number = t .number; place = t .place })) e
-
--- ---- the sizes of an accepted run's bodies
-
-module _ (r : Run) (fit : Fitting r) where
-  pub positions-size : length (codedPositions rows (r .positions)) ≤ 18439
-  positions-size = rows-size (r .positions) (fit .valid) (fit .few)
-
-  pub ratios-size : length (codedRatios (r .ratios)) ≤ 36864
-  ratios-size = omega (arith, nine-bytes windowSize [] (r .ratios), fit .paired, fit .few)
-
-  pub fields-small : Small (fieldsOf r)
-  fields-small =
-      (omega (arith, length-digits 256 rateSize (r .rate)), (omega (arith, length-digits 256 countSize (length (r .positions))), (omega (arith, positions-size), (omega (arith, ratios-size), tt))))
-
-  pub length-record : length (recordOf r) ≡ minRecord + length (codedPositions rows (r .positions)) + length (codedRatios (r .ratios))
-  unfolding recordOf
-  length-record = length-laid (fieldsOf r) ∙ omega (arith, length-digits 256 rateSize (r .rate), length-digits 256 countSize (length (r .positions)))
 
 -- ---- the fields of a record
 

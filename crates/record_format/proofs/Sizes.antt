@@ -19,7 +19,7 @@ use Rattle.record_format.specs.Runs.{run, recordOf}
 use Rattle.record_format.specs.Claims.{Accepted}
 use Rattle.record_format.specs.Sizes.{minRecord, Within, NoPoints, longest, Reached}
 use Rattle.record_format.proofs.Writing.{accepted-fits, fitting-accepted}
-use Rattle.record_format.proofs.ReadsBack.{positions-size, ratios-size, length-record}
+use Rattle.record_format.proofs.Runs.{positions-size, ratios-size, length-record}
 use Rattle.record_format.proofs.Longest.{longest-positions, longest-ratios, longest-fits, longest-accepted}
 
 pub within : Within

@@ -20,7 +20,7 @@ use Rattle.lists.proofs.Compare.{both-true}
 use Rattle.position_format.specs.Rows.{rows}
 use Rattle.position_format.specs.Steps.{steps, outside, firstOutside}
 use Rattle.position_format.specs.Positions.{validPositions}
-use Rattle.position_format.proofs.Valid.{length-steps}
+use Rattle.position_format.proofs.Steps.{length-steps}
 use Rattle.record_format.specs.Runs.{Run, recordOf}
 use Rattle.record_format.specs.Writing.{runTests, accepts, writeRefusal, writeAnswer, writeOutput}
 use Rattle.outputs.specs.Outputs.{zeros, over}

@@ -1,4 +1,3 @@
 pub mod Parts
 pub mod Signed
-pub mod Milliseconds
-pub mod Answers
+pub mod Spans

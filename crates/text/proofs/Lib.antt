@@ -1,5 +1,5 @@
 pub mod PlacedAt
-pub mod Digits
+pub mod Numbers
 pub mod Lengths
 pub mod Absolute
-pub mod Points
+pub mod Lines

@@ -10,7 +10,7 @@ use Rattle.lists.specs.Below.{Below}
 use Rattle.lists.proofs.Below.{below-of}
 use Rattle.span.specs.declared.SpanAnswer.{SpanAnswer}
 use Rattle.text.proofs.PlacedAt.{put-same, put-more}
-use Rattle.listing.proofs.Texts.{Read, read-as, refused-text, run-text, Held, longest, held}
+use Rattle.listing.proofs.Printed.{Read, read-as, refused-text, run-text, Held, longest, held}
 use Rattle.listing.proofs.print.Statement.{statement}
 use Rattle.listing.proofs.print.Tie as tie
 

@@ -7,7 +7,7 @@ use lib.IntN.{pos, negℤ}
 use mir.Syntax.{w64}
 use mir.ValLaws.{toZ-pos}
 use Rattle.span.proofs.Signed.{neg-fits, neg-back}
-use Rattle.span.proofs.Milliseconds.{forward, backward}
+use Rattle.span.proofs.Spans.{forward, backward}
 use Rattle.span.proofs.between.Statement.{statement}
 use Rattle.span.proofs.between.Tie as tie
 

@@ -15,8 +15,7 @@ use Rattle.limits.proofs.Rates.{rate-low, rate-high}
 use Rattle.limits.proofs.Points.{high-none}
 use Rattle.span.specs.declared.SpanAnswer.{SpanAnswer}
 use Rattle.span.specs.Spans.{milliseconds, spanned}
-use Rattle.span.proofs.Milliseconds.{milliseconds-short}
-use Rattle.span.proofs.Answers.{no-rate, many-points, high-point, no-refusal}
+use Rattle.span.proofs.Spans.{milliseconds-short, no-rate, many-points, high-point, no-refusal}
 use Rattle.span.proofs.span.Statement.{statement}
 use Rattle.span.proofs.span.Tie as tie
 

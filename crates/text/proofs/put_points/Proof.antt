@@ -3,7 +3,7 @@ use mathlib.Core.Path.{_≡_, refl}
 use Prim.Native.Nat.{_-_, _≤_}
 use native.Mathlib.Omega.{arith}
 use lib.ListN.{length}
-use Rattle.text.proofs.Points.{Points, points-none, points-more, points-all}
+use Rattle.text.proofs.Lines.{Points, points-none, points-more, points-all}
 use Rattle.text.proofs.put_points.Statement.{statement}
 use Rattle.text.proofs.put_points.Tie as tie
 

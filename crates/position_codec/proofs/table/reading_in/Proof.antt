@@ -1,55 +1,97 @@
--- `reading_in` meets its contract: the number counted from the row's lowest step.
-use mathlib.Core.Path.{ap, _∙_}
-use Prim.Native.Nat.{ℕ, _+_, _-_, _/_, _%_, _^_, _≤_, _<_}
-use native.Mathlib.Nat.{mod-lt, le-trans, lt-of-lt-of-le, sub-le}
+-- `reading_in` meets its contract: by the row's highest step.
+use mathlib.Core.Path.{_≡_, ap, sym, subst, _∙_}
+use Prim.Native.Nat.{ℕ, _≤_, _<_, _^_}
 use native.Mathlib.Omega.{arith}
-use lib.IntN.{pos, _-ℤ_}
-use Rattle.position_codec.proofs.Differences.{diff-fits, diff-back}
-use Rattle.position_format.specs.Rows.{rows}
-use Rattle.position_format.proofs.Rows.{rows-good}
-use Rattle.position_format.proofs.Ranges.{reading-counted}
-use Rattle.position_codec.proofs.Rows.{rows-count, rows-widening}
 use borrow.Author.Needs.{needs}
+use lib.Dec.{T}
+use lib.IntN.{ℤ, pos, natAbs}
+use lib.ListN.{length, getD}
+use lib.Signed.{nonNeg}
+use Rattle.position_format.specs.Rows.{Row, rows, noRow}
+use Rattle.position_format.proofs.Rows.{full, rows-good, good-full}
+use Rattle.position_codec.proofs.Rows.{rows-count, highOf, Ends, row-at, row-narrow, row-ends}
+use Rattle.position_codec.proofs.Residues.{Fitted, reading-low, some-bits, lacks-from, lacks-small, below-fits, reading-high}
 use Rattle.position_codec.proofs.table.reading_in.Statement.{statement}
 use Rattle.position_codec.proofs.table.reading_in.Tie as tie
 
-size-of-requires : tie.Need-size-of-requires
-size-of-requires c κs = search needs
+-- the row, and its highest step as a number
+abbrev row : tie.Start → Row
+row s = getD rows (s .args .row) noRow
 
-sub-below : tie.Need-sub-below
-sub-below c = search needs
+abbrev top : tie.Start → ℕ
+top s = natAbs (highOf (s .args .row))
 
-add-y : tie.Need-add-y
-add-y c = search needs
+ends : (s : tie.Start) → Ends (s .args .row)
+ends s = row-ends (s .args .row) (s .pre .0)
 
-rem-y : tie.Need-rem-y
-rem-y c = search needs
+fitted : (s : tie.Start) → Fitted (row s) (top s)
+fitted s =
+    let i = s .args .row in
+    let e = ends s in
+    let is = row-at i (s .pre .0) in
+    record {
+      full = good-full noRow rows rows-good i (omega (arith, s .pre .0, rows-count));
+      width = row-narrow i (s .pre .0);
+      high = ap (λ (r : Row). r .high) is ∙ e .high;
+      high-fits = e .high-fits;
+      low-fits = subst (λ (r : Row). natAbs (r .low) ≤ 2 ^ 63) (sym is) (e .low-fits);
+    }
+
+mul-high : tie.Need-mul-high
+mul-high c = search needs
+
+array-copy-out-high : tie.Need-array-copy-out-high
+array-copy-out-high c = search needs
+
+cast-high : tie.Need-cast-high
+cast-high c =
+    let e = ends (c .before) in
+    (subst (λ (z : ℤ). T (nonNeg z)) (sym (e .high)) tt, record { fits = omega (arith, e .high-fits) })
 
 cast-result : tie.Need-cast-result
-cast-result c = let e = c .size-of .ensures in record { sfits = lt-of-lt-of-le (mod-lt _ (e .1)) (omega (arith, e .2)) }
-
-cast-result-2 : tie.Need-cast-result-2
-cast-result-2 c = search needs
-
--- what is counted, and how many steps are below zero, are small
-counted-lt : (x : ℕ) {m : ℕ} → 0 < m → m ≤ 2 ^ 32 → x % m < 2 ^ 62
-counted-lt x some few = omega (arith, mod-lt x some)
-
-half-lt : {m : ℕ} → m ≤ 2 ^ 32 → m / 2 < 2 ^ 62
-half-lt few = omega arith
-
-sub-result : tie.Need-sub-result
-sub-result c = let e = c .size-of .ensures in diff-fits _ _ (counted-lt _ (e .1) (e .2)) (half-lt (le-trans (sub-le _ _) (e .2)))
+cast-result c = record { sfits = omega (arith, c .if1 .taken, ends (c .before .before) .high-fits) }
 
 returns : tie.Need-returns
-returns c =
-    let s = c .before in
-    let e = c .size-of .ensures in
-    diff-back _ _ (counted-lt _ (e .1) (e .2)) (half-lt (le-trans (sub-le _ _) (e .2)))
-    ∙ ap (λ (m : ℕ). pos ((s .args .x + (m - 1) / 2) % m) -ℤ pos ((m - 1) / 2)) (e .0)
-    ∙ reading-counted rows rows-good rows-widening (s .args .row) (omega (arith, s .pre .0, rows-count)) (s .args .x) (s .pre .1)
+returns c = let s = c .before .before in reading-low (row s) (top s) (fitted s) (s .args .x) (s .pre .1) (c .if1 .taken)
+
+width-of-requires : tie.Need-width-of-requires
+width-of-requires c κs = search needs
+
+-- where the bits stand for a step below 0
+abbrev start : tie.After-width-of → tie.Start
+start c = c .before .before .before
+
+sub-result : tie.Need-sub-result
+sub-result c = omega (arith, c .width-of .ensures, fitted (start c) .width)
+
+shr-result : tie.Need-shr-result
+shr-result c = let s = start c in omega (arith, c .width-of .ensures, some-bits (row s) (top s) (fitted s) (s .args .x) (s .pre .1) (c .before .if1 .left))
+
+sub-result-2 : tie.Need-sub-result-2
+sub-result-2 c = let s = start c in rw (c .width-of .ensures) (lacks-from (row s) (top s) (fitted s) (s .args .x) (s .pre .1) (c .before .if1 .left))
+
+cast-result-2 : tie.Need-cast-result-2
+cast-result-2 c = let s = start c in rw (c .width-of .ensures) (record { sfits = lacks-small (row s) (top s) (fitted s) (s .args .x) (s .pre .1) (c .before .if1 .left) })
+
+sub-result-3 : tie.Need-sub-result-3
+sub-result-3 c = let s = start c in rw (c .width-of .ensures) (below-fits (row s) (top s) (fitted s) (s .args .x) (s .pre .1) (c .before .if1 .left))
+
+returns-2 : tie.Need-returns-2
+returns-2 c = let s = start c in rw (c .width-of .ensures) (reading-high (row s) (top s) (fitted s) (s .args .x) (s .pre .1) (c .before .if1 .left))
 
 pub reading-in-spec : {M : Type 1} → statement M
 reading-in-spec =
     tie.close
-    (tie.spec size-of-requires sub-below add-y rem-y cast-result cast-result-2 sub-result returns)
+    (tie.spec
+    mul-high
+    array-copy-out-high
+    cast-high
+    cast-result
+    returns
+    width-of-requires
+    sub-result
+    shr-result
+    sub-result-2
+    cast-result-2
+    sub-result-3
+    returns-2)

@@ -1,0 +1,55 @@
+-- `short_reading` meets its contract: the number counted from the row's lowest step.
+use mathlib.Core.Path.{ap, _∙_}
+use Prim.Native.Nat.{ℕ, _+_, _-_, _/_, _%_, _^_, _≤_, _<_}
+use native.Mathlib.Nat.{mod-lt, le-trans, lt-of-lt-of-le, sub-le}
+use native.Mathlib.Omega.{arith}
+use lib.IntN.{pos, _-ℤ_}
+use Rattle.position_codec.proofs.Differences.{diff-fits, diff-back}
+use Rattle.position_format.specs.Rows.{rows}
+use Rattle.position_format.proofs.Rows.{rows-good}
+use Rattle.position_format.proofs.Ranges.{reading-counted}
+use Rattle.position_codec.proofs.Rows.{rows-count, rows-even}
+use borrow.Author.Needs.{needs}
+use Rattle.position_codec.proofs.table.short_reading.Statement.{statement}
+use Rattle.position_codec.proofs.table.short_reading.Tie as tie
+
+size-of-requires : tie.Need-size-of-requires
+size-of-requires c κs = (c .pre .0, c .pre .2)
+
+sub-below : tie.Need-sub-below
+sub-below c = search needs
+
+add-y : tie.Need-add-y
+add-y c = search needs
+
+rem-y : tie.Need-rem-y
+rem-y c = search needs
+
+cast-result : tie.Need-cast-result
+cast-result c = let e = c .size-of .ensures in record { sfits = lt-of-lt-of-le (mod-lt _ (e .1)) (omega (arith, e .2)) }
+
+cast-result-2 : tie.Need-cast-result-2
+cast-result-2 c = search needs
+
+-- what is counted, and how many steps are below zero, are small
+counted-lt : (x : ℕ) {m : ℕ} → 0 < m → m ≤ 2 ^ 57 → x % m < 2 ^ 62
+counted-lt x some few = omega (arith, mod-lt x some)
+
+half-lt : {m : ℕ} → m ≤ 2 ^ 57 → m / 2 < 2 ^ 62
+half-lt few = omega arith
+
+sub-result : tie.Need-sub-result
+sub-result c = let e = c .size-of .ensures in diff-fits _ _ (counted-lt _ (e .1) (e .2)) (half-lt (le-trans (sub-le _ _) (e .2)))
+
+returns : tie.Need-returns
+returns c =
+    let s = c .before in
+    let e = c .size-of .ensures in
+    diff-back _ _ (counted-lt _ (e .1) (e .2)) (half-lt (le-trans (sub-le _ _) (e .2)))
+    ∙ ap (λ (m : ℕ). pos ((s .args .x + (m - 1) / 2) % m) -ℤ pos ((m - 1) / 2)) (e .0)
+    ∙ reading-counted rows rows-good 57 rows-even (s .args .row) (omega (arith, s .pre .0, rows-count)) (s .args .x) (s .pre .1) (s .pre .2)
+
+pub short-reading-spec : {M : Type 1} → statement M
+short-reading-spec =
+    tie.close
+    (tie.spec size-of-requires sub-below add-y rem-y cast-result cast-result-2 sub-result returns)

@@ -1,0 +1,68 @@
+-- Laws of a span: its milliseconds by the order of the first and the last position, and of no points or one; and the whole answer by the first of its
+-- tests that applies.
+use mathlib.Core.List.{List, [], _∷_}
+use mathlib.Core.Path.{_≡_, refl, ap, _∙_}
+use Prim.Native.Nat.{ℕ, zero, suc, _-_, _*_, _/_, _≤_, _<_}
+use native.Mathlib.Nat.{zero-div}
+use native.Mathlib.Omega.{arith}
+use lib.IntN.{ℤ, pos, negℤ, _-ℤ_, _*ℤ_}
+use lib.ListN.{length}
+use Rattle.span.specs.Spans.{towardZero, milliseconds, spanTests, spanAnswer, spanned}
+use Rattle.integers.proofs.Integers.{diff-pos, diff-neg}
+use mathlib.Core.Bool.{true, false, not}
+use borrow.Author.Tests.{lt-ltb, le-ltb}
+use Rattle.refusals.specs.declared.Refusal.{Refusal}
+use Rattle.limits.specs.Points.{maxPoints, firstHigh}
+use Rattle.limits.specs.Rates.{isRate}
+use Rattle.refusals.specs.Tests.{firstOf}
+use Rattle.refusals.proofs.Tests.{first-end, first-skip, first-here}
+
+-- ---- milliseconds
+
+quot-neg : (x r : ℕ) → towardZero (negℤ (pos x)) r ≡ negℤ (pos (x / r))
+quot-neg zero r = rw zero-div refl
+quot-neg (suc x) r = refl
+
+-- by the order of the two positions
+module _ (first last r : ℕ) where
+  pub forward : first ≤ last → towardZero ((pos last -ℤ pos first) *ℤ pos 1000) r ≡ pos ((last - first) * 1000 / r)
+  forward h = ap (λ (z : ℤ). towardZero (z *ℤ pos 1000) r) (diff-pos last first h)
+
+  pub backward : last < first → towardZero ((pos last -ℤ pos first) *ℤ pos 1000) r ≡ negℤ (pos ((first - last) * 1000 / r))
+  backward h =
+      let e : suc (first - suc last) ≡ first - last = omega arith in
+      ap (λ (z : ℤ). towardZero (z *ℤ pos 1000) r) (diff-neg last first h)
+      ∙ quot-neg (suc (first - suc last) * 1000) r
+      ∙ ap (λ (x : ℕ). negℤ (pos (x * 1000 / r))) e
+
+same : (t r : ℕ) → towardZero ((pos t -ℤ pos t) *ℤ pos 1000) r ≡ pos 0
+same t r =
+    let e : (t - t) * 1000 ≡ 0 = omega arith in
+    forward t t r (omega arith) ∙ ap (λ (x : ℕ). pos (x / r)) e ∙ ap pos (zero-div r)
+
+-- of no points or one it is 0
+pub milliseconds-short : (r : ℕ) (ts : List ℕ) → length ts ≤ 1 → milliseconds r ts ≡ pos 0
+milliseconds-short r [] h = same 0 r
+milliseconds-short r (t ∷ []) h = same t r
+milliseconds-short r (t ∷ s ∷ ts) h = absurd (omega arith)
+
+-- ---- the answer
+
+module _ (r : ℕ) (ts : List ℕ) where
+  answered : {f : Refusal} → firstOf (spanTests r ts) ≡ f → spanned r ts ≡ spanAnswer f (milliseconds r ts)
+  unfolding spanned
+  answered e = ap (λ (f : Refusal). spanAnswer f (milliseconds r ts)) e
+
+  pub no-rate : isRate r ≡ false → spanned r ts ≡ record { number = 1; place = 0; milliseconds = pos 0 }
+  no-rate e = answered (first-here _ _ (ap not e))
+
+  module _ (rate : isRate r ≡ true) where
+    pub many-points : maxPoints < length ts → spanned r ts ≡ record { number = 3; place = 0; milliseconds = pos 0 }
+    many-points h = answered (first-skip _ _ (ap not rate) ∙ first-here _ _ (lt-ltb _ _ h))
+
+    module _ (few : length ts ≤ maxPoints) where
+      pub high-point : firstHigh ts < length ts → spanned r ts ≡ record { number = 4; place = firstHigh ts; milliseconds = pos 0 }
+      high-point h = answered (first-skip _ _ (ap not rate) ∙ first-skip _ _ (le-ltb _ _ few) ∙ first-here _ _ (lt-ltb _ _ h))
+
+      pub no-refusal : length ts ≤ firstHigh ts → spanned r ts ≡ record { number = 0; place = 0; milliseconds = milliseconds r ts }
+      no-refusal h = answered (first-skip _ _ (ap not rate) ∙ first-skip _ _ (le-ltb _ _ few) ∙ first-skip _ _ (le-ltb _ _ h) ∙ first-end)

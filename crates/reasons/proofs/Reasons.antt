@@ -1,14 +1,15 @@
--- Laws of the reason for a ratio's bytes: by cases of the choice, by the best of the window alone, and the whole answer by its tests.
+-- Laws of the reason for a ratio's bytes: by cases of the choice, by the best of the window alone, the whole answer by its tests, and
+-- that its numbers are small.
 use mathlib.Core.Bool.{Bool, true, false, cond, not}
 use mathlib.Core.List.{List, reverse}
 use mathlib.Core.Logic.{⊎-elim}
-use mathlib.Core.Path.{_≡_, refl, sym, ap, _∙_}
+use mathlib.Core.Path.{_≡_, refl, sym, ap, subst, _∙_}
 use Prim.Native.Nat.{ℕ, _-_, _^_, _≤_, _<_}
 use native.Mathlib.Omega.{arith}
 use borrow.Author.Tests.{lt-ltb, le-ltb, le-leb, lt-leb, ltb-true, ltb-false, leb-true, leb-false, eq-eqb, ne-eqb, eqb-true, eqb-false}
 use lib.Bits.{bitXor}
 use lib.Dec.{leb, ltb, eqb}
-use lib.ListN.{length, getD, length-reverse}
+use lib.ListN.{length, getD, take, length-reverse}
 use Rattle.lists.specs.Below.{Below}
 use Rattle.lists.proofs.Below.{below-of}
 use Rattle.limits.specs.Points.{maxPoints}
@@ -16,9 +17,11 @@ use Rattle.refusals.specs.declared.Refusal.{Refusal}
 use Rattle.refusals.specs.Tests.{firstOf}
 use Rattle.refusals.proofs.Tests.{first-end, first-skip, first-here}
 use Rattle.ratio_format.specs.Choice.{find, best}
+use Rattle.ratio_format.specs.Windows.{windowSize}
 use Rattle.ratio_format.specs.Zeros.{leadZeros, trailZeros}
 use Rattle.ratio_format.proofs.Choice.{found, best-at, bestXor}
-use Rattle.ratio_format.proofs.Windows.{back, reverse-below}
+use Rattle.ratio_format.proofs.Windows.{back, reverse-below, window-few}
+use Rattle.ratio_format.proofs.Zeros.{lead-le, trail-le}
 use Rattle.reasons.specs.declared.Reason.{Reason}
 use Rattle.reasons.specs.declared.Reason.the-variants.{Reference, Xor, Exception, Empty, Refused}
 use Rattle.reasons.specs.Reasons.{xorReason, reasonOf, windowAt, explainTests, reasonBy, explained}
@@ -111,3 +114,32 @@ module _ (vs : List ℕ) (i : ℕ) where
 
     pub explained-here : i < length vs → explained vs i ≡ reasonOf (getD vs i 0) (windowAt vs i)
     explained-here h = answered (first-skip _ _ (le-ltb _ _ few) ∙ first-skip _ _ (ap not (lt-ltb i (length vs) h)) ∙ first-end)
+
+-- ---- its numbers are small
+
+abbrev pub Small : Reason → Type 0
+Small (Reference p) = p < windowSize
+Small (Xor p l t) = (p < windowSize) × (l ≤ 8) × (t ≤ 8)
+Small (Exception s) = s < 2
+Small Empty = Unit {0}
+Small (Refused n p) = Unit {0}
+
+reason-small : (v : ℕ) (w : List ℕ) → length w ≤ windowSize → Small (reasonOf v w)
+reason-small v w few =
+    reason-cases v w Small
+    (λ h. omega arith)
+    (λ h g. (omega (arith, best-at v w (omega arith) .0), lead-le (bestXor v w), trail-le (bestXor v w)))
+    (λ h e g. tt)
+    (λ h p g. g)
+
+pub explained-small : (vs : List ℕ) (i : ℕ) → Small (explained vs i)
+explained-small vs i = many (ltb maxPoints (length vs)) refl
+  where
+    past : length vs ≤ maxPoints → (t : Bool) → ltb i (length vs) ≡ t → Small (explained vs i)
+    past few true e =
+        subst Small (sym (explained-here vs i few (ltb-true i (length vs) e))) (reason-small (getD vs i 0) (windowAt vs i) (window-few windowSize (take i vs) .0))
+    past few false e = subst Small (sym (explained-past vs i few (ltb-false i (length vs) e))) tt
+
+    many : (t : Bool) → ltb maxPoints (length vs) ≡ t → Small (explained vs i)
+    many true e = subst Small (sym (explained-many vs i (ltb-true maxPoints (length vs) e))) tt
+    many false e = past (ltb-false maxPoints (length vs) e) (ltb i (length vs)) refl

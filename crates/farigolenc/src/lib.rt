@@ -126,7 +126,13 @@ pub struct ExplainAnswer {
 }
 
 // The numbers of a reason, which are all small.
-fn reason_numbers(reason: u32, at: usize, leading: usize, trailing: usize, sum: usize) -> ExplainAnswer
+fn reason_numbers(
+    reason: u32,
+    at: usize,
+    leading: usize,
+    trailing: usize,
+    sum: usize,
+) -> ExplainAnswer
     requires { ⌜ (at < 2 ^ 32) × (leading < 2 ^ 32) × (trailing < 2 ^ 32) × (sum < 2 ^ 32) ⌝ }
     ensures { λ r. ⌜ r ≡ record { number = 0; place = 0; reason = reason; at = at; leading = leading; trailing = trailing; sum = sum } ⌝ }
 {

@@ -44,9 +44,15 @@ module _ (v : ℕ) (w : List ℕ) where
       reason-cases v w (Says v w)
       (λ h. (h, find-at v w h, λ q q< e. find-first v w q q< e))
       (λ h g.
-      let s = best-xor v w g in
-      (best-at v w (omega arith) .0, refl, refl, omega (arith, s), none-equal h,
-      (λ q q<. omega (arith, best-most v w q q<, s)), (λ q q<. omega (arith, best-first v w q q<, s))))
+      let s = best-xor v w g in (
+        best-at v w (omega arith) .0,
+        refl,
+        refl,
+        omega (arith, s),
+        none-equal h,
+        (λ q q<. omega (arith, best-most v w q q<, s)),
+        (λ q q<. omega (arith, best-first v w q q<, s)),
+      ))
       (λ h e g. e)
       (λ h p g. (g, some-best p, (λ q q<. best-most v w q q<), none-equal h))
 
@@ -89,8 +95,15 @@ window-same vs us i hv hu same = ext-getD 0 (windowAt vs i) (windowAt us i) size
   where
     sizes : length (windowAt vs i) ≡ length (windowAt us i)
     sizes =
-        omega (arith, length-take windowSize (reverse (take i vs)), length-take windowSize (reverse (take i us)), length-reverse (take i vs), length-reverse (take i us),
-        length-take-le i vs (omega arith), length-take-le i us (omega arith))
+        omega (
+          arith,
+          length-take windowSize (reverse (take i vs)),
+          length-take windowSize (reverse (take i us)),
+          length-reverse (take i vs),
+          length-reverse (take i us),
+          length-take-le i vs (omega arith),
+          length-take-le i us (omega arith),
+        )
 
     at : (p : ℕ) → p < length (windowAt vs i) → getD (windowAt vs i) p 0 ≡ getD (windowAt us i) p 0
     at p p< =

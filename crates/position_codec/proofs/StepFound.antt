@@ -3,14 +3,12 @@
 use mathlib.Core.Bool.{Bool, true, false}
 use mathlib.Core.List.{List}
 use mathlib.Core.Path.{_≡_, refl, sym, ap, ap₂, _∙_}
-use Prim.Native.Nat.{ℕ, _+_, _-_, _*_, _/_, _%_, _^_, _≤_, _<_}
-use native.Mathlib.Nat.{mod-lt}
+use Prim.Native.Nat.{ℕ, _+_, _-_, _/_, _%_, _^_, _≤_, _<_}
 use native.Mathlib.Omega.{arith}
 use borrow.Author.Tests.{leb-true}
 use lib.Dec.{leb}
-use lib.IntN.{ℤ}
+use lib.IntN.{ℤ, pos}
 use lib.ListN.{length, getD, take, drop, length-append}
-use lib.Pow.{pow-pos}
 use lib.Seq.{drop-drop}
 use Rattle.lists.specs.Below.{Below}
 use Rattle.lists.specs.Compare.{begins}
@@ -18,8 +16,7 @@ use Rattle.lists.proofs.Compare.{begins-rest}
 use Rattle.lists.proofs.Lists.{every}
 use Rattle.bits.specs.Digits.{bitsOf, numberOf}
 use Rattle.bits.specs.Packing.{bits, ahead}
-use Rattle.bits.proofs.Ahead.{take-ahead, ahead-field}
-use Rattle.bits.proofs.Word.{mask}
+use Rattle.bits.proofs.Ahead.{take-ahead, ahead-first, ahead-field}
 use Rattle.position_format.specs.Rows.{Row, holds, inTable, reading, code, codeLength, noRow, rowOf}
 use Rattle.position_format.proofs.Lists.{not-so, every-at}
 use Rattle.position_format.proofs.Prefixes.{begins-take, take-begins, begins-short}
@@ -41,6 +38,11 @@ module _ (r : Row) (ds : List ℕ) (w : ℕ) (alike : take 57 (bitsOf 64 w) ≡ 
   field-word =
       ap (λ (m : ℕ). w / 2 ^ (64 - m) % 2 ^ r .width) en
       ∙ sym (ahead-field w 57 (omega arith) ds alike (length (r .prefix)) (r .width) (omega arith) (omega arith))
+
+-- and the row that the first q of its bits lead to
+pub lead-ahead : (rs : List Row) (ds : List ℕ) (w : ℕ) → take 57 (bitsOf 64 w) ≡ ahead 57 ds → (q : ℕ) → q ≤ 57
+    → (i n : ℕ) → Leads rs (bitsOf q (w / 2 ^ (64 - q))) i n → Leads rs (ahead q ds) i n
+lead-ahead rs ds w alike q h i n l = rw (ahead-first w 57 (omega arith) ds alike q h) at l
 
 -- or after it in the body
 pub field-body : (r : Row) (body : List ℕ) (at n k x : ℕ) → n ≡ codeLength r → k ≡ r .width
@@ -143,3 +145,9 @@ module _ (rs : List Row) (good : goodTable rs ≡ true) (q : ℕ) (short : short
         let f = this-row (ap (rowOf rs) (sym (e .0)) ∙ e .1) in
         rw (e .0, e .2) f
     found-by Nothing e = other-row e
+
+  -- a row with no bits after its prefix, which reads 0 and is the first that holds it
+  pub found-zero : here .width ≡ 0 → reading here 0 ≡ pos 0 → rowOf rs (pos 0) ≡ i → n ≤ length ds → StepFound rs ds (Step (pos 0) n)
+  unfolding numberOf
+  found-zero empty zero first enough =
+      found-by enough 0 (ap (λ (k : ℕ). numberOf 2 (take k (drop (length (here .prefix)) ds))) (sym empty)) (Step (pos 0) n) (sym zero, first, refl)

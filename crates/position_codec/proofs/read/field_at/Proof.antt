@@ -2,7 +2,7 @@
 use Prim.Native.Nat.{_≤_, _<_}
 use native.Mathlib.Omega.{arith}
 use borrow.Author.Needs.{needs}
-use lib.ListN.{length, getD}
+use lib.ListN.{getD}
 use Rattle.bits.proofs.Packing.{length-left}
 use Rattle.position_format.specs.Rows.{rows, noRow}
 use Rattle.position_format.proofs.Codes.{row-within}

@@ -2,7 +2,7 @@
 -- change nothing.
 use mathlib.Core.Path.{_≡_, refl, sym, ap, ap₂, _∙_, subst}
 use mathlib.Core.Bool.{Bool, true, false, not, cond}
-use mathlib.Core.List.{List, [], _∷_, _++_, append-assoc}
+use mathlib.Core.List.{List, [], _∷_, _++_}
 use mathlib.Core.Option.{Option, none, some}
 use Prim.Native.Nat.{ℕ, zero, suc, _+_, _≤_, _<_}
 use native.Mathlib.Omega.{arith}
@@ -15,7 +15,7 @@ use Rattle.bits.specs.Digits.{bytesOf, digitsOf, numberOf}
 use Rattle.bits.proofs.Digits.{digits-number}
 use Rattle.refusals.specs.declared.Refusal.{Refusal}
 use Rattle.refusals.specs.Tests.{Test, test, firstOf, refused}
-use Rattle.refusals.proofs.Tests.{numbered, first-here, first-skip, first-clear, first-end, first-append-none, first-append-some}
+use Rattle.refusals.proofs.Tests.{first-here, first-skip, first-clear, first-end}
 use Rattle.record_format.specs.Fields.{Field, fieldOf, headSize, fieldBytes, tagAt, lengthAt, bodyAt, nextAt, lengthTests, fieldTests}
 use Rattle.record_format.specs.Reading.{Answer, refusalAnswer, answerBy, missing}
 use Rattle.record_format.proofs.Fields.{Stands, length-body, field-here, below-body, tag-same, length-same, next-same, head-within}

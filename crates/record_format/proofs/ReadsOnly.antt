@@ -2,7 +2,7 @@
 use mathlib.Core.Path.{_≡_, sym, ap, _∙_, subst}
 use mathlib.Core.Bool.{true, not}
 use mathlib.Core.List.{List, [], _∷_, _++_}
-use mathlib.Core.Option.{Option, none, some}
+use mathlib.Core.Option.{none, some}
 use Prim.Native.Nat.{ℕ, _≤_, _^_}
 use borrow.Author.Tests.{ltb-false, not-false}
 use lib.Dec.{ltb, lit<}
@@ -11,7 +11,7 @@ use Rattle.lists.specs.Below.{Below}
 use Rattle.bits.specs.Digits.{bytesOf}
 use Rattle.limits.specs.Rates.{isRate}
 use Rattle.limits.specs.Points.{maxPoints}
-use Rattle.refusals.specs.Tests.{Test, test, firstOf}
+use Rattle.refusals.specs.Tests.{test, firstOf}
 use Rattle.refusals.proofs.Tests.{first-clear}
 use Rattle.position_format.specs.Rows.{rows}
 use Rattle.position_format.proofs.Positions.{read-only}

@@ -14,7 +14,7 @@ use Rattle.limits.specs.Points.{maxPoints}
 use Rattle.limits.specs.Rates.{isRate}
 use Rattle.refusals.specs.declared.Refusal.{Refusal}
 use Rattle.refusals.specs.Tests.{Test, test, firstOf, noRefusal}
-use Rattle.refusals.proofs.Tests.{numbered, first-here, first-skip, first-clear, first-end, first-append-none, first-append-some}
+use Rattle.refusals.proofs.Tests.{first-here, first-skip, first-clear, first-end, first-append-none, first-append-some}
 use Rattle.record_format.specs.Fields.{bodyAt, nextAt, fieldTests}
 use Rattle.record_format.specs.Runs.{rateTag, countTag, rateSize, countSize}
 use Rattle.record_format.specs.Reading.{rateAt, countAt, rateIn, countIn, otherRate, rateTests, countTests, frontTests}

@@ -1,21 +1,21 @@
 -- Laws of a record as it is read: the whole answer, by how its front, the room, its positions and its ratios turn out.
 use mathlib.Core.Path.{_≡_, refl, sym, ap, ap₂, _∙_, subst}
 use mathlib.Core.Bool.{Bool, true, false, cond}
-use mathlib.Core.List.{List, [], _∷_, _++_}
+use mathlib.Core.List.{List, _∷_, _++_}
 use Prim.Native.Nat.{ℕ, _+_, _≤_}
 use native.Mathlib.Omega.{arith}
 use borrow.Author.Tests.{ltb-false}
 use lib.Dec.{ltb}
 use lib.ListN.{length, replicate}
 use Rattle.refusals.specs.declared.Refusal.{Refusal}
-use Rattle.refusals.specs.Tests.{Test, test, firstOf, refused}
-use Rattle.refusals.proofs.Tests.{numbered, first-here, first-skip, first-end, first-none, first-append-none, first-append-some}
+use Rattle.refusals.specs.Tests.{Test, test, firstOf}
+use Rattle.refusals.proofs.Tests.{first-here, first-skip, first-end, first-none, first-append-none, first-append-some}
 use Rattle.outputs.specs.Outputs.{over}
 use Rattle.position_format.specs.Rows.{rows}
 use Rattle.position_format.specs.Positions.{readPositions}
 use Rattle.record_format.specs.Fields.{bodyAt, nextAt}
 use Rattle.record_format.specs.declared.ReadAnswer.{ReadAnswer}
-use Rattle.record_format.specs.Reading.{Answer, refusalAnswer, recordAnswer, answerBy, readWith, readTests, lacksRoom, countAt, positionsAt, ratiosAt, endAt, rateIn, countIn, positionsIn, ratiosIn, listOf, frontTests, roomTests, positionsTests, ratiosTests}
+use Rattle.record_format.specs.Reading.{Answer, refusalAnswer, recordAnswer, readWith, readTests, lacksRoom, ratiosAt, endAt, positionsIn, ratiosIn, listOf, frontTests, roomTests, positionsTests, ratiosTests}
 use Rattle.record_format.proofs.Reading.{refusal, answer-refused, answer-good}
 use Rattle.record_codec.specs.declared.front.Front.{Front}
 use Rattle.record_codec.specs.declared.coding.Coding.the-variants.{Positions, Ratios}

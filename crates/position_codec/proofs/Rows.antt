@@ -124,7 +124,7 @@ small i = both (both (ltb (prefixOf i) (2 ^ prefixLenOf i)) (ltb 0 (prefixLenOf 
 
 pub record Small (i : ℕ) : Type 0 where
   pub prefix : prefixOf i < 2 ^ prefixLenOf i
-  pub some : 0 < prefixLenOf i
+  pub prefixed : 0 < prefixLenOf i
   pub short : prefixLenOf i ≤ 64
   pub narrow : widthOf i ≤ 64
 
@@ -133,7 +133,7 @@ row-small i h =
     let p = both-true (both (ltb (prefixOf i) (2 ^ prefixLenOf i)) (ltb 0 (prefixLenOf i))) _ (all-at 5 small refl i h) in
     let q = both-true (ltb (prefixOf i) (2 ^ prefixLenOf i)) _ (p .0) in
     let r = both-true (leb (prefixLenOf i) 64) _ (p .1) in
-    record { prefix = ltb-true _ _ (q .0); some = ltb-true _ _ (q .1); short = leb-true _ _ (r .0); narrow = leb-true _ _ (r .1) }
+    record { prefix = ltb-true _ _ (q .0); prefixed = ltb-true _ _ (q .1); short = leb-true _ _ (r .0); narrow = leb-true _ _ (r .1) }
 
 pub row-narrow : (i : ℕ) → i < 5 → getD rows i noRow .width ≤ 64
 row-narrow i h = rw (row-at i h) (row-small i h .narrow)

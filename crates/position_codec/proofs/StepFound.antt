@@ -30,7 +30,7 @@ use Rattle.position_codec.specs.Found.{Leads, ReadBy, StepFound}
 
 -- no bits are no code
 pub found-none : (lo hi : ℕ) (rs : List Row) → lengths lo hi rs ≡ true → 0 < lo → (ds : List ℕ) → length ds ≡ 0 → StepFound rs ds Nothing
-found-none lo hi rs within some ds h z e = begins-short (code rs z) ds (omega (arith, code-within lo hi rs within z e .0))
+found-none lo hi rs within nonzero ds h z e = begins-short (code rs z) ds (omega (arith, code-within lo hi rs within z e .0))
 
 -- the bits after a row's prefix, as the code has them: in the word w that begins with the bits ds, with 0 bits past their end
 module _ (r : Row) (ds : List ℕ) (w : ℕ) (alike : take 57 (bitsOf 64 w) ≡ ahead 57 ds) (n : ℕ) (en : n ≡ codeLength r) (few : n ≤ 57) (room : n ≤ length ds) where
@@ -54,15 +54,15 @@ field-body r body at n k x en ek ex =
 
 -- ---- the step that row i reads in its bits x, by the row before it
 
-module _ (rs : List Row) (good : goodTable rs ≡ true) (wide : widening rs ≡ true) (i : ℕ) (some : 0 < i) (i< : i < length rs)
+module _ (rs : List Row) (good : goodTable rs ≡ true) (wide : widening rs ≡ true) (i : ℕ) (nonzero : 0 < i) (i< : i < length rs)
     (x : ℕ) (x< : x < 2 ^ getD rs i noRow .width) (n : ℕ) where
   pub read-early : holds (getD rs (i - 1) noRow) (reading (getD rs i noRow) x) ≡ true → ReadBy rs i n x Nothing
-  read-early e = row-before rs good wide (reading (getD rs i noRow) x) i some i< e
+  read-early e = row-before rs good wide (reading (getD rs i noRow) x) i nonzero i< e
 
   pub read-first : holds (getD rs (i - 1) noRow) (reading (getD rs i noRow) x) ≡ false → (z : ℤ) → z ≡ reading (getD rs i noRow) x → ReadBy rs i n x (Step z n)
   read-first e z is =
       let r = getD rs i noRow in
-      (is, ap (rowOf rs) is ∙ row-first rs good wide (reading r x) i some i< e (reading-held r (good-full noRow rs good i i<) x x<), refl)
+      (is, ap (rowOf rs) is ∙ row-first rs good wide (reading r x) i nonzero i< e (reading-held r (good-full noRow rs good i i<) x x<), refl)
 
 -- ---- prefixes of at most q bits
 

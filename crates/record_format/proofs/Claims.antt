@@ -5,8 +5,8 @@ use mathlib.Core.List.{List, [], _∷_, _++_, append-nil}
 use mathlib.Core.Logic.{_⊎_, inl, inr}
 use Prim.Native.Nat.{ℕ, _≤_}
 use native.Mathlib.Omega.{arith}
-use borrow.Author.Tests.{eqb-true, eq-eqb, ltb-false, le-ltb, not-false}
-use lib.Dec.{eqb, ltb, lit<, lit≤}
+use borrow.Author.Tests.{eqb-true, eq-eqb, le-ltb, not-false}
+use lib.Dec.{eqb, lit<, lit≤}
 use lib.ListN.{length}
 use Rattle.lists.specs.Below.{Below}
 use Rattle.lists.specs.Compare.{both}
@@ -29,7 +29,7 @@ use Rattle.record_format.specs.Runs.{Run, run, rateSize, countSize, rati
 use Rattle.record_format.specs.Reading.{Answer, readStrict, readOpen, listOf, otherRate}
 use Rattle.record_format.specs.Claims.{Accepted, AllAccepted, joined, ownTests, ownAnswer, runAnswer, ReadsBack, ReadsOnly, AcceptsExactly, OpenAgrees, PrefixFree, ListsApart, TrailingBytes, Shortest, NineEach, Demand3}
 use Rattle.record_format.proofs.Fields.{fieldIn, laid-same}
-use Rattle.record_format.proofs.Reading.{answer-quiet, answer-good}
+use Rattle.record_format.proofs.Reading.{room-enough, answer-clear, answer-good}
 use Rattle.record_format.proofs.Runs.{rateIndex, countIndex, positionsIndex, ratiosIndex, fields-small}
 use Rattle.record_format.proofs.ReadsBack.{read-record}
 use Rattle.record_format.proofs.ReadsOnly.{accepted-begins}
@@ -47,7 +47,7 @@ reads-back r a e rest ts vs =
 -- an answer with number 0 is the run's own
 own-of : (r : Run) (e : ℕ) (ts vs : List ℕ) → runAnswer r e ts vs .answer .number ≡ 0 → runAnswer r e ts vs ≡ ownAnswer r ts vs
 own-of r e ts vs h =
-    let z = answer-quiet (ownTests r e (length ts) (length vs)) (ownAnswer r ts vs) ts vs h in
+    let z = answer-clear (ownTests r e (length ts) (length vs)) (ownAnswer r ts vs) ts vs h in
     rw z
 
 pub reads-only : ReadsOnly
@@ -74,11 +74,6 @@ other-none e r h = go (eqb e 0) refl h
     go true q k = inl (eqb-true e 0 q)
     go false q k = inr (eqb-true e r (not-false (eqb e r) k))
 
--- there is room
-room-none : (a b : Bool) → cond a true b ≡ false → (a ≡ false) × (b ≡ false)
-room-none true b e = (cc, cc)
-room-none false b e = (refl, e)
-
 module _ (r : Run) (e : ℕ) (ts vs : List ℕ) where
   -- the tests of a run's record refuse nothing exactly where no other rate is expected and there is room
   own-clear : (e ≡ 0) ⊎ (e ≡ r .rate) → length (r .positions) ≤ length ts → length (r .positions) ≤ length vs → runAnswer r e ts vs ≡ ownAnswer r ts vs
@@ -89,10 +84,10 @@ module _ (r : Run) (e : ℕ) (ts vs : List ℕ) where
 
   own-only : runAnswer r e ts vs .answer .number ≡ 0 → ((e ≡ 0) ⊎ (e ≡ r .rate)) × (length (r .positions) ≤ length ts) × (length (r .positions) ≤ length vs)
   own-only h =
-      let a = first-clear _ _ (lit< tt) (answer-quiet (ownTests r e (length ts) (length vs)) (ownAnswer r ts vs) ts vs h) in
+      let a = first-clear _ _ (lit< tt) (answer-clear (ownTests r e (length ts) (length vs)) (ownAnswer r ts vs) ts vs h) in
       let b = first-clear _ _ (lit< tt) (a .1) in
-      let c = room-none (ltb (length ts) (length (r .positions))) (ltb (length vs) (length (r .positions))) (b .0) in
-      (other-none e (r .rate) (a .0), ltb-false _ _ (c .0), ltb-false _ _ (c .1))
+      let c = room-enough (length ts) (length vs) (length (r .positions)) (b .0) in
+      (other-none e (r .rate) (a .0), c .0, c .1)
 
 -- with room, and no other rate expected, the answer is the run's own
 pub with-room : (r : Run) (ts vs : List ℕ) → length (r .positions) ≤ length ts → length (r .positions) ≤ length vs → runAnswer r 0 ts vs ≡ ownAnswer r ts vs

@@ -47,7 +47,7 @@ laid-one f = append-nil (fieldBytes f)
 -- ---- a field that stands in bytes
 
 -- the field f stands at the offset p of the bytes s
-pub record Stands (s : List ℕ) (p : ℕ) (f : Field) : Type 0 where
+pub record FieldStands (s : List ℕ) (p : ℕ) (f : Field) : Type 0 where
   pub head : p + headSize ≤ length s
   pub tagged : tagAt s p ≡ f .tag
   pub stated : lengthAt s p ≡ length (f .body)
@@ -100,7 +100,7 @@ module _ (before : List ℕ) (f : Field) (rest : List ℕ) (small : length (f .b
   length-here : length here ≡ p + length (fieldBytes f) + length rest
   length-here = length-append before (fieldBytes f ++ rest) ∙ omega (arith, length-append (fieldBytes f) rest)
 
-  pub stands : Stands here p f
+  pub stands : FieldStands here p f
   stands = record {
     head = omega (arith, length-here, length-field f);
     tagged = tag-at;
@@ -120,7 +120,7 @@ Small (f ∷ fs) = (length (f .body) ≤ maxBody) × Small fs
 -- the fields fs stand one after the other, from the offset p on
 abbrev pub StandAll : List ℕ → ℕ → List Field → Type 0
 StandAll s p [] = Unit {0}
-StandAll s p (f ∷ fs) = Stands s p f × StandAll s (nextAt s p) fs
+StandAll s p (f ∷ fs) = FieldStands s p f × StandAll s (nextAt s p) fs
 
 -- the field of index k of a list, which has one
 abbrev pub fieldIn : List Field → ℕ → Field
@@ -131,7 +131,7 @@ abbrev pub fieldAt : List ℕ → ℕ → ℕ → ℕ
 fieldAt s p zero = p
 fieldAt s p (suc k) = fieldAt s (nextAt s p) k
 
-pub stand-at : (s : List ℕ) (p : ℕ) (fs : List Field) → StandAll s p fs → (k : ℕ) → k < length fs → Stands s (fieldAt s p k) (fieldIn fs k)
+pub stand-at : (s : List ℕ) (p : ℕ) (fs : List Field) → StandAll s p fs → (k : ℕ) → k < length fs → FieldStands s (fieldAt s p k) (fieldIn fs k)
 stand-at s p [] h k l = absurd (omega arith)
 stand-at s p (f ∷ fs) h zero l = h .0
 stand-at s p (f ∷ fs) h (suc k) l = stand-at s (nextAt s p) fs (h .1) k (omega arith)

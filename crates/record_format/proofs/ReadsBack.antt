@@ -26,7 +26,7 @@ use Rattle.record_format.specs.Fields.{fieldOf}
 use Rattle.record_format.specs.Runs.{Run, rateTag, countTag, positionsTag, ratiosTag, rateSize, countSize, fieldsOf, recordOf}
 use Rattle.record_format.specs.Claims.{countPlace, ownTests, ownAnswer, runAnswer}
 use Rattle.record_format.specs.Reading.{Answer, refusalAnswer, recordAnswer, readTests, readWith, rateAt, countAt, positionsAt, ratiosAt, endAt, rateIn, countIn, positionsIn, ratiosIn, missing, listOf, otherRate, lacksRoom, countTests, roomTests, positionsTests, ratiosTests}
-use Rattle.record_format.proofs.Fields.{Stands, StandAll, length-field, fieldIn, stand-at, laid-stand, stand-past}
+use Rattle.record_format.proofs.Fields.{FieldStands, StandAll, length-field, fieldIn, stand-at, laid-stand, stand-past}
 use Rattle.record_format.proofs.Reading.{field-passes}
 use Rattle.record_format.proofs.Writing.{Fitting}
 use Rattle.record_format.proofs.Runs.{rateIndex, countIndex, positionsIndex, ratiosIndex, fields-small}
@@ -47,16 +47,16 @@ module _ (r : Run) (fit : Fitting r) (rest : List ℕ) where
   all = laid-stand [] (fieldsOf r) rest (fields-small r fit)
 
   -- each where reading looks for it
-  rate-stands : Stands s rateAt (fieldIn (fieldsOf r) rateIndex)
+  rate-stands : FieldStands s rateAt (fieldIn (fieldsOf r) rateIndex)
   rate-stands = stand-at s rateAt (fieldsOf r) all rateIndex (lit< tt)
 
-  count-stands : Stands s (countAt s) (fieldIn (fieldsOf r) countIndex)
+  count-stands : FieldStands s (countAt s) (fieldIn (fieldsOf r) countIndex)
   count-stands = stand-at s rateAt (fieldsOf r) all countIndex (lit< tt)
 
-  positions-stand : Stands s (positionsAt s) (fieldIn (fieldsOf r) positionsIndex)
+  positions-stand : FieldStands s (positionsAt s) (fieldIn (fieldsOf r) positionsIndex)
   positions-stand = stand-at s rateAt (fieldsOf r) all positionsIndex (lit< tt)
 
-  ratios-stand : Stands s (ratiosAt s) (fieldIn (fieldsOf r) ratiosIndex)
+  ratios-stand : FieldStands s (ratiosAt s) (fieldIn (fieldsOf r) ratiosIndex)
   ratios-stand = stand-at s rateAt (fieldsOf r) all ratiosIndex (lit< tt)
 
   at-count : countAt s ≡ countPlace

@@ -32,17 +32,17 @@ use Rattle.position_codec.specs.Found.{Leads, ReadBy, StepFound}
 pub found-none : (lo hi : ℕ) (rs : List Row) → lengths lo hi rs ≡ true → 0 < lo → (ds : List ℕ) → length ds ≡ 0 → StepFound rs ds Nothing
 found-none lo hi rs within nonzero ds h z e = begins-short (code rs z) ds (omega (arith, code-within lo hi rs within z e .0))
 
--- the bits after a row's prefix, as the code has them: in the word w that begins with the bits ds, with 0 bits past their end
+-- the row that q bits lead to, by the first q of the word w that begins with the bits ds, with 0 bits past their end
+pub lead-ahead : (rs : List Row) (ds : List ℕ) (w : ℕ) → take 57 (bitsOf 64 w) ≡ ahead 57 ds → (q : ℕ) → q ≤ 57
+    → (i n : ℕ) → Leads rs (bitsOf q (w / 2 ^ (64 - q))) i n → Leads rs (ahead q ds) i n
+lead-ahead rs ds w alike q h i n l = rw (ahead-first w 57 (omega arith) ds alike q h) at l
+
+-- the bits after a row's prefix, as the code has them: in that word
 module _ (r : Row) (ds : List ℕ) (w : ℕ) (alike : take 57 (bitsOf 64 w) ≡ ahead 57 ds) (n : ℕ) (en : n ≡ codeLength r) (few : n ≤ 57) (room : n ≤ length ds) where
   pub field-word : w / 2 ^ (64 - n) % 2 ^ r .width ≡ numberOf 2 (take (r .width) (drop (length (r .prefix)) ds))
   field-word =
       ap (λ (m : ℕ). w / 2 ^ (64 - m) % 2 ^ r .width) en
       ∙ sym (ahead-field w 57 (omega arith) ds alike (length (r .prefix)) (r .width) (omega arith) (omega arith))
-
--- and the row that the first q of its bits lead to
-pub lead-ahead : (rs : List Row) (ds : List ℕ) (w : ℕ) → take 57 (bitsOf 64 w) ≡ ahead 57 ds → (q : ℕ) → q ≤ 57
-    → (i n : ℕ) → Leads rs (bitsOf q (w / 2 ^ (64 - q))) i n → Leads rs (ahead q ds) i n
-lead-ahead rs ds w alike q h i n l = rw (ahead-first w 57 (omega arith) ds alike q h) at l
 
 -- or after it in the body
 pub field-body : (r : Row) (body : List ℕ) (at n k x : ℕ) → n ≡ codeLength r → k ≡ r .width
@@ -149,5 +149,5 @@ module _ (rs : List Row) (good : goodTable rs ≡ true) (q : ℕ) (short : short
   -- a row with no bits after its prefix, which reads 0 and is the first that holds it
   pub found-zero : here .width ≡ 0 → reading here 0 ≡ pos 0 → rowOf rs (pos 0) ≡ i → n ≤ length ds → StepFound rs ds (Step (pos 0) n)
   unfolding numberOf
-  found-zero empty zero first enough =
-      found-by enough 0 (ap (λ (k : ℕ). numberOf 2 (take k (drop (length (here .prefix)) ds))) (sym empty)) (Step (pos 0) n) (sym zero, first, refl)
+  found-zero empty reads first enough =
+      found-by enough 0 (ap (λ (k : ℕ). numberOf 2 (take k (drop (length (here .prefix)) ds))) (sym empty)) (Step (pos 0) n) (sym reads, first, refl)

@@ -1,5 +1,5 @@
--- Laws of fields: where each stands when they are laid end to end, what is read there, what whole fields are, and that bytes are laid of one
--- list of fields only.
+-- Laws of fields: where each stands when they are laid end to end, what is read there, what whole fields are, that bytes are laid of one list
+-- of fields only, and that bytes after whole fields change nothing in them.
 use mathlib.Core.Path.{_≡_, refl, sym, ap, ap₂, _∙_, subst}
 use mathlib.Core.Bool.{Bool, true, false, not, false≢true}
 use mathlib.Core.List.{List, [], _∷_, _++_, append-assoc, append-nil}
@@ -122,7 +122,7 @@ abbrev pub StandAll : List ℕ → ℕ → List Field → Type 0
 StandAll s p [] = Unit {0}
 StandAll s p (f ∷ fs) = FieldStands s p f × StandAll s (nextAt s p) fs
 
--- the field of index k of a list, which has one
+-- the field of index k of a list that has one
 abbrev pub fieldIn : List Field → ℕ → Field
 fieldIn fs k = getD fs k (fieldOf 0 [])
 

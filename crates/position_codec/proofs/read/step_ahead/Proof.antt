@@ -32,9 +32,9 @@ returns : tie.Need-returns
 returns c =
     let s = c .before .before in
     let w = s .args .w in
-    let zero : Leads rows (ahead 4 (left s)) 0 1 =
+    let one-bit : Leads rows (ahead 4 (left s)) 0 1 =
     lead-ahead rows (left s) w (s .pre .1) 4 (lit≤ tt) 0 1 (lead-zero (w / 2 ^ 60) (omega (arith, s .fits .w .fits)) (omega (arith, c .if1 .taken))) in
-    found-zero rows rows-good 4 rows-short (left s) (below s) 0 1 zero (rows-zero .0) (rows-zero .1) (rows-zero .2)
+    found-zero rows rows-good 4 rows-short (left s) (below s) 0 1 one-bit (rows-zero .0) (rows-zero .1) (rows-zero .2)
     (omega (arith, s .pre .2, length-left (s .args .body .now) (s .args .at)))
 
 lead-of-requires : tie.Need-lead-of-requires

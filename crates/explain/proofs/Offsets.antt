@@ -1,21 +1,19 @@
 -- Laws of where a ratio's bytes stand: the body of the ratios' field in a run's record, and a ratio's bytes in it.
 use mathlib.Core.List.{List, [], _++_, append-nil}
-use mathlib.Core.Path.{_≡_, refl, sym, ap, subst, _∙_}
-use Prim.Native.Nat.{ℕ, _+_, _-_, _≤_, _<_}
+use mathlib.Core.Path.{_≡_, sym, ap, subst, _∙_}
+use Prim.Native.Nat.{ℕ, _+_, _≤_, _<_}
 use native.Mathlib.Omega.{arith}
-use lib.ListN.{length, getD, take, drop, length-append, length-drop}
+use lib.ListN.{length, getD, take, drop, length-drop}
 use lib.Seq.{take-all, take-at, drop-append-seam, drop-drop}
 use Rattle.limits.specs.Points.{maxPoints}
 use Rattle.ratio_format.specs.Bodies.{codedFrom, codedRatios}
 use Rattle.ratio_format.specs.Forms.{coded, written}
 use Rattle.ratio_format.specs.Windows.{windowSize}
-use Rattle.record_format.specs.Claims.{Accepted}
-use Rattle.record_format.specs.Fields.{Field, fieldOf, headSize, lengthAt, bodyAt, nextAt}
-use Rattle.record_format.specs.Reading.{rateAt, ratiosAt, endAt}
-use Rattle.record_format.specs.Runs.{Run, ratiosTag, fieldsOf, recordOf}
-use Rattle.record_format.proofs.Fields.{Stands, StandAll, length-field, laid-stand, stand-past}
-use Rattle.record_format.proofs.Runs.{fields-small}
-use Rattle.record_format.proofs.Writing.{Fitting, accepted-fits}
+use Rattle.record_format.specs.Fields.{fieldOf, bodyAt}
+use Rattle.record_format.specs.Runs.{Run, ratiosTag, recordOf}
+use Rattle.record_format.proofs.Fields.{length-field}
+use Rattle.record_format.proofs.ReadsBack.{at-end, ratios-stand}
+use Rattle.record_format.proofs.Writing.{Fitting}
 use Rattle.reasons.specs.Reasons.{windowAt, explained}
 use Rattle.reasons.specs.Claims.{formNamed}
 use Rattle.reasons.proofs.Claims.{names-form}
@@ -25,25 +23,14 @@ module _ (r : Run) (fit : Fitting r) (rest : List ℕ) where
   abbrev s : List ℕ
   s = recordOf r ++ rest
 
-  all : StandAll s rateAt (fieldsOf r)
-  unfolding recordOf
-  all = laid-stand [] (fieldsOf r) rest (fields-small r fit)
-
-  -- the ratios' field
-  ratios-stand : Stands s (ratiosAt s) (fieldOf ratiosTag (codedRatios (r .ratios)))
-  ratios-stand = all .1 .1 .1 .0
-
   -- its body ends where the record ends
   pub body-end : bodyIn s + length (codedRatios (r .ratios)) ≡ length (recordOf r)
-  unfolding recordOf
-  body-end =
-      let past : endAt s ≡ length (recordOf r) = stand-past s rateAt (fieldsOf r) all ∙ omega arith in
-      omega (arith, past, ratios-stand .next, length-field (fieldOf ratiosTag (codedRatios (r .ratios))))
+  body-end = omega (arith, at-end r fit rest, ratios-stand r fit rest .next, length-field (fieldOf ratiosTag (codedRatios (r .ratios))))
 
   -- so what stands after the offset where it begins is the body, and what follows the record
   pub body-within : take (length (codedRatios (r .ratios))) (drop (bodyIn s) s) ≡ codedRatios (r .ratios)
   unfolding bodyAt
-  body-within = ap (λ (n : ℕ). take n (drop (bodyIn s) s)) (sym (ratios-stand .stated)) ∙ ratios-stand .within
+  body-within = ap (λ (n : ℕ). take n (drop (bodyIn s) s)) (sym (ratios-stand r fit rest .stated)) ∙ ratios-stand r fit rest .within
 
 -- what follows the record moves it nowhere
 pub body-same : (r : Run) → Fitting r → (rest : List ℕ) → bodyIn (recordOf r ++ rest) ≡ bodyIn (recordOf r)

@@ -20,7 +20,7 @@ use Rattle.ratio_format.specs.Choice.{find, best}
 use Rattle.ratio_format.specs.Windows.{windowSize}
 use Rattle.ratio_format.specs.Zeros.{leadZeros, trailZeros}
 use Rattle.ratio_format.proofs.Choice.{found, best-at, bestXor}
-use Rattle.ratio_format.proofs.Windows.{back, reverse-below, window-few}
+use Rattle.ratio_format.proofs.Windows.{reverse-back, reverse-below, window-few}
 use Rattle.ratio_format.proofs.Zeros.{lead-le, trail-le}
 use Rattle.reasons.specs.declared.Reason.{Reason}
 use Rattle.reasons.specs.declared.Reason.the-variants.{Reference, Xor, Exception, Empty, Refused}
@@ -88,7 +88,7 @@ module _ (l : List ℕ) (v p s : ℕ) (known : (k : ℕ) → getD l k 0 < 2 ^ 64
       a ≡ leadZeros x → b ≡ trailZeros x → Xor p a b ≡ reasonOf v (reverse l)
   slice-xor n h a b ea eb =
       let same : bestXor v (reverse l) ≡ bitXor v (getD l (length l - 1 - p) 0) =
-      ap (λ (k : ℕ). bitXor v (getD (reverse l) k 0)) (sym place) ∙ ap (bitXor v) (back l p (slice-in h)) in
+      ap (λ (k : ℕ). bitXor v (getD (reverse l) k 0)) (sym place) ∙ ap (bitXor v) (reverse-back l p (slice-in h)) in
       let e = reason-xor v (reverse l) v64 all64 (λ e. n (sum ∙ e)) (omega (arith, sum)) in
       cc (same, place, e, ea, eb)
 

@@ -3,8 +3,10 @@ use mathlib.Core.Bool.{Bool, true, false, cond}
 use mathlib.Core.List.{List, _++_, append-assoc, reverse}
 use mathlib.Core.Path.{_≡_, refl, sym, ap, ap₂, subst, _∙_}
 use Prim.Native.Nat.{ℕ, zero, suc, _+_, _-_, _^_, _≤_, _<_}
+use native.Mathlib.Nat.{lt-of-not-le}
 use native.Mathlib.Omega.{arith}
 use borrow.Author.Tests.{ltb-true, ltb-false}
+use lib.Bits.{bitXor}
 use lib.Dec.{leb, ltb, eqb}
 use lib.ListN.{length, getD, take, drop, length-take, length-reverse, take-append-drop}
 use lib.Seq.{ext-getD, length-take-le}
@@ -15,13 +17,13 @@ use Rattle.ratio_format.specs.Bodies.{codedFrom, codedRatios}
 use Rattle.ratio_format.specs.Choice.{find, best, xorForm, ratioForm}
 use Rattle.ratio_format.specs.Forms.{written, coded}
 use Rattle.ratio_format.specs.Windows.{windowSize, windowOf}
-use Rattle.ratio_format.specs.Zeros.{sumOf}
+use Rattle.ratio_format.specs.Zeros.{leadZeros, trailZeros, sumOf}
 use Rattle.ratio_format.proofs.Bodies.{coded-on, coded-more}
 use Rattle.ratio_format.proofs.Choice.{best-at, best-most, best-first, best-xor, bestXor, find-at, find-first}
 use Rattle.ratio_window.proofs.Windows.{window-inside, window-has, window-at}
-use Rattle.reasons.specs.declared.Reason.the-variants.{Reference, Exception, Empty}
+use Rattle.reasons.specs.declared.Reason.the-variants.{Reference, Xor, Exception, Empty, Refused}
 use Rattle.reasons.specs.Reasons.{xorReason, reasonOf, windowAt, explained}
-use Rattle.reasons.specs.Claims.{NoneEqual, Says, SaysTrue, formNamed, NamesForm, OnlyWindow, RefusesExactly}
+use Rattle.reasons.specs.Claims.{NoneEqual, Says, SaysTrue, SaysOne, formNamed, NamesForm, OnlyWindow, RefusesExactly}
 use Rattle.reasons.proofs.Reasons.{reason-cases, explained-many, explained-past, explained-here}
 
 -- ---- of one ratio and its window
@@ -68,6 +70,53 @@ module _ (v : ℕ) (w : List ℕ) where
       go false true r = refl
       go false false true = refl
       go false false false = refl
+
+-- ---- no two reasons are true of it
+
+module _ (v : ℕ) (w : List ℕ) where
+  -- two places that no nearer one can stand for are the same
+  one-place : (p q : ℕ) → (p < q → ⊥) → (q < p → ⊥) → p ≡ q
+  one-place p q a b = omega (arith, lt-of-not-le (λ (g : p + 1 ≤ q). a (omega arith)), lt-of-not-le (λ (g : q + 1 ≤ p). b (omega arith)))
+
+  -- the sum of an xor reason is that at its place
+  xor-sum : (p l t : ℕ) → Says v w (Xor p l t) → sumOf v (getD w p 0) ≡ l + t
+  unfolding sumOf
+  xor-sum p l t h = ap₂ (λ (a b : ℕ). a + b) (sym (h .1)) (sym (h .2))
+
+  xor-one : (p l t q m u : ℕ) → Says v w (Xor p l t) → Says v w (Xor q m u) → Xor p l t ≡ Xor q m u
+  xor-one p l t q m u h g =
+      let a = xor-sum p l t h in
+      let b = xor-sum q m u g in
+      let sums : l + t ≡ m + u = omega (arith, h .5 q (g .0), g .5 p (h .0)) in
+      let place : p ≡ q = one-place p q (λ s. omega (arith, g .6 p s)) (λ s. omega (arith, h .6 q s)) in
+      let lead : l ≡ m = h .1 ∙ ap (λ (k : ℕ). leadZeros (bitXor v (getD w k 0))) place ∙ sym (g .1) in
+      let trail : t ≡ u = h .2 ∙ ap (λ (k : ℕ). trailZeros (bitXor v (getD w k 0))) place ∙ sym (g .2) in
+      ap (λ (k : ℕ). Xor k l t) place ∙ ap₂ (λ (a b : ℕ). Xor q a b) lead trail
+
+pub says-one : SaysOne
+says-one v w (Reference p) (Reference q) h g = ap Reference (one-place v w p q (λ s. g .2 p s (h .1)) (λ s. h .2 q s (g .1)))
+says-one v w (Reference p) (Xor q m u) h g = absurd (g .4 p (h .0) (h .1))
+says-one v w (Reference p) (Exception s) h g = absurd (g .3 p (h .0) (h .1))
+says-one v w (Reference p) Empty h g = absurd (omega (arith, h .0, g))
+says-one v w (Xor p l t) (Reference q) h g = absurd (h .4 q (g .0) (g .1))
+says-one v w (Xor p l t) (Xor q m u) h g = xor-one v w p l t q m u h g
+says-one v w (Xor p l t) (Exception s) h g = absurd (omega (arith, xor-sum v w p l t h, g .2 p (h .0), g .0, h .3))
+says-one v w (Xor p l t) Empty h g = absurd (omega (arith, h .0, g))
+says-one v w (Exception s) (Reference q) h g = absurd (h .3 q (g .0) (g .1))
+says-one v w (Exception s) (Xor q m u) h g = absurd (omega (arith, xor-sum v w q m u g, h .2 q (g .0), h .0, g .3))
+says-one v w (Exception s) (Exception r) h g =
+    let e : s ≡ r = omega (arith, h .1 .2, g .1 .2, h .2 (g .1 .0) (g .1 .1), g .2 (h .1 .0) (h .1 .1)) in
+    ap Exception e
+says-one v w (Exception s) Empty h g = absurd (omega (arith, h .1 .1, g))
+says-one v w Empty (Reference q) h g = absurd (omega (arith, g .0, h))
+says-one v w Empty (Xor q m u) h g = absurd (omega (arith, g .0, h))
+says-one v w Empty (Exception s) h g = absurd (omega (arith, g .1 .1, h))
+says-one v w Empty Empty h g = refl
+says-one v w (Refused n p) q h g = absurd h
+says-one v w (Reference p) (Refused n k) h g = absurd g
+says-one v w (Xor p l t) (Refused n k) h g = absurd g
+says-one v w (Exception s) (Refused n k) h g = absurd g
+says-one v w Empty (Refused n k) h g = absurd g
 
 -- ---- of a run's ratios
 

@@ -2,6 +2,7 @@
 --   NoneEqual v w n   no ratio of the window w before place n is v
 --   Says v w r        what the reason r says of the ratio v is true of the window w
 --   SaysTrue          the answer for an index says what is true of the window there
+--   SaysOne           no two answers are true of the same ratio and window
 --   formNamed v w r   the form of v that the reason r names
 --   NamesForm         it is the form that the writer chooses there, and its bytes are those at that point of the body of the whole run
 --   OnlyWindow        the answer goes by the ratio at the index and the 127 before it, and by no other
@@ -47,6 +48,10 @@ Says v w (Refused n p) = ⊥
 -- the answer is true of the window at the index
 abbrev pub SaysTrue : Type 0
 SaysTrue = (vs : List ℕ) (i : ℕ) → length vs ≤ maxPoints → i < length vs → Says (getD vs i 0) (windowAt vs i) (explained vs i)
+
+-- so it is the only answer that is true of it
+abbrev pub SaysOne : Type 0
+SaysOne = (v : ℕ) (w : List ℕ) (r q : Reason) → Says v w r → Says v w q → r ≡ q
 
 -- a reference; the xor's middle between the zero bytes; an exception
 abbrev pub formNamed : ℕ → List ℕ → Reason → RatioForm

@@ -8,7 +8,8 @@ use native.Mathlib.Omega.{arith}
 use borrow.Author.Tests.{ne-eqb}
 use lib.ListN.{length, take}
 use Rattle.limits.specs.Points.{maxPoints}
-use Rattle.record_format.specs.Claims.{Accepted, ownAnswer}
+use Rattle.ratio_format.specs.Forms.{coded}
+use Rattle.record_format.specs.Claims.{Accepted}
 use Rattle.record_format.specs.Reading.{Answer}
 use Rattle.record_format.specs.Runs.{Run, recordOf}
 use Rattle.record_format.proofs.Writing.{accepted-fits}
@@ -22,7 +23,8 @@ use Rattle.explain.proofs.Offsets.{body-same, ratio-bytes}
 use Rattle.explain.proofs.Printed.{point-lines, point-past}
 
 pub bytes-there : BytesThere
-bytes-there r a i h = ratio-bytes r (accepted-fits r (a .passes)) i h
+unfolding coded
+bytes-there r a i h = (ratio-bytes r (accepted-fits r (a .passes)) i h, refl)
 
 -- of a record, whatever follows, the text for the index
 record-text : (r : Run) → Accepted r → (rest t : List ℕ) → printed (recordOf r ++ rest) t ≡ indexText (bodyIn (recordOf r)) (r .ratios) (indexOf t)

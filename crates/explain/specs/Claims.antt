@@ -1,5 +1,6 @@
 -- Document 02, No. 1, the program, as statements about runs; proved in proofs/Claims.
---   BytesThere      the bytes that the first line speaks of are those of the record: the writer's form of that ratio, at that offset
+--   BytesThere      the bytes that the first line speaks of are those of the record: from the offset on stand the bytes of the writer's form of
+--                   that ratio, which is the one that the reason names (NamesForm), as many as it says, and then those of the ratios after it
 --   PrintsReason    of input that begins with the record of an accepted run, and an index below its count, the program prints cost and
 --                   reason, whatever follows
 --   PrintsPast      of such input and any other text `refused 22 at 0`
@@ -9,23 +10,27 @@ use mathlib.Core.Option.{none, some}
 use mathlib.Core.Path.{_≡_}
 use mathlib.Core.Logic.{_⊎_}
 use Prim.Native.Nat.{ℕ, _+_, _≤_, _<_}
-use lib.ListN.{length, getD, take, drop}
-use Rattle.ratio_format.specs.Forms.{coded, written}
+use lib.ListN.{length, getD, drop}
+use Rattle.ratio_format.specs.Bodies.{codedFrom}
+use Rattle.ratio_format.specs.Choice.{ratioForm}
+use Rattle.ratio_format.specs.Forms.{written}
+use Rattle.ratio_format.specs.Windows.{windowSize}
 use Rattle.record_format.specs.Claims.{Accepted, Beginning, Bytes}
 use Rattle.record_format.specs.Runs.{Run, recordOf}
 use Rattle.text.specs.Lines.{refusedLine}
-use Rattle.reasons.specs.Claims.{formNamed}
 use Rattle.reasons.specs.Reasons.{windowAt, explained}
 use Rattle.inputs.specs.Inputs.{readInput}
 use Rattle.explain.specs.Indexes.{indexOf}
 use Rattle.explain.specs.Lines.{costLine, reasonLine}
 use Rattle.explain.specs.Printed.{bodyIn, costOf, offsetOf, printed}
 
--- as many bytes as the first line says, from the offset that it says, in the record, are the form that the reason names
+-- what stands from the offset on to the end of the record fixes the offset
 abbrev pub BytesThere : Type 0
 BytesThere = (r : Run) → Accepted r → (i : ℕ) → i < length (r .ratios)
     → let v = getD (r .ratios) i 0 in let w = windowAt (r .ratios) i in
-    take (costOf (r .ratios) i) (drop (offsetOf (bodyIn (recordOf r)) (r .ratios) i) (recordOf r)) ≡ written v (formNamed v w (explained (r .ratios) i))
+    (drop (offsetOf (bodyIn (recordOf r)) (r .ratios) i) (recordOf r)
+    ≡ written v (ratioForm v w) ++ codedFrom windowSize (windowAt (r .ratios) (i + 1)) (drop (i + 1) (r .ratios)))
+    × (costOf (r .ratios) i ≡ length (written v (ratioForm v w)))
 
 -- both lines
 abbrev pub PrintsReason : Type 0

@@ -1,6 +1,6 @@
 -- Document 02, No. 1: what the program prints, given a record's bytes and the text of an index.
 --   bodyLimit            how many bytes the body of a run's ratios has at most
---   argumentLimit        how many bytes of an argument it reads at most: Linux passes no longer one
+--   argumentLimit        how many bytes of an argument it reads at most: Linux passes no longer one, where a page has 4,096 bytes
 --   textLimit            how many bytes it prints at most
 --   bodyIn s             the offset of the body of the ratios' field in the bytes s
 --   costOf vs i          how many bytes the ratio of index i takes
@@ -31,7 +31,7 @@ use Rattle.explain.specs.Lines.{costLine, reasonLine}
 abbrev pub bodyLimit : ℕ
 bodyLimit = 9 * maxPoints
 
--- no argument of a program is as long
+-- 32 pages of 4,096 bytes, with the 0 that ends an argument
 abbrev pub argumentLimit : ℕ
 argumentLimit = 131072
 

@@ -1,8 +1,9 @@
 -- What document 02 says of the reason for a ratio's bytes holds.
 use mathlib.Core.Bool.{Bool, true, false, cond}
 use mathlib.Core.List.{List, _++_, append-assoc, reverse}
+use mathlib.Core.Option.{some}
 use mathlib.Core.Path.{_≡_, refl, sym, ap, ap₂, subst, _∙_}
-use Prim.Native.Nat.{ℕ, zero, suc, _+_, _-_, _^_, _≤_, _<_}
+use Prim.Native.Nat.{ℕ, _+_, _-_, _≤_, _<_, min}
 use native.Mathlib.Nat.{lt-of-not-le}
 use native.Mathlib.Omega.{arith}
 use borrow.Author.Tests.{ltb-true, ltb-false}
@@ -11,7 +12,6 @@ use lib.Dec.{leb, ltb, eqb}
 use lib.ListN.{length, getD, take, drop, length-take, length-reverse, take-append-drop}
 use lib.Seq.{ext-getD, length-take-le}
 use Rattle.limits.specs.Points.{maxPoints}
-use Rattle.ratio_format.specs.declared.RatioForm.{RatioForm}
 use Rattle.ratio_format.specs.declared.RatioForm.the-variants.{Reference as ByPlace, Xor as ByXor, Exception as Literal}
 use Rattle.ratio_format.specs.Bodies.{codedFrom, codedRatios}
 use Rattle.ratio_format.specs.Choice.{find, best, xorForm, ratioForm}
@@ -23,7 +23,7 @@ use Rattle.ratio_format.proofs.Choice.{best-at, best-most, best-first, best-xor
 use Rattle.ratio_window.proofs.Windows.{window-inside, window-has, window-at}
 use Rattle.reasons.specs.declared.Reason.the-variants.{Reference, Xor, Exception, Empty, Refused}
 use Rattle.reasons.specs.Reasons.{xorReason, reasonOf, windowAt, explained}
-use Rattle.reasons.specs.Claims.{NoneEqual, Says, SaysTrue, SaysOne, formNamed, NamesForm, OnlyWindow, RefusesExactly}
+use Rattle.reasons.specs.Claims.{NoneEqual, Says, SaysTrue, WindowIs, SaysOne, formNamed, NamesForm, OnlyWindow, RefusesExactly}
 use Rattle.reasons.proofs.Reasons.{reason-cases, explained-many, explained-past, explained-here}
 
 -- ---- of one ratio and its window
@@ -59,13 +59,13 @@ module _ (v : ℕ) (w : List ℕ) where
       (λ h p g. (g, some-best p, (λ q q<. best-most v w q q<), none-equal h))
 
   -- the reason's form is the one that is chosen
-  reason-names : formNamed v w (reasonOf v w) ≡ ratioForm v w
+  reason-names : formNamed v w (reasonOf v w) ≡ some (ratioForm v w)
   unfolding reasonOf ratioForm
   reason-names = go (ltb (find v w) (length w)) (leb 2 (best v w .sum)) (eqb (length w) 0)
     where
       go : (t s r : Bool)
           → formNamed v w (cond t (Reference (find v w)) (cond s (xorReason (best v w .place) (bestXor v w)) (cond r Empty (Exception (best v w .sum)))))
-          ≡ cond t (ByPlace (find v w)) (cond s (xorForm (best v w .place) (bestXor v w)) Literal)
+          ≡ some (cond t (ByPlace (find v w)) (cond s (xorForm (best v w .place) (bestXor v w)) Literal))
       go true s r = refl
       go false true r = refl
       go false false true = refl
@@ -128,14 +128,20 @@ unfolding coded
 names-form vs i few h =
     let v = getD vs i 0 in
     let w = windowAt vs i in
-    let f : formNamed v w (explained vs i) ≡ ratioForm v w = ap (formNamed v w) (explained-here vs i few h) ∙ reason-names v w in
-    let rest = codedFrom windowSize (windowAt vs (i + 1)) (drop (i + 1) vs) in
-    let e : codedRatios vs ≡ codedRatios (take i vs) ++ (coded v w ++ rest) =
-    ap codedRatios (sym (take-append-drop (i + 1) vs))
-    ∙ coded-on windowSize (take (i + 1) vs) (drop (i + 1) vs)
-    ∙ ap (λ (l : List ℕ). l ++ rest) (coded-more windowSize vs i h)
-    ∙ append-assoc (codedRatios (take i vs)) (coded v w) rest in
-    (f, e ∙ ap (λ (g : RatioForm). codedRatios (take i vs) ++ (written v g ++ rest)) (sym f))
+    let rest = codedFrom windowSize (windowAt vs (i + 1)) (drop (i + 1) vs) in (
+      ap (formNamed v w) (explained-here vs i few h) ∙ reason-names v w,
+      ap codedRatios (sym (take-append-drop (i + 1) vs))
+          ∙ coded-on windowSize (take (i + 1) vs) (drop (i + 1) vs)
+          ∙ ap (λ (l : List ℕ). l ++ rest) (coded-more windowSize vs i h)
+          ∙ append-assoc (codedRatios (take i vs)) (coded v w) rest,
+    )
+
+-- how many ratios the window holds, and which
+window-size : (vs : List ℕ) (i : ℕ) → i ≤ length vs → length (windowAt vs i) ≡ min windowSize i
+window-size vs i h = omega (arith, length-take windowSize (reverse (take i vs)), length-reverse (take i vs), length-take-le i vs h)
+
+pub window-is : WindowIs
+window-is vs i h = (window-size vs i h, λ p p<. window-at windowSize vs i h p (omega arith) (omega arith))
 
 -- windows of lists that agree in the last 127 ratios
 window-same : (vs us : List ℕ) (i : ℕ) → i < length vs → i < length us → ((j : ℕ) → j ≤ i → i ≤ j + windowSize → getD vs j 0 ≡ getD us j 0)
@@ -143,16 +149,7 @@ window-same : (vs us : List ℕ) (i : ℕ) → i < length vs → i < length us �
 window-same vs us i hv hu same = ext-getD 0 (windowAt vs i) (windowAt us i) sizes at
   where
     sizes : length (windowAt vs i) ≡ length (windowAt us i)
-    sizes =
-        omega (
-          arith,
-          length-take windowSize (reverse (take i vs)),
-          length-take windowSize (reverse (take i us)),
-          length-reverse (take i vs),
-          length-reverse (take i us),
-          length-take-le i vs (omega arith),
-          length-take-le i us (omega arith),
-        )
+    sizes = window-size vs i (omega arith) ∙ sym (window-size us i (omega arith))
 
     at : (p : ℕ) → p < length (windowAt vs i) → getD (windowAt vs i) p 0 ≡ getD (windowAt us i) p 0
     at p p< =
@@ -168,4 +165,5 @@ only-window vs us i fv fu hv hu same =
     ∙ sym (explained-here us i fu hu)
 
 pub refuses-exactly : RefusesExactly
-refuses-exactly vs i = (explained-many vs i, explained-past vs i)
+refuses-exactly vs i =
+    (explained-many vs i, explained-past vs i, λ few h n p e. subst (Says (getD vs i 0) (windowAt vs i)) e (says-true vs i few h))

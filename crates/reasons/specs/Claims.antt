@@ -1,15 +1,17 @@
 -- Document 02, No. 1, as statements about the answer `explained`; proved in proofs/Claims.
---   NoneEqual v w n   no ratio of the window w before place n is v
+--   NoneEqual v w n   no ratio of the window w before place n is v; NoneAbove v w s: none of it has a sum above s
 --   Says v w r        what the reason r says of the ratio v is true of the window w
 --   SaysTrue          the answer for an index says what is true of the window there
 --   SaysOne           no two answers are true of the same ratio and window
---   formNamed v w r   the form of v that the reason r names
+--   WindowIs          what that window holds: the ratio before the index at place 0, up to 127 of them, and not the ratio itself
+--   formNamed v w r   the form of v that the reason r names; a refusal names none
 --   NamesForm         it is the form that the writer chooses there, and its bytes are those at that point of the body of the whole run
 --   OnlyWindow        the answer goes by the ratio at the index and the 127 before it, and by no other
---   RefusesExactly    it is the refusal 3 for more than 4,096 ratios, and else 22 for an index not below their number
+--   RefusesExactly    it is the refusal 3 for more than 4,096 ratios, else 22 for an index not below their number, and else no refusal
 use mathlib.Core.List.{List, _++_}
+use mathlib.Core.Option.{Option, none, some}
 use mathlib.Core.Path.{_≡_}
-use Prim.Native.Nat.{ℕ, _+_, _-_, _/_, _^_, _≤_, _<_}
+use Prim.Native.Nat.{ℕ, _+_, _-_, _/_, _^_, _≤_, _<_, min}
 use lib.Bits.{bitXor}
 use lib.ListN.{length, getD, take, drop}
 use Rattle.limits.specs.Points.{maxPoints}
@@ -49,24 +51,29 @@ Says v w (Refused n p) = ⊥
 abbrev pub SaysTrue : Type 0
 SaysTrue = (vs : List ℕ) (i : ℕ) → length vs ≤ maxPoints → i < length vs → Says (getD vs i 0) (windowAt vs i) (explained vs i)
 
+-- place p is the ratio p + 1 before the index, as far as 127 and as the ratios go
+abbrev pub WindowIs : Type 0
+WindowIs = (vs : List ℕ) (i : ℕ) → i ≤ length vs
+    → (length (windowAt vs i) ≡ min windowSize i) × ((p : ℕ) → p < min windowSize i → getD (windowAt vs i) p 0 ≡ getD vs (i - 1 - p) 0)
+
 -- so it is the only answer that is true of it
 abbrev pub SaysOne : Type 0
 SaysOne = (v : ℕ) (w : List ℕ) (r q : Reason) → Says v w r → Says v w q → r ≡ q
 
 -- a reference; the xor's middle between the zero bytes; an exception
-abbrev pub formNamed : ℕ → List ℕ → Reason → RatioForm
-formNamed v w (Reference p) = ByPlace p
-formNamed v w (Xor p l t) = ByXor p t (8 - (l + t)) (bitXor v (getD w p 0) / 256 ^ t)
-formNamed v w (Exception s) = Literal
-formNamed v w Empty = Literal
-formNamed v w (Refused n p) = Literal
+abbrev pub formNamed : ℕ → List ℕ → Reason → Option RatioForm
+formNamed v w (Reference p) = some (ByPlace p)
+formNamed v w (Xor p l t) = some (ByXor p t (8 - (l + t)) (bitXor v (getD w p 0) / 256 ^ t))
+formNamed v w (Exception s) = some Literal
+formNamed v w Empty = some Literal
+formNamed v w (Refused n p) = none
 
 -- the writer's form there, and the bytes there: after those of the ratios before it, and before those of the ratios after it
 abbrev pub NamesForm : Type 0
 NamesForm = (vs : List ℕ) (i : ℕ) → length vs ≤ maxPoints → i < length vs
-    → let v = getD vs i 0 in let w = windowAt vs i in let f = formNamed v w (explained vs i) in
-    (f ≡ ratioForm v w)
-    × (codedRatios vs ≡ codedRatios (take i vs) ++ (written v f ++ codedFrom windowSize (windowAt vs (i + 1)) (drop (i + 1) vs)))
+    → let v = getD vs i 0 in let w = windowAt vs i in
+    (formNamed v w (explained vs i) ≡ some (ratioForm v w))
+    × (codedRatios vs ≡ codedRatios (take i vs) ++ (written v (ratioForm v w) ++ codedFrom windowSize (windowAt vs (i + 1)) (drop (i + 1) vs)))
 
 -- two runs that have the same ratio at the index and the same 127 before it get the same answer
 abbrev pub OnlyWindow : Type 0
@@ -77,3 +84,4 @@ OnlyWindow = (vs us : List ℕ) (i : ℕ) → length vs ≤ maxPoints → length
 abbrev pub RefusesExactly : Type 0
 RefusesExactly = (vs : List ℕ) (i : ℕ)
     → (maxPoints < length vs → explained vs i ≡ Refused 3 0) × (length vs ≤ maxPoints → length vs ≤ i → explained vs i ≡ Refused 22 0)
+    × (length vs ≤ maxPoints → i < length vs → (n p : ℕ) → explained vs i ≡ Refused n p → ⊥)

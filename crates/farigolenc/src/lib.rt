@@ -1,5 +1,6 @@
 // The calls for a host program in C; include/farigolenc.h declares them. Each passes a call of the library on, with the same contract.
 ghost use mathlib.Core.Path.{_≡_};
+ghost use Prim.Native.Nat.{_^_, _<_};
 ghost use Rattle.kind.specs.Kinds.{kindOf};
 ghost use Rattle.span.specs.Spans.{spanned};
 ghost use Rattle.ratio_format.specs.Lives.{freshLive, addAnswer, addOutput, addState};
@@ -7,7 +8,9 @@ ghost use Rattle.ratio_format.specs.Stepping.{made, madeCursor, stepAnswer, ste
 ghost use Rattle.record_format.specs.Runs.{run};
 ghost use Rattle.record_format.specs.Writing.{writeAnswer, writeOutput};
 ghost use Rattle.record_format.specs.Reading.{readStrict, readOpen};
+ghost use Rattle.reasons.specs.Reasons.{explained};
 ghost use Rattle.farigolenc.specs.Kinds.{kindNumbers};
+ghost use Rattle.farigolenc.specs.Reasons.{reasonNumbers};
 use kind::Kind;
 use live::adding::add;
 use live::stepping::Begun;
@@ -15,6 +18,7 @@ use live::stepping::Step;
 use ratio_format::AddAnswer;
 use ratio_format::Cursor;
 use ratio_format::Live;
+use reasons::Reason;
 use record_format::ReadAnswer;
 use record_format::WriteAnswer;
 use span::SpanAnswer;
@@ -106,6 +110,64 @@ pub extern "C" fn farigolenc_read_open(
         × (now (ratios .exit) ≡ readOpen expected (now (input .entry)) (now (positions .entry)) (now (ratios .entry)) .ratios) ⌝ }
 {
     record_codec::read_open(expected, input, positions, ratios)
+}
+
+// Why a ratio takes its bytes: reason 1, equal to the ratio at a place; 2, the xor with the ratio at a place, with its zero bytes and their
+// sum; 3, an exception with the best sum found; 4, an exception since the window is empty; 0, a refusal.
+#[repr(C)]
+pub struct ExplainAnswer {
+    pub number: u32,
+    pub place: u32,
+    pub reason: u32,
+    pub at: u32,
+    pub leading: u32,
+    pub trailing: u32,
+    pub sum: u32,
+}
+
+// The numbers of a reason, which are all small.
+fn reason_numbers(
+    reason: u32,
+    at: usize,
+    leading: usize,
+    trailing: usize,
+    sum: usize,
+) -> ExplainAnswer
+    requires { ⌜ (at < 2 ^ 32) × (leading < 2 ^ 32) × (trailing < 2 ^ 32) × (sum < 2 ^ 32) ⌝ }
+    ensures { λ r. ⌜ r ≡ record { number = 0; place = 0; reason = reason; at = at; leading = leading; trailing = trailing; sum = sum } ⌝ }
+{
+    ExplainAnswer {
+        number: 0,
+        place: 0,
+        reason,
+        at: at as u32,
+        leading: leading as u32,
+        trailing: trailing as u32,
+        sum: sum as u32,
+    }
+}
+
+// The reason for the ratio of an index among a run's ratios.
+#[no_mangle]
+pub extern "C" fn farigolenc_explain(ratios: &[u64], index: u64) -> ExplainAnswer
+    ensures { λ r. ⌜ r ≡ reasonNumbers (explained (now (ratios .entry)) index) ⌝ }
+{
+    let r = reasons::explain(ratios, index);
+    match r {
+        Reason::Reference(place) => reason_numbers(1, place, 0, 0, 0),
+        Reason::Xor { place, lead, trail } => reason_numbers(2, place, lead, trail, lead + trail),
+        Reason::Exception(sum) => reason_numbers(3, 0, 0, 0, sum),
+        Reason::Empty => reason_numbers(4, 0, 0, 0, 0),
+        Reason::Refused(number, place) => ExplainAnswer {
+            number,
+            place,
+            reason: 0,
+            at: 0,
+            leading: 0,
+            trailing: 0,
+            sum: 0,
+        },
+    }
 }
 
 // Where a live coding starts.

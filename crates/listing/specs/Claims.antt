@@ -6,15 +6,14 @@
 use mathlib.Core.List.{List, [], _++_}
 use mathlib.Core.Path.{_≡_}
 use Prim.Native.Nat.{ℕ}
-use lib.ListN.{take}
 use Rattle.record_format.specs.Claims.{Accepted, Beginning, Bytes}
 use Rattle.record_format.specs.Examples.{listedBytes}
-use Rattle.record_format.specs.Reading.{readStrict}
 use Rattle.record_format.specs.Runs.{Run, recordOf}
 use Rattle.span.specs.Spans.{spanned}
 use Rattle.text.specs.Examples.{listedText, refusedText}
 use Rattle.text.specs.Lines.{refusedLine, listing}
-use Rattle.listing.specs.Printed.{inputLimit, blank, printed}
+use Rattle.inputs.specs.Inputs.{readInput}
+use Rattle.listing.specs.Printed.{printed}
 
 -- of a run
 abbrev pub listingOf : Run → List ℕ
@@ -27,7 +26,7 @@ PrintsRun = (r : Run) → Accepted r → (rest : List ℕ) → printed (recordOf
 -- of all else: the refusal of the bytes that the program reads
 abbrev pub PrintsOnly : Type 0
 PrintsOnly = (s : List ℕ) → Bytes s → ((r : Run) → Accepted r → Beginning (recordOf r) s → ⊥)
-    → let a = readStrict 0 (take inputLimit s) blank blank .answer in (a .number ≡ 0 → ⊥) × (printed s ≡ refusedLine (a .number) (a .place))
+    → let a = readInput s .answer in (a .number ≡ 0 → ⊥) × (printed s ≡ refusedLine (a .number) (a .place))
 
 -- document 01's example, and no input
 abbrev pub PrintsListed : Type 0

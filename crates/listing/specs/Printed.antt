@@ -1,32 +1,22 @@
 -- Document 01, "Bytes to compare", the listing: what the program prints.
---   inputLimit      how many bytes the program reads at most
 --   textLimit       how many bytes it prints at most
---   blank           an output with room for every run, all 0
 --   runText a       the text of the run that a reading answered
 --   textOf a        the text for the answer a of a reading: that run, or the line of the refusal
---   printed s       the text for the input s: at most inputLimit bytes of it, read strictly, with no rate expected
+--   printed s       the text for the input s
 use mathlib.Core.Bool.{cond}
 use mathlib.Core.List.{List}
 use Prim.Native.Nat.{ℕ, _+_, _*_}
 use lib.Dec.{eqb}
-use lib.ListN.{take, replicate}
+use lib.ListN.{take}
 use Rattle.limits.specs.Points.{maxPoints}
-use Rattle.record_format.specs.Sizes.{maxRecord}
-use Rattle.record_format.specs.Reading.{Answer, readStrict}
+use Rattle.record_format.specs.Reading.{Answer}
 use Rattle.span.specs.Spans.{spanned}
 use Rattle.text.specs.Lines.{refusedLine, listing}
-
--- those of the longest record
-abbrev pub inputLimit : ℕ
-inputLimit = maxRecord
+use Rattle.inputs.specs.Inputs.{readInput}
 
 -- 80 for the lines of rate, count and span, and 38 for each point
 abbrev pub textLimit : ℕ
 textLimit = 80 + 38 * maxPoints
-
--- 4,096 numbers, all 0
-unfoldable pub blank : List ℕ
-blank = replicate maxPoints 0
 
 -- the first `count` numbers of an output are the run's
 unfoldable pub runText : Answer → List ℕ
@@ -41,4 +31,4 @@ textOf a = cond (eqb (a .answer .number) 0) (runText a) (refusedLine (a .answer 
 
 -- the program's whole output
 abbrev pub printed : List ℕ → List ℕ
-printed s = textOf (readStrict 0 (take inputLimit s) blank blank)
+printed s = textOf (readInput s)

@@ -2,37 +2,22 @@
 ghost use mathlib.Core.Path.{_≡_};
 ghost use Prim.Native.Nat.{_≤_};
 ghost use lib.ListN.{length};
-ghost use Rattle.listing.specs.Printed.{inputLimit, textLimit, blank, printed};
+ghost use Rattle.inputs.specs.Inputs.{inputLimit};
+ghost use Rattle.listing.specs.Printed.{textLimit, printed};
 ghost use Rattle.text.specs.PlacedAt.{PlacedAt};
+use inputs::input_room;
+use inputs::numbers_room;
 use libc::STDIN_FILENO;
 use libc::STDOUT_FILENO;
-use limits::MAX_POINTS;
-
-// As many bytes as the program reads: those of the longest record.
-const INPUT: usize = 55321;
 
 // As many bytes as the longest text has: 80 for the first three lines, and 38 for each of 4,096 points.
 const TEXT: usize = 155728;
-
-// Room for the input.
-fn input_room() -> [u8; INPUT]
-    ensures { λ r. ⌜ inputLimit ≡ length r ⌝ }
-{
-    [0; INPUT]
-}
 
 // Room for the text.
 fn output_room() -> [u8; TEXT]
     ensures { λ r. ⌜ textLimit ≡ length r ⌝ }
 {
     [0; TEXT]
-}
-
-// Room for the numbers of every run.
-fn numbers_room() -> [u64; MAX_POINTS]
-    ensures { λ r. ⌜ r ≡ blank ⌝ }
-{
-    [0; MAX_POINTS]
 }
 
 // Puts the text for an input into an output, and returns its length.

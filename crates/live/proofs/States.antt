@@ -54,7 +54,7 @@ module _ (b : List ℕ) (c : Cursor) where
 
   -- no ratio, and the state stays; or a ratio that ends within the body
   data Finding (f : Found) : Type 0 where
-    none : (n : ℕ) → 0 < n → f ≡ nothing n → (stepAnswer b c ≡ refusal n) × (stepCursor b c ≡ c) → Finding f
+    not-found : (n : ℕ) → 0 < n → f ≡ nothing n → (stepAnswer b c ≡ refusal n) × (stepCursor b c ≡ c) → Finding f
     one : (v k : ℕ) → Good b c → c .place + k ≤ length b → f ≡ something v k → (stepAnswer b c ≡ given v) × (stepCursor b c ≡ moved c v k) → Finding f
 
   module _ (f : Found) (e : f ≡ stepFound b c) where
@@ -62,7 +62,7 @@ module _ (b : List ℕ) (c : Cursor) where
     finding = go (outcome b c)
       where
         no-ratio : (n : ℕ) → 0 < n → (stepAnswer b c ≡ refusal n) × (stepCursor b c ≡ c) → Finding f
-        no-ratio n h t = none n h (e ∙ found-none n t) t
+        no-ratio n h t = not-found n h (e ∙ found-none n t) t
 
         go : Outcome b c → Finding f
         go (Outcome.bad g) = no-ratio 7 (omega arith) (left-bad b c g)
@@ -79,7 +79,7 @@ module _ (b : List ℕ) (c : Cursor) where
     place-within m hc hb = go finding
       where
         go : Finding f → c .place + f .used < m
-        go (none n h q t) = omega (arith, ap (λ (g : Found). g .used) q)
+        go (not-found n h q t) = omega (arith, ap (λ (g : Found). g .used) q)
         go (one v k g h q t) = omega (arith, ap (λ (g : Found). g .used) q)
 
     -- with a ratio the state is not bad
@@ -87,7 +87,7 @@ module _ (b : List ℕ) (c : Cursor) where
     seen-within z = go finding
       where
         go : Finding f → c .seen ≤ maxPoints
-        go (none n h q t) = absurd (omega (arith, ap (λ (g : Found). g .number) q))
+        go (not-found n h q t) = absurd (omega (arith, ap (λ (g : Found). g .number) q))
         go (one v k g h q t) = omega (arith, g .seen, g .count)
 
     -- ---- the answer and the state by its parts
@@ -96,7 +96,7 @@ module _ (b : List ℕ) (c : Cursor) where
     answer-of = go finding
       where
         go : Finding f → answerBy f ≡ stepAnswer b c
-        go (none n h q t) = ap answerBy q ∙ sym (t .0)
+        go (not-found n h q t) = ap answerBy q ∙ sym (t .0)
         go (one v k g h q t) = ap answerBy q ∙ sym (t .0)
 
     module _ (n : ℕ) (w : Window) where
@@ -104,7 +104,7 @@ module _ (b : List ℕ) (c : Cursor) where
       state-none z en ew = go finding
         where
           go : Finding f → nextBy c (f .used) n w ≡ stepCursor b c
-          go (none m h q t) =
+          go (not-found m h q t) =
               let u : c .place + f .used ≡ c .place = omega (arith, ap (λ (g : Found). g .used) q) in
               ap (λ (p : ℕ). record { place = p; count = c .count; seen = n; window = w }) u
               ∙ ap₂ (λ (k : ℕ) (x : Window). record { place = c .place; count = c .count; seen = k; window = x }) en ew
@@ -115,7 +115,7 @@ module _ (b : List ℕ) (c : Cursor) where
       state-ratio z en ew = go finding
         where
           go : Finding f → nextBy c (f .used) n w ≡ stepCursor b c
-          go (none m h q t) = absurd (omega (arith, ap (λ (g : Found). g .number) q))
+          go (not-found m h q t) = absurd (omega (arith, ap (λ (g : Found). g .number) q))
           go (one v k g h q t) =
               ap (λ (g : Found). nextBy c (g .used) n w) q
               ∙ ap₂ (nextBy c k) en (ew ∙ ap (λ (g : Found). pushed (c .window) (g .ratio)) q)

@@ -2,8 +2,9 @@
 // `add` with that coder's call in the place of `encode`: the tests before it are test_state, and what follows is added.
 ghost use mathlib.Core.Path.{_≡_};
 ghost use Prim.Native.Nat.{_<_};
-ghost use lib.ListN.{length, replicate};
+ghost use lib.ListN.{length};
 ghost use Rattle.limits.specs.Points.{maxPoints};
+ghost use Rattle.outputs.specs.Outputs.{zeros};
 ghost use Rattle.ratio_format.specs.Lives.{addAnswer, addOutput, addState};
 ghost use Rattle.live.specs.States.{badFill, badCounts, stateNumber, liveOf};
 ghost use Rattle.live.specs.Additions.{wroteAnswer, wroteState, wroteOutput};
@@ -59,7 +60,7 @@ fn test_state(fill: u64, seen: u64) -> u32
 fn refuse(number: u32, state: Live, out: &mut [u8]) -> Addition
     ensures { λ r. ⌜ (r .answer ≡ record { number = number; place = 0; length = 0 })
         × (r .state ≡ state)
-        × (now (out .exit) ≡ replicate (length (now (out .entry))) 0) ⌝ }
+        × (now (out .exit) ≡ zeros (now (out .entry))) ⌝ }
 {
     clear_bytes(out);
     let answer = AddAnswer {

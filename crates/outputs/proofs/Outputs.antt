@@ -5,7 +5,7 @@ use Prim.Native.Nat.{ℕ, _+_, _≤_}
 use native.Mathlib.Nat.{add-assoc}
 use native.Mathlib.Omega.{arith}
 use lib.ListN.{length, take, drop, length-append, length-drop}
-use lib.Seq.{length-take-le, take-at, drop-at, drop-drop, drop-append-add}
+use lib.Seq.{length-take-le, take-at, drop-at, drop-drop}
 use Rattle.outputs.specs.Outputs.{overAt}
 
 module _ (xs : List ℕ) (at n : ℕ) (vs : List ℕ) (len : length vs ≡ n) (room : at + n ≤ length xs) where

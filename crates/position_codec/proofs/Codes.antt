@@ -19,8 +19,8 @@ codeOf p x k y = record { size = p; prefix = x; width = k; rest = y }
 -- the table holds z, its row is that of index i, and the row has the prefix x of p bits and k bits after it
 pub coded-by : (rs : List Row) (z : ℤ) → inTable rs z ≡ true → (i : ℕ) → rowOf rs z ≡ i → (p x k y : ℕ)
     → 0 < p → p ≤ 64 → x < 2 ^ p → k ≤ 64 → getD rs i noRow .prefix ≡ bitsOf p x → getD rs i noRow .width ≡ k → y ≡ residue k z → Coded rs z (codeOf p x k y)
-coded-by rs z e i is p x k y some short x< narrow prefix width ey = record {
-  some = some;
+coded-by rs z e i is p x k y prefixed short x< narrow prefix width ey = record {
+  prefixed = prefixed;
   short = short;
   prefix = x<;
   narrow = narrow;

@@ -8,25 +8,20 @@ use native.Mathlib.Omega.{arith}
 use borrow.Author.Tests.{ltb-true, leb-true, le-ltb, lt-ltb, eqb-true, eqb-false}
 use lib.Dec.{ltb, leb, eqb}
 use lib.IntN.{ℤ, pos, natAbs}
-use lib.ListN.{length, getD, take, drop}
+use lib.ListN.{length, getD}
 use lib.Signed.{leZ}
 use mir.Syntax.{w64}
 use mir.Val.{toZ, ofZ}
 use Rattle.lists.specs.Compare.{both, begins}
-use Rattle.lists.specs.Below.{Below}
 use Rattle.lists.specs.Lists.{firstIndex}
 use Rattle.lists.proofs.Compare.{both-true}
-use Rattle.bits.specs.Digits.{digitsOf, bitsOf, numberOf}
-use Rattle.bits.specs.Packing.{ahead}
-use Rattle.bits.proofs.Ahead.{ahead-first}
+use Rattle.bits.specs.Digits.{digitsOf, bitsOf}
 use Rattle.position_format.specs.Rows.{Row, row, rows, neg, code, codeLength, reading, noRow, rowOf}
 use Rattle.position_format.proofs.Integers.{at-least}
-use Rattle.position_format.proofs.Rows.{rows-good}
 use Rattle.position_format.proofs.Codes.{lengths}
 use Rattle.position_format.proofs.Ranges.{widening, evenUpTo}
-use Rattle.position_codec.specs.declared.table.GotStep.the-variants.{Step}
-use Rattle.position_codec.specs.Found.{Leads, StepFound}
-use Rattle.position_codec.proofs.StepFound.{shortPrefixes, found-by}
+use Rattle.position_codec.specs.Found.{Leads}
+use Rattle.position_codec.proofs.StepFound.{shortPrefixes}
 
 -- ---- the tests of a table
 
@@ -54,14 +49,10 @@ pub rows-even : evenUpTo 57 rows ≡ true
 unfolding rows
 rows-even = refl
 
--- the first row has no bits after its prefix, and holds 0
-rows-zero : (pos 0 ≡ reading (getD rows 0 noRow) 0) × (rowOf rows (pos 0) ≡ 0)
+-- the first row has no bits after its prefix, reads 0 and holds it
+pub rows-zero : (getD rows 0 noRow .width ≡ 0) × (reading (getD rows 0 noRow) 0 ≡ pos 0) × (rowOf rows (pos 0) ≡ 0)
 unfolding rows firstIndex
-rows-zero = (refl, refl)
-
-rows-empty : (l : List ℕ) → 0 ≡ numberOf 2 (take (getD rows 0 noRow .width) l)
-unfolding rows numberOf
-rows-empty l = refl
+rows-zero = (refl, refl, refl)
 
 -- the code of 0 is one bit
 pub rows-zero-code : bitsOf 1 0 ≡ code rows (pos 0)
@@ -133,7 +124,7 @@ small i = both (both (ltb (prefixOf i) (2 ^ prefixLenOf i)) (ltb 0 (prefixLenOf 
 
 pub record Small (i : ℕ) : Type 0 where
   pub prefix : prefixOf i < 2 ^ prefixLenOf i
-  pub some : 0 < prefixLenOf i
+  pub prefixed : 0 < prefixLenOf i
   pub short : prefixLenOf i ≤ 64
   pub narrow : widthOf i ≤ 64
 
@@ -142,7 +133,7 @@ row-small i h =
     let p = both-true (both (ltb (prefixOf i) (2 ^ prefixLenOf i)) (ltb 0 (prefixLenOf i))) _ (all-at 5 small refl i h) in
     let q = both-true (ltb (prefixOf i) (2 ^ prefixLenOf i)) _ (p .0) in
     let r = both-true (leb (prefixLenOf i) 64) _ (p .1) in
-    record { prefix = ltb-true _ _ (q .0); some = ltb-true _ _ (q .1); short = leb-true _ _ (r .0); narrow = leb-true _ _ (r .1) }
+    record { prefix = ltb-true _ _ (q .0); prefixed = ltb-true _ _ (q .1); short = leb-true _ _ (r .0); narrow = leb-true _ _ (r .1) }
 
 pub row-narrow : (i : ℕ) → i < 5 → getD rows i noRow .width ≤ 64
 row-narrow i h = rw (row-at i h) (row-small i h .narrow)
@@ -197,16 +188,3 @@ module _ (j : ℕ) (h : j < 16) where
   lead-more l =
       let e = le-ltb j 8 l in
       (rw e at (led-by j h .0), ltb-true 0 _ (rw e at (led-by j h .1)))
-
--- ---- by the word w that begins with the bits ds, with 0 bits past their end
-
-module _ (ds : List ℕ) (below : Below 2 ds) (w : ℕ) (w< : w < 2 ^ 64) (alike : take 57 (bitsOf 64 w) ≡ ahead 57 ds) where
-  -- the row of its first four bits
-  pub lead-ahead : (i n : ℕ) → Leads rows (bitsOf 4 (w / 2 ^ 60)) i n → Leads rows (ahead 4 ds) i n
-  lead-ahead i n l = rw (ahead-first w 57 (omega arith) ds alike 4 (omega arith)) at l
-
-  -- a first bit that is 0
-  pub found-zero : 1 ≤ length ds → w < 2 ^ 63 → StepFound rows ds (Step (pos 0) 1)
-  found-zero some h =
-      found-by rows rows-good 4 rows-short ds below 0 1 (lead-ahead 0 1 (lead-zero (w / 2 ^ 60) (omega arith) (omega arith)))
-      some 0 (rows-empty (drop (length (getD rows 0 noRow .prefix)) ds)) (Step (pos 0) 1) (rows-zero .0, rows-zero .1, refl)

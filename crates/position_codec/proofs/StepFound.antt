@@ -3,14 +3,12 @@
 use mathlib.Core.Bool.{Bool, true, false}
 use mathlib.Core.List.{List}
 use mathlib.Core.Path.{_≡_, refl, sym, ap, ap₂, _∙_}
-use Prim.Native.Nat.{ℕ, _+_, _-_, _*_, _/_, _%_, _^_, _≤_, _<_}
-use native.Mathlib.Nat.{mod-lt}
+use Prim.Native.Nat.{ℕ, _+_, _-_, _/_, _%_, _^_, _≤_, _<_}
 use native.Mathlib.Omega.{arith}
 use borrow.Author.Tests.{leb-true}
 use lib.Dec.{leb}
-use lib.IntN.{ℤ}
+use lib.IntN.{ℤ, pos}
 use lib.ListN.{length, getD, take, drop, length-append}
-use lib.Pow.{pow-pos}
 use lib.Seq.{drop-drop}
 use Rattle.lists.specs.Below.{Below}
 use Rattle.lists.specs.Compare.{begins}
@@ -18,8 +16,7 @@ use Rattle.lists.proofs.Compare.{begins-rest}
 use Rattle.lists.proofs.Lists.{every}
 use Rattle.bits.specs.Digits.{bitsOf, numberOf}
 use Rattle.bits.specs.Packing.{bits, ahead}
-use Rattle.bits.proofs.Ahead.{take-ahead, ahead-field}
-use Rattle.bits.proofs.Word.{mask}
+use Rattle.bits.proofs.Ahead.{take-ahead, ahead-first, ahead-field}
 use Rattle.position_format.specs.Rows.{Row, holds, inTable, reading, code, codeLength, noRow, rowOf}
 use Rattle.position_format.proofs.Lists.{not-so, every-at}
 use Rattle.position_format.proofs.Prefixes.{begins-take, take-begins, begins-short}
@@ -33,9 +30,14 @@ use Rattle.position_codec.specs.Found.{Leads, ReadBy, StepFound}
 
 -- no bits are no code
 pub found-none : (lo hi : ℕ) (rs : List Row) → lengths lo hi rs ≡ true → 0 < lo → (ds : List ℕ) → length ds ≡ 0 → StepFound rs ds Nothing
-found-none lo hi rs within some ds h z e = begins-short (code rs z) ds (omega (arith, code-within lo hi rs within z e .0))
+found-none lo hi rs within nonzero ds h z e = begins-short (code rs z) ds (omega (arith, code-within lo hi rs within z e .0))
 
--- the bits after a row's prefix, as the code has them: in the word w that begins with the bits ds, with 0 bits past their end
+-- the row that q bits lead to, by the first q of the word w that begins with the bits ds, with 0 bits past their end
+pub lead-ahead : (rs : List Row) (ds : List ℕ) (w : ℕ) → take 57 (bitsOf 64 w) ≡ ahead 57 ds → (q : ℕ) → q ≤ 57
+    → (i n : ℕ) → Leads rs (bitsOf q (w / 2 ^ (64 - q))) i n → Leads rs (ahead q ds) i n
+lead-ahead rs ds w alike q h i n l = rw (ahead-first w 57 (omega arith) ds alike q h) at l
+
+-- the bits after a row's prefix, as the code has them: in that word
 module _ (r : Row) (ds : List ℕ) (w : ℕ) (alike : take 57 (bitsOf 64 w) ≡ ahead 57 ds) (n : ℕ) (en : n ≡ codeLength r) (few : n ≤ 57) (room : n ≤ length ds) where
   pub field-word : w / 2 ^ (64 - n) % 2 ^ r .width ≡ numberOf 2 (take (r .width) (drop (length (r .prefix)) ds))
   field-word =
@@ -52,15 +54,15 @@ field-body r body at n k x en ek ex =
 
 -- ---- the step that row i reads in its bits x, by the row before it
 
-module _ (rs : List Row) (good : goodTable rs ≡ true) (wide : widening rs ≡ true) (i : ℕ) (some : 0 < i) (i< : i < length rs)
+module _ (rs : List Row) (good : goodTable rs ≡ true) (wide : widening rs ≡ true) (i : ℕ) (nonzero : 0 < i) (i< : i < length rs)
     (x : ℕ) (x< : x < 2 ^ getD rs i noRow .width) (n : ℕ) where
   pub read-early : holds (getD rs (i - 1) noRow) (reading (getD rs i noRow) x) ≡ true → ReadBy rs i n x Nothing
-  read-early e = row-before rs good wide (reading (getD rs i noRow) x) i some i< e
+  read-early e = row-before rs good wide (reading (getD rs i noRow) x) i nonzero i< e
 
   pub read-first : holds (getD rs (i - 1) noRow) (reading (getD rs i noRow) x) ≡ false → (z : ℤ) → z ≡ reading (getD rs i noRow) x → ReadBy rs i n x (Step z n)
   read-first e z is =
       let r = getD rs i noRow in
-      (is, ap (rowOf rs) is ∙ row-first rs good wide (reading r x) i some i< e (reading-held r (good-full noRow rs good i i<) x x<), refl)
+      (is, ap (rowOf rs) is ∙ row-first rs good wide (reading r x) i nonzero i< e (reading-held r (good-full noRow rs good i i<) x x<), refl)
 
 -- ---- prefixes of at most q bits
 
@@ -143,3 +145,9 @@ module _ (rs : List Row) (good : goodTable rs ≡ true) (q : ℕ) (short : short
         let f = this-row (ap (rowOf rs) (sym (e .0)) ∙ e .1) in
         rw (e .0, e .2) f
     found-by Nothing e = other-row e
+
+  -- a row with no bits after its prefix, which reads 0 and is the first that holds it
+  pub found-zero : here .width ≡ 0 → reading here 0 ≡ pos 0 → rowOf rs (pos 0) ≡ i → n ≤ length ds → StepFound rs ds (Step (pos 0) n)
+  unfolding numberOf
+  found-zero empty reads first enough =
+      found-by enough 0 (ap (λ (k : ℕ). numberOf 2 (take k (drop (length (here .prefix)) ds))) (sym empty)) (Step (pos 0) n) (sym reads, first, refl)

@@ -15,7 +15,7 @@ use Rattle.position_codec.specs.declared.table.Code.{Code}
 
 -- a prefix and the bits after it, as two numbers
 pub record Coded (rs : List Row) (z : ℤ) (c : Code) : Type 0 where
-  pub some : 0 < c .size
+  pub prefixed : 0 < c .size
   pub short : c .size ≤ 64
   pub prefix : c .prefix < 2 ^ c .size
   pub narrow : c .width ≤ 64

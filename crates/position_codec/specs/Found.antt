@@ -1,5 +1,5 @@
 -- What the internal readers say of what they find at the front of bits (document 01, "Positions").
---   Within body at             a bit offset that is not past the end of a body, which is not too long
+--   InBody body at             a bit offset that is not past the end of a body, which is not too long
 --   Ahead body at w            the word w begins with the bits from that offset on, 57 of them, with 0 bits past the end
 --   Leads rs ds i n            the bits ds begin with the prefix of the row of index i, whose codes have n bits
 --   ReadBy rs i n x r          the step that the row of index i, whose codes have n bits, reads in its bits x, if no row before it holds that
@@ -27,7 +27,7 @@ use Rattle.position_codec.specs.declared.read.GotPoint.{GotPoint}
 use Rattle.position_codec.specs.declared.read.GotPoint.the-variants.{Point, Nothing as NoPoint}
 
 -- an offset in a body
-pub record Within (body : List ℕ) (at : ℕ) : Type 0 where
+pub record InBody (body : List ℕ) (at : ℕ) : Type 0 where
   pub short : length body ≤ 2 ^ 32
   pub inside : at ≤ 8 * length body
 

@@ -10,7 +10,7 @@ ghost use Rattle.limits.specs.Points.{maxPoints};
 ghost use Rattle.outputs.specs.Outputs.{Filled};
 ghost use Rattle.position_format.specs.Rows.{Row, rows, noRow, codeLength};
 ghost use Rattle.position_format.specs.Positions.{readPositions};
-ghost use Rattle.position_codec.specs.Found.{Within, Ahead, StepFound, PositionFound, PointFound};
+ghost use Rattle.position_codec.specs.Found.{InBody, Ahead, StepFound, PositionFound, PointFound};
 use crate::table::GotStep;
 use crate::table::lead_of;
 use crate::table::short_step;
@@ -44,7 +44,7 @@ fn field_ahead(w: u64, row: usize, n: usize) -> u64
 
 // The same of a code which stands at the bit offset `at`.
 fn field_at(body: &[u8], at: usize, row: usize, n: usize) -> u64
-    requires { ⌜ Within (now body) at × (row < 5) × (n ≡ codeLength (getD rows row noRow)) × (n ≤ length (drop at (bits (now body)))) ⌝ }
+    requires { ⌜ InBody (now body) at × (row < 5) × (n ≡ codeLength (getD rows row noRow)) × (n ≤ length (drop at (bits (now body)))) ⌝ }
     ensures { λ r. ⌜ (r ≡ numberOf 2 (take (getD rows row noRow .width) (drop (length (getD rows row noRow .prefix)) (drop at (bits (now (body .entry)))))))
         × (r < 2 ^ getD rows row noRow .width) ⌝ }
 {
@@ -55,7 +55,7 @@ fn field_at(body: &[u8], at: usize, row: usize, n: usize) -> u64
 // The step whose code stands at the bit offset `at`, by the word w of the bits ahead: one bit, 0, for the step 0, or by the row of its first
 // four bits, if there are as many bits as its codes have. The word is sure to hold a code of 57 bits; a longer one is read from the body.
 fn step_ahead(body: &[u8], at: usize, w: u64) -> GotStep
-    requires { ⌜ Within (now body) at × Ahead (now body) at w × (at < 8 * length (now body)) ⌝ }
+    requires { ⌜ InBody (now body) at × Ahead (now body) at w × (at < 8 * length (now body)) ⌝ }
     ensures { λ r. ⌜ StepFound rows (drop at (bits (now (body .entry)))) r ⌝ }
 {
     if w < 9223372036854775808 {
@@ -75,7 +75,7 @@ fn step_ahead(body: &[u8], at: usize, w: u64) -> GotStep
 
 // The step whose code stands at the bit offset `at`.
 fn get_step(body: &[u8], at: usize) -> GotStep
-    requires { ⌜ Within (now body) at × (128 ≤ at) ⌝ }
+    requires { ⌜ InBody (now body) at × (128 ≤ at) ⌝ }
     ensures { λ r. ⌜ StepFound rows (drop at (bits (now (body .entry)))) r ⌝ }
 {
     if at == 8 * body.len() {
@@ -99,7 +99,7 @@ fn next_position(a: u64, b: u64, z: i64) -> GotPosition
 
 // The position of 64 bits at point i, one of the first two: no table has a part in it.
 fn get_raw(body: &[u8], i: usize) -> GotPoint
-    requires { ⌜ Within (now body) (64 * i) × (i < 2) ⌝ }
+    requires { ⌜ InBody (now body) (64 * i) × (i < 2) ⌝ }
     ensures { λ r. ⌜ ((rs : List Row) (a b : ℕ) → PointFound rs i a b (drop (64 * i) (bits (now (body .entry)))) r) ⌝ }
 {
     let at = 8 * i;
@@ -115,7 +115,7 @@ fn get_raw(body: &[u8], i: usize) -> GotPoint
 
 // The position of point i, which stands at the bit offset `at`, after the positions a and b.
 fn get_point(body: &[u8], at: usize, i: usize, a: u64, b: u64) -> GotPoint
-    requires { ⌜ Within (now body) at × (i < 2 → at ≡ 64 * i) × (2 ≤ i → 128 ≤ at) × (a < 2 ^ 62) × (b < 2 ^ 62) ⌝ }
+    requires { ⌜ InBody (now body) at × (i < 2 → at ≡ 64 * i) × (2 ≤ i → 128 ≤ at) × (a < 2 ^ 62) × (b < 2 ^ 62) ⌝ }
     ensures { λ r. ⌜ PointFound rows i a b (drop at (bits (now (body .entry)))) r ⌝ }
 {
     if i < 2 {
@@ -132,7 +132,7 @@ fn get_point(body: &[u8], at: usize, i: usize, a: u64, b: u64) -> GotPoint
 
 // Whether the bits from `at` on are the fill: as many as end the byte, and all 0.
 fn is_fill(body: &[u8], at: usize) -> bool
-    requires { ⌜ Within (now body) at ⌝ }
+    requires { ⌜ InBody (now body) at ⌝ }
     ensures { λ r. ⌜ r ≡ same (drop at (bits (now (body .entry)))) (replicate (fillOf at) 0) ⌝ }
 {
     let left = 8 * body.len() - at;

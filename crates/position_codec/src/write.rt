@@ -52,16 +52,16 @@ fn put_first(positions: &[u64], out: &mut [u8]) -> Sink
     ensures { λ r. ⌜ Sound r × Held (positionBits rows (take 2 (now (positions .entry)))) r
         × PlacedBits (positionBits rows (take 2 (now (positions .entry)))) (r .at) (now (out .entry)) (now (out .exit)) ⌝ }
 {
-    let none = Sink {
+    let empty = Sink {
         at: 0,
         held: 0,
         width: 0,
     };
     let n = positions.len();
     if n == 0 {
-        return none;
+        return empty;
     }
-    let one = bits::lay(out, none, 64, positions[0]);
+    let one = bits::lay(out, empty, 64, positions[0]);
     if n == 1 {
         return one;
     }

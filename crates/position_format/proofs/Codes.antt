@@ -22,24 +22,24 @@ use Rattle.position_format.proofs.Rows.{goodTable, good-bits}
 
 -- ---- the first row that holds a step
 
-found : (t b : Bool) (m n : ℕ) → (b ≡ true → m < n) → cond t true b ≡ true → cond t zero (suc m) < suc n
-found true b m n f e = omega arith
-found false b m n f e = let h : m < n = f e in omega arith
+inTable-row-next : (t b : Bool) (m n : ℕ) → (b ≡ true → m < n) → cond t true b ≡ true → cond t zero (suc m) < suc n
+inTable-row-next true b m n f e = omega arith
+inTable-row-next false b m n f e = let h : m < n = f e in omega arith
 
 -- the table holds a step when there is such a row
 pub inTable-row : (rs : List Row) (z : ℤ) → inTable rs z ≡ true → rowOf rs z < length rs
 unfolding inTable firstIndex
 inTable-row [] z e = absurd (false≢true e)
-inTable-row (r ∷ rs) z e = found (holds r z) (inTable rs z) (rowOf rs z) (length rs) (inTable-row rs z) e
+inTable-row (r ∷ rs) z e = inTable-row-next (holds r z) (inTable rs z) (rowOf rs z) (length rs) (inTable-row rs z) e
 
-there : (t b : Bool) (m n : ℕ) → (m < n → b ≡ true) → cond t zero (suc m) < suc n → cond t true b ≡ true
-there true b m n f h = refl
-there false b m n f h = f (omega arith)
+row-inTable-next : (t b : Bool) (m n : ℕ) → (m < n → b ≡ true) → cond t zero (suc m) < suc n → cond t true b ≡ true
+row-inTable-next true b m n f h = refl
+row-inTable-next false b m n f h = f (omega arith)
 
 pub row-inTable : (rs : List Row) (z : ℤ) → rowOf rs z < length rs → inTable rs z ≡ true
 unfolding inTable firstIndex
 row-inTable [] z h = absurd (omega arith)
-row-inTable (r ∷ rs) z h = there (holds r z) (inTable rs z) (rowOf rs z) (length rs) (row-inTable rs z) h
+row-inTable (r ∷ rs) z h = row-inTable-next (holds r z) (inTable rs z) (rowOf rs z) (length rs) (row-inTable rs z) h
 
 -- so the index tells whether it does
 pub inTable-test : (rs : List Row) (z : ℤ) → ltb (rowOf rs z) (length rs) ≡ inTable rs z

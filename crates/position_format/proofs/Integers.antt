@@ -1,4 +1,4 @@
--- Integers as differences of numbers, what their order tests say, and that a step added sub-add gives the position.
+-- Integers as differences of numbers, what their order tests say, and that a step, added again, gives the position.
 use mathlib.Core.Bool.{true}
 use mathlib.Core.Path.{_≡_, refl, sym, ap, _∙_}
 use Prim.Native.Nat.{ℕ, zero, suc, _<_}
@@ -41,7 +41,7 @@ sub-add x y = +ℤ-comm y (x -ℤ y) ∙ -ℤ-+ℤ-cancel x y
 less : (x y : ℤ) → (x +ℤ y) -ℤ x ≡ y
 less x y = ap (λ (z : ℤ). z -ℤ x) (+ℤ-comm x y) ∙ +ℤ-negℤ-cancel y x
 
--- a step added sub-add gives the position
+-- a step, added again, gives the position
 pub after-step : (a b t : ℕ) → after a b (stepOf a b t) ≡ t
 after-step a b t =
     ap (λ (z : ℤ). atLeastZero (pos b +ℤ z)) (sub-add (pos t -ℤ pos b) (pos b -ℤ pos a)) ∙ ap atLeastZero (sub-add (pos t) (pos b))

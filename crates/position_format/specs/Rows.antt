@@ -11,9 +11,10 @@
 --   rowOf rs z      the index of the first row that holds z; noRow: what stands for a row past the table
 --   reading r x     the one number inside the row's range that is x modulo 2 ^ width, of a row that holds 2 ^ width numbers, 0 among them
 -- The definitions that go by a table take it as an argument, and their laws are proved of every table that passes one computed test: no
--- prefix begins another, and each row holds 2 ^ width numbers, 0 among them (proofs/Rows, goodTable). The coder asks more computed
--- tests of a table: how many bits its codes have (proofs/Codes, lengths), that its ranges widen from row to row, and that rows of few bits are even
--- around 0 (proofs/Ranges, widening and evenUpTo).
+-- prefix begins another, and each row holds 2 ^ width numbers, 0 among them (proofs/Rows, goodTable). The codec asks more computed tests of a
+-- table: how many bits its codes have (proofs/Codes, lengths), that its ranges widen from row to row, that rows of at most 57 bits are even
+-- around 0 (proofs/Ranges, widening and evenUpTo), and that its prefixes are short, today at most 4 bits (position_codec, proofs/StepFound,
+-- shortPrefixes).
 use mathlib.Core.Bool.{Bool, true, false, cond}
 use mathlib.Core.List.{List, [], _∷_, _++_}
 use Prim.Native.Nat.{ℕ, suc, _+_, _-_, _%_, _^_}

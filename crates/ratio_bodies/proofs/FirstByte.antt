@@ -35,17 +35,17 @@ module _ (u at : ℕ) (l : List ℕ) (room : at + 9 ≤ length l) where
   many : 9 ≤ length (drop at l)
   many = omega (arith, length-drop at l)
 
-  some : length (drop at l) ≡ 0 → ⊥
-  some e = omega (arith, many)
+  filled : length (drop at l) ≡ 0 → ⊥
+  filled e = omega (arith, many)
 
   pub xor-ahead-high : 8 < getD l at 0 / 16 + getD l at 0 % 16 → Nothing ≡ openXor u (drop at l)
-  xor-ahead-high h = xor-high u (drop at l) some (rw (rest-first at l) h)
+  xor-ahead-high h = xor-high u (drop at l) filled (rw (rest-first at l) h)
 
   pub xor-ahead-good : (m r : ℕ) → getD l at 0 / 16 + getD l at 0 % 16 ≤ 8 → m ≡ numberOf 256 (take (getD l at 0 % 16) (drop (at + 1) l))
       → r ≡ m * 256 ^ (getD l at 0 / 16) → Ratio (bitXor r u) (getD l at 0 % 16 + 2) ≡ openXor u (drop at l)
   xor-ahead-good m r h e q =
       let f = sym (rest-first at l) in
-      rw f (xor-good u (drop at l) m r some (rw (rest-first at l) h) (rw (rest-first at l) (omega (arith, many)))
+      rw f (xor-good u (drop at l) m r filled (rw (rest-first at l) h) (rw (rest-first at l) (omega (arith, many)))
       (rw (rest-first at l, drop-drop 1 at l) e) (rw (rest-first at l) q))
 
 -- where ten bytes are left
@@ -65,20 +65,20 @@ module _ (rs : List ℕ) (i : ℕ) (room : i ≤ length rs) where
   most : (length w ≤ windowSize) × (length w ≤ i)
   most = let n = window-few windowSize (take i rs) in let k = length-take i rs in (n .0, omega arith)
 
-  module _ (s : List ℕ) (b : ℕ) (is : getD s 0 0 ≡ b) (some : length s ≡ 0 → ⊥) (byte : b < 256) (plain : b ≡ 255 → ⊥) where
+  module _ (s : List ℕ) (b : ℕ) (is : getD s 0 0 ≡ b) (filled : length s ≡ 0 → ⊥) (byte : b < 256) (plain : b ≡ 255 → ⊥) where
     -- no ratio stands at the place
-    none : length w ≤ b % 128 → Nothing ≡ openRead w s
-    none h = go (ltb b 128) refl
+    place-none : length w ≤ b % 128 → Nothing ≡ openRead w s
+    place-none h = go (ltb b 128) refl
       where
         go : (t : Bool) → ltb b 128 ≡ t → Nothing ≡ openRead w s
-        go true e = let l = ltb-true b 128 e in open-far w s some (omega arith) (omega arith)
-        go false e = let l = ltb-false b 128 e in open-away w s some (omega arith) (omega arith) (omega arith)
+        go true e = let l = ltb-true b 128 e in open-far w s filled (omega arith) (omega arith)
+        go false e = let l = ltb-false b 128 e in open-away w s filled (omega arith) (omega arith) (omega arith)
 
     pub place-far : i ≤ b % 128 → Nothing ≡ openRead w s
-    place-far h = none (omega (arith, most))
+    place-far h = place-none (omega (arith, most))
 
     pub place-past : b % 128 ≡ windowSize → Nothing ≡ openRead w s
-    place-past e = none (omega (arith, most))
+    place-past e = place-none (omega (arith, most))
 
     -- one does
     module _ (v : ℕ) (in-list : b % 128 < i) (in-window : b % 128 ≡ windowSize → ⊥) (at : v ≡ getD rs (i - 1 - b % 128) 0) where
@@ -91,9 +91,9 @@ module _ (rs : List ℕ) (i : ℕ) (room : i ≤ length rs) where
       pub place-reference : b < 128 → Ratio v 1 ≡ openRead w s
       place-reference l =
           let h = holds (getD s 0 0) (omega arith) in
-          open-reference w s v some (omega arith) (h .0) (h .1)
+          open-reference w s v filled (omega arith) (h .0) (h .1)
 
       pub place-xor : 128 ≤ b → (r : Read) → r ≡ openXor v (drop 1 s) → r ≡ openRead w s
       place-xor l r e =
           let h = holds (getD s 0 0 - 128) (omega arith) in
-          open-xor w s v r some (omega arith) (omega arith) (h .0) (h .1) e
+          open-xor w s v r filled (omega arith) (omega arith) (h .0) (h .1) e

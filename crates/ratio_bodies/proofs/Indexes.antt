@@ -92,7 +92,7 @@ coded-newest l i v p h small in-list is newest =
 -- what the index finds
 pub indexed-found : (ns l : List ℕ) (i n : ℕ) → i ≤ length l → Indexed ns l i → n ≡ getD ns (keyOf (getD l i 0)) 0 → (n ≡ 0 → ⊥) → i - n < windowSize
     → getD l (n - 1) 0 ≡ getD l i 0 → coded (getD l i 0) (windowOf windowSize (take i l)) ≡ (i - n) ∷ []
-indexed-found ns l i n h x is some small e =
+indexed-found ns l i n h x is filled small e =
     let most : n ≤ i = rw is (x .0 .1 (keyOf (getD l i 0))) in
     let z : i - 1 - (i - n) ≡ n - 1 = omega arith in
     coded-newest l i (getD l i 0) (i - n) h small (omega arith) (rw z e)

@@ -73,14 +73,14 @@ module _ (ms l : List ℕ) (i v : ℕ) (marks : Marks ms l i) (h : i ≤ length 
       ⊎ ((getD ns (k % slots) 0 ≡ getD ms (k % slots) 0) × (getD ms (k % slots) 0 ≡ 0 → getD l k 0 ≡ v → ⊥))
 
   module _ (ns : List ℕ) (room : i < length l) (size : length ns ≡ slots) (own : getD ns (i % slots) 0 ≡ 0)
-      (kept : (k : ℕ) → k < i → i ≤ k + 126 → Kept ns k) where
+      (kept : (k : ℕ) → k < i → i < k + windowSize → Kept ns k) where
     old : (k : ℕ) → k < i → getD (set l i v) k 0 ≡ getD l k 0
     old k g = getD-set-other l i k v 0 (λ q. omega arith)
 
     new : getD (set l i v) i 0 ≡ v
     new = getD-set-same l i v 0 room
 
-    older : (k : ℕ) → k < i → i ≤ k + 126 → Kept ns k
+    older : (k : ℕ) → k < i → i < k + windowSize → Kept ns k
         → (getD ns (k % slots) 0 ≡ 0 → Last (set l i v) k (i + 1)) × ((getD ns (k % slots) 0 ≡ 0 → ⊥) → Again (set l i v) k (i + 1))
     older k g f (inl a) = (λ z. absurd (a .0 z), λ z. (i, g, omega arith, new ∙ sym (old k g ∙ a .1)))
     older k g f (inr b) = (
@@ -132,11 +132,11 @@ module _ (ms l : List ℕ) (i v : ℕ) (marks : Marks ms l i) (h : i ≤ length 
       abbrev ns : List ℕ
       ns = set (set ms at 1) (i % slots) 0
 
-      clash : (k : ℕ) → k < i → i ≤ k + 126 → getD ms (k % slots) 0 ≡ 0 → getD l k 0 ≡ v → (k ≡ j → ⊥) → (t : Bool) → ltb k j ≡ t → ⊥
+      clash : (k : ℕ) → k < i → i < k + windowSize → getD ms (k % slots) 0 ≡ 0 → getD l k 0 ≡ v → (k ≡ j → ⊥) → (t : Bool) → ltb k j ≡ t → ⊥
       clash k x y z d q true f = let n = inside p g e in marks .1 k x (omega arith) .0 z j (ltb-true k j f) (omega arith) (here p g e ∙ sym d)
       clash k x y z d q false f = let c = ltb-false k j f in says p g e .0 zero k (omega arith) x (d ∙ sym (here p g e))
 
-      step : (k : ℕ) → k < i → i ≤ k + 126 → (t : Bool) → eqb k j ≡ t → Kept ns k
+      step : (k : ℕ) → k < i → i < k + windowSize → (t : Bool) → eqb k j ≡ t → Kept ns k
       step k x y true f =
           let q = eqb-true k j f in
           let a : getD ns (k % slots) 0 ≡ 1 =

@@ -34,7 +34,7 @@ repeats-more l i r x e k h = go (eqb k r) refl
     go true q = rw (eqb-true k r q) e
     go false q = let n = eqb-false k r q in x k (omega arith)
 
-module _ (l : List ℕ) (i : ℕ) (some : 0 < i) where
+module _ (l : List ℕ) (i : ℕ) (nonzero : 0 < i) where
   -- each is equal to the one before it
   last : (r : ℕ) → Repeats l i (suc r) → getD l (i + r - 1) 0 ≡ getD l (i + r) 0
   last zero x =

@@ -17,7 +17,7 @@ use Rattle.ratio_format.specs.Windows.{windowSize, push, windowOf}
 use Rattle.ratio_format.specs.Bodies.{Taken, noneTaken, takenFrom, wholeTaken}
 use Rattle.ratio_format.proofs.Windows.{window-snoc}
 use Rattle.ratio_format.proofs.ReadFrom.{Rule}
-use Rattle.ratio_format.proofs.Taken.{Within, taken-stop, taken-next}
+use Rattle.ratio_format.proofs.Taken.{RuleWithin, taken-stop, taken-next}
 use Rattle.ratio_bodies.specs.declared.Took.{Took}
 use Rattle.ratio_bodies.specs.Taking.{TakenInto}
 
@@ -75,7 +75,7 @@ module _ (rule : Rule) (count : ℕ) (body o : List ℕ) where
           taking-end room (ap (λ (n : ℕ). takenFrom rule windowSize w n (drop at body)) left ∙ taken-stop rule windowSize w (count - (i + 1)) (drop at body) (sym found ∙ e))
 
       -- one ratio more
-      module _ (within : Within rule) (v k : ℕ) (e : r ≡ Ratio v k) where
+      module _ (within : RuleWithin rule) (v k : ℕ) (e : r ≡ Ratio v k) where
         pub taking-within : at + k ≤ length body
         taking-within = omega (arith, within w (drop at body) v k (sym found ∙ e), length-drop at body)
 

@@ -15,7 +15,7 @@ use Rattle.ratio_format.specs.Zeros.{leadZeros, trailZeros}
 use Rattle.ratio_format.specs.Choice.{best, ratioForm}
 use Rattle.ratio_format.specs.Forms.{Fit}
 use Rattle.ratio_format.proofs.Choice.{form-fit, form-reference, form-xor, form-exception, sum-small, best-at, best-xor}
-use Rattle.ratio_format.proofs.Windows.{back, reverse-below, window-of}
+use Rattle.ratio_format.proofs.Windows.{reverse-back, reverse-below, window-of}
 use Rattle.ratio_window.specs.Searched.{Searched}
 
 module _ (l : List ℕ) (v p s : ℕ) (known : (k : ℕ) → getD l k 0 < 2 ^ 64) (v64 : v < 2 ^ 64) (found : Searched v (reverse l) p s) where
@@ -48,7 +48,7 @@ module _ (l : List ℕ) (v p s : ℕ) (known : (k : ℕ) → getD l k 0 < 2 ^ 64
     chosen-small = omega (arith, sum, sum-small v (reverse l) v64 all64 (λ e. other (sum ∙ e)))
 
     same-xor : bitXor v (getD (reverse l) (best v (reverse l) .place) 0) ≡ x
-    same-xor = ap (λ (k : ℕ). bitXor v (getD (reverse l) k 0)) (sym place) ∙ ap (bitXor v) (back l p chosen-in)
+    same-xor = ap (λ (k : ℕ). bitXor v (getD (reverse l) k 0)) (sym place) ∙ ap (bitXor v) (reverse-back l p chosen-in)
 
     pub chosen-short : trailZeros x < 8
     chosen-short =

@@ -14,7 +14,7 @@ use Rattle.ratio_format.specs.Zeros.{sumOf}
 use Rattle.ratio_format.specs.Choice.{Best, newer, best}
 use Rattle.ratio_format.proofs.Sums.{sum-same}
 use Rattle.ratio_format.proofs.Choice.{best-most, best-wins, best-stays}
-use Rattle.ratio_format.proofs.Windows.{back}
+use Rattle.ratio_format.proofs.Windows.{reverse-back}
 use Rattle.ratio_window.specs.Passed.{Passed}
 use Rattle.ratio_window.proofs.Passed.{passed-one}
 use Rattle.ratio_window.proofs.Sums.{sum-le}
@@ -85,14 +85,14 @@ module _ (v : ℕ) where
         let e : r ≡ i + (r - i) = omega arith in
         ap (λ (n : ℕ). take n (reverse l)) e ∙ take-add i (r - i) (reverse l)
 
-    quiet : Passed v rest (best v (take i (reverse l)) .sum) 0 (length rest)
-    quiet k f x =
+    passed-rest : Passed v rest (best v (take i (reverse l)) .sum) 0 (length rest)
+    passed-rest k f x =
         let n : k < r - i = omega (arith, length-take (r - i) (drop i (reverse l))) in
         let e : getD rest k 0 ≡ getD (reverse l) (i + k) 0 = getD-take (r - i) (drop i (reverse l)) k 0 n ∙ getD-drop i (reverse l) k 0 in
         omega (arith, ap (λ (b : Best). b .sum) (h .2), ap (sumOf v) e, q (i + k) (omega arith) (omega arith))
 
     pub scanned-pass : r ≤ length l → Scanned l r p s
-    scanned-pass f = (f, h .1, ap (best v) split ∙ best-over (take i (reverse l)) rest quiet ∙ h .2)
+    scanned-pass f = (f, h .1, ap (best v) split ∙ best-over (take i (reverse l)) rest passed-rest ∙ h .2)
 
   -- the next one
   module _ (l : List ℕ) (i p s : ℕ) (h : Scanned l i p s) (g : i < length l) where
@@ -103,7 +103,7 @@ module _ (v : ℕ) where
     more =
         ap (λ (n : ℕ). take n (reverse l)) (add-one i)
         ∙ take-suc (reverse l) i 0 (rw length-reverse g)
-        ∙ ap (λ (u : ℕ). take i (reverse l) ++ (u ∷ [])) (back l i g)
+        ∙ ap (λ (u : ℕ). take i (reverse l) ++ (u ∷ [])) (reverse-back l i g)
 
     passed : length (take i (reverse l)) ≡ i
     passed = length-take-le i (reverse l) (rw length-reverse (omega arith))
@@ -120,7 +120,7 @@ module _ (v : ℕ) where
     scanned-wins k m = (omega arith, m, wins k)
 
     pub scanned-loses : sumOf v next ≤ s → Scanned l (i + 1) p s
-    scanned-loses k = scanned-pass l i p s h (i + 1) (omega arith) (passed-one v (reverse l) s i (rw (back l i g) k)) (omega arith)
+    scanned-loses k = scanned-pass l i p s h (i + 1) (omega arith) (passed-one v (reverse l) s i (rw (reverse-back l i g) k)) (omega arith)
 
     -- an equal one ends the scan
     pub scanned-equal : next ≡ v → best v (reverse l) ≡ record { place = i; sum = 16 }

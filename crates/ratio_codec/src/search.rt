@@ -59,7 +59,7 @@ fn pass(window: &[u64], from: usize, v: u64, sum: usize) -> usize
 
 // The largest sum at its smallest place. The newest ratio is looked at first, ratios that cannot have a larger sum are passed over, and
 // an equal one, whose sum is the largest there is, ends it.
-pub(crate) fn search(window: &[u64], v: u64) -> Best
+pub fn search(window: &[u64], v: u64) -> Best
     ensures { λ r. ⌜ (r .place ≡ best v (reverse (now (window .entry))) .place) × (r .sum ≡ best v (reverse (now (window .entry))) .sum) ⌝ }
 {
     let mut place: usize = 0;

@@ -22,7 +22,7 @@ use Rattle.ratio_format.proofs.Zeros.{lowBytes, trail-is}
 use Rattle.ratio_format.proofs.Sums.{xor-zero}
 use Rattle.ratio_format.proofs.Choice.{best-at, form-exception}
 use Rattle.ratio_format.proofs.Forms.{formLen, coded-is}
-use Rattle.ratio_format.proofs.Windows.{back-at, window-below}
+use Rattle.ratio_format.proofs.Windows.{reverse-back-at, window-below}
 use Rattle.ratio_format.proofs.Bodies.{coded-more}
 
 -- different in the top byte of 64 bits and in the lowest
@@ -70,7 +70,7 @@ module _ (size : ℕ) (vs : List ℕ) (words : Below (2 ^ 64) vs)
       let w = reverse (take i vs) in
       let n : length (take size w) ≡ min size (length w) = length-take size w in
       let m : length w ≡ i = length-reverse (take i vs) ∙ length-take-le i vs (omega arith) in
-      rw (getD-take size w p 0 (omega arith), back-at vs i p (omega arith) (omega arith)) (apart i (i - 1 - p) h (omega arith) (omega arith))
+      rw (getD-take size w p 0 (omega arith), reverse-back-at vs i p (omega arith) (omega arith)) (apart i (i - 1 - p) h (omega arith) (omega arith))
 
   nine-at : (i : ℕ) → i < length vs → length (coded (getD vs i 0) (windowOf size (take i vs))) ≡ 9
   nine-at i h =

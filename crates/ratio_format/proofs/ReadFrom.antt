@@ -59,7 +59,7 @@ pub record FirstOf (rule : Rule) (size : ℕ) (w : List ℕ) (n : ℕ) (s vs : L
   pub others : List ℕ
   pub reads : rule w s ≡ Ratio ratio used
   pub goes : readFrom rule size (push size ratio w) n (drop used s) ≡ some others
-  pub is : vs ≡ ratio ∷ others
+  pub splits : vs ≡ ratio ∷ others
 
 module _ (rule : Rule) (size : ℕ) where
   pub read-first : (w : List ℕ) (n : ℕ) (s vs : List ℕ) → readFrom rule size w (suc n) s ≡ some vs → FirstOf rule size w n s vs
@@ -69,7 +69,7 @@ module _ (rule : Rule) (size : ℕ) where
       at : (v k : ℕ) → rule w s ≡ Ratio v k → (r : Option (List ℕ)) → readFrom rule size (push size v w) n (drop k s) ≡ r → before v r ≡ some vs
           → FirstOf rule size w n s vs
       at v k q none f e = let z : _≡_ {A = ℕ} 0 1 = cc in absurd (omega arith)
-      at v k q (some us) f e = record { ratio = v; used = k; others = us; reads = q; goes = f; is = cc }
+      at v k q (some us) f e = record { ratio = v; used = k; others = us; reads = q; goes = f; splits = cc }
 
       go : (r : Read) → rule w s ≡ r → onRatio r (λ v k. before v (readFrom rule size (push size v w) n (drop k s))) ≡ some vs → FirstOf rule size w n s vs
       go Nothing q e = let z : _≡_ {A = ℕ} 0 1 = cc in absurd (omega arith)
@@ -86,7 +86,7 @@ module _ (rule : Rule) (size : ℕ) where
   read-length w zero s vs e = ap length (read-none w s vs e .1)
   read-length w (suc n) s vs e =
       let f = read-first w n s vs e in
-      ap length (f .is) ∙ ap suc (read-length (push size (f .ratio) w) n (drop (f .used) s) (f .others) (f .goes))
+      ap length (f .splits) ∙ ap suc (read-length (push size (f .ratio) w) n (drop (f .used) s) (f .others) (f .goes))
 
 -- the rule gives ratios of 64 bits
 abbrev pub Gives64 : Rule → Type 0
@@ -100,7 +100,7 @@ read-below rule fits size w (suc n) s vs hs ha e =
     let f = read-first rule size w n s vs e in
     let v = f .ratio in
     let h = fits w s v (f .used) hs ha (f .reads) in
-    subst (Below (2 ^ 64)) (sym (f .is))
+    subst (Below (2 ^ 64)) (sym (f .splits))
     (h, read-below rule fits size (push size v w) n (drop (f .used) s) (f .others) (below-drop 256 (f .used) s hs) (push-below (2 ^ 64) size v w h ha) (f .goes))
 
 -- the open rule

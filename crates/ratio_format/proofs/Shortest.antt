@@ -26,7 +26,7 @@ by-ratio size w (suc n) s vs hs ha e =
     let b = open-value w s v k hs ha (f .reads) in
     let first = open-short w s v k hs ha (f .reads) in
     let others = by-ratio size (push size v w) n (drop k s) (f .others) (below-drop 256 k s hs) (push-below (2 ^ 64) size v w (b .0) ha) (f .goes) in
-    subst (λ (l : List ℕ). length (codedFrom size w l) ≤ length s) (sym (f .is))
+    subst (λ (l : List ℕ). length (codedFrom size w l) ≤ length s) (sym (f .splits))
     (rw length-append (omega (arith, length-drop k s, b .2)))
 
 pub shortest : (size : ℕ) (w : List ℕ) (n : ℕ) (s vs : List ℕ) → Below 256 s → Below (2 ^ 64) w → openFrom size w n s ≡ some vs

@@ -63,16 +63,16 @@ whole-none n s t never = go (eqb (length (t .ratios)) n) refl (eqb (t .used) (le
     go false e y f = refl
 
 -- the rule uses bytes that are there
-abbrev pub Within : Rule → Type 0
-Within rule = (w s : List ℕ) (v k : ℕ) → rule w s ≡ Ratio v k → k ≤ length s
+abbrev pub RuleWithin : Rule → Type 0
+RuleWithin rule = (w s : List ℕ) (v k : ℕ) → rule w s ≡ Ratio v k → k ≤ length s
 
-pub open-within : Within openRead
+pub open-within : RuleWithin openRead
 open-within = open-used
 
-pub strict-within : Within strictRead
+pub strict-within : RuleWithin strictRead
 strict-within w s v k e = open-used w s v k (strict-open v k w s e .0)
 
-read-taken : (rule : Rule) → Within rule → (size : ℕ) (w : List ℕ) (n : ℕ) (s : List ℕ) → readFrom rule size w n s ≡ wholeTaken n s (takenFrom rule size w n s)
+read-taken : (rule : Rule) → RuleWithin rule → (size : ℕ) (w : List ℕ) (n : ℕ) (s : List ℕ) → readFrom rule size w n s ≡ wholeTaken n s (takenFrom rule size w n s)
 unfolding readFrom takenFrom
 read-taken rule within size w zero [] = refl
 read-taken rule within size w zero (b ∷ s) = sym (whole-none 0 (b ∷ s) noneTaken (λ e f. omega arith))

@@ -19,15 +19,15 @@ pub reverse-more : (l : List ℕ) (i : ℕ) → i < length l → reverse (take (
 reverse-more l i h = rw (add-one, take-suc l i 0 h, reverse-append)
 
 -- the ratio at a place of the window, in the slice
-pub back-at : (l : List ℕ) (i p : ℕ) → p < i → i ≤ length l → getD (reverse (take i l)) p 0 ≡ getD l (i - 1 - p) 0
-back-at l zero p h g = absurd (omega arith)
-back-at l (suc i) zero h g =
+pub reverse-back-at : (l : List ℕ) (i p : ℕ) → p < i → i ≤ length l → getD (reverse (take i l)) p 0 ≡ getD l (i - 1 - p) 0
+reverse-back-at l zero p h g = absurd (omega arith)
+reverse-back-at l (suc i) zero h g =
     rw (← add-one i, reverse-more l i g) (ap (λ (n : ℕ). getD l n 0) (omega arith))
-back-at l (suc i) (suc p) h g =
-    rw (← add-one i, reverse-more l i g) (back-at l i p (omega arith) (omega arith) ∙ ap (λ (n : ℕ). getD l n 0) (omega arith))
+reverse-back-at l (suc i) (suc p) h g =
+    rw (← add-one i, reverse-more l i g) (reverse-back-at l i p (omega arith) (omega arith) ∙ ap (λ (n : ℕ). getD l n 0) (omega arith))
 
-pub back : (l : List ℕ) (p : ℕ) → p < length l → getD (reverse l) p 0 ≡ getD l (length l - 1 - p) 0
-back l p h = rw take-length at (back-at l (length l) p h (omega arith))
+pub reverse-back : (l : List ℕ) (p : ℕ) → p < length l → getD (reverse l) p 0 ≡ getD l (length l - 1 - p) 0
+reverse-back l p h = rw take-length at (reverse-back-at l (length l) p h (omega arith))
 
 -- the part of a run from i - size to i is the window at i
 pub window-of : (size : ℕ) (l : List ℕ) (i : ℕ) → i ≤ length l → reverse (take (i - (i - size)) (drop (i - size) l)) ≡ windowOf size (take i l)

@@ -79,7 +79,7 @@ behind-none v l s from high k h g f = absurd (omega arith)
 
 -- the block that ends at h
 module _ (ps l : List ℕ) (v s from high h a b c d : ℕ) (p : Planes ps l from high) (first : Apart s a b) (second : Apart s c d)
-    (some : 0 < h) (before : h ≤ high) (passed : Behind v l s from high h) where
+    (nonzero : 0 < h) (before : h ≤ high) (passed : Behind v l s from high h) where
   abbrev low : ℕ
   low = (h - 1) / 16 * 16
 

@@ -54,7 +54,7 @@ module _ (v : ℕ) (l : List ℕ) (i : ℕ) where
         go false e = searched-none windowSize l v i h (i - 1 - at) sum (leb-false 2 sum e) all
 
     -- the next ratio, at q - 1, is counted
-    module _ (some : i - windowSize < q) where
+    module _ (filled : i - windowSize < q) where
       pub searching-wins : (t n : ℕ) → sumOf v (getD l (q - 1) 0) ≡ n → t ≤ n → n ≤ 7 → sum < n → Searching (q - 1) (q - 1) t n
       searching-wins t n e h g f = (
         omega arith,

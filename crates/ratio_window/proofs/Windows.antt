@@ -9,7 +9,7 @@ use lib.ListN.{length, take, drop, getD, length-take, length-reverse}
 use lib.Seq.{getD-take, length-take-le}
 use Rattle.ratio_format.specs.Windows.{windowOf}
 use Rattle.ratio_format.specs.Choice.{find}
-use Rattle.ratio_format.proofs.Windows.{back-at, window-of}
+use Rattle.ratio_format.proofs.Windows.{reverse-back-at, window-of}
 use Rattle.ratio_format.proofs.Choice.{find-at, find-lt, find-first}
 
 module _ (size : ℕ) (l : List ℕ) (i : ℕ) (h : i ≤ length l) where
@@ -33,7 +33,7 @@ module _ (size : ℕ) (l : List ℕ) (i : ℕ) (h : i ≤ length l) where
 
   -- place 0 is the newest
   pub window-at : (p : ℕ) → p < size → p < i → getD w p 0 ≡ getD l (i - 1 - p) 0
-  window-at p g f = getD-take size (reverse (take i l)) p 0 g ∙ back-at l i p f h
+  window-at p g f = getD-take size (reverse (take i l)) p 0 g ∙ reverse-back-at l i p f h
 
   -- the part from its start f up to the ratio i
   pub window-part : (f : ℕ) → f ≡ i - size → reverse (take (i - f) (drop f l)) ≡ w

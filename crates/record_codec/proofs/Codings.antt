@@ -7,16 +7,15 @@ use Prim.Native.Nat.{ℕ, _+_, _-_, _≤_}
 use native.Mathlib.Omega.{arith}
 use lib.ListN.{length, take, drop}
 use Rattle.outputs.specs.Outputs.{over, Filled}
-use Rattle.refusals.specs.declared.Refusal.{Refusal}
-use Rattle.refusals.specs.Tests.{Test, test, firstOf, noRefusal}
+use Rattle.refusals.specs.Tests.{Test, test}
 use Rattle.refusals.proofs.Tests.{first-here, first-skip, first-end}
-use Rattle.record_format.specs.Fields.{headSize, lengthAt, bodyAt, nextAt, fieldTests}
+use Rattle.record_format.specs.Fields.{lengthAt, bodyAt, nextAt, fieldTests}
 use Rattle.record_format.specs.Reading.{missing, listOf}
 use Rattle.record_format.proofs.Reading.{refusal}
 use Rattle.record_codec.specs.declared.field.Field.{Field}
 use Rattle.record_codec.specs.declared.coding.Coding.{Coding}
 use Rattle.record_codec.specs.declared.coding.Coding.the-variants.{Positions, Ratios}
-use Rattle.record_codec.specs.Fields.{PartRead, FieldRead, CodedRead, tagOf, numberFor, readBy, bodyTests}
+use Rattle.record_codec.specs.Fields.{PartRead, FieldRead, CodedRead, tagOf, numberFor, readBy}
 use Rattle.record_codec.proofs.Fields.{part-refused, part-first, part-then, part-both, field-numbered}
 
 -- what a reader of a list says of it

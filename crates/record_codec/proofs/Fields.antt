@@ -109,15 +109,15 @@ module _ (fs ts : List Test) (s : List ℕ) (p : ℕ) (f : Refusal) (end : ℕ) 
       (h .refuses ∙ sym (first-append-some fs ts (λ z. d (ap (λ (g : Refusal). g .number) (h .refuses) ∙ z))))
 
   module _ (clear : f .number ≡ 0) where
-    past : firstOf (fs ++ ts) ≡ firstOf ts
-    past = first-append-none fs ts num (sym (ap (λ (g : Refusal). g .number) (h .refuses)) ∙ clear)
+    part-past : firstOf (fs ++ ts) ≡ firstOf ts
+    part-past = first-append-none fs ts num (sym (ap (λ (g : Refusal). g .number) (h .refuses)) ∙ clear)
 
     pub part-then : (g : Refusal) (e : ℕ) → g ≡ firstOf ts → (g .number ≡ 0 → ⊥) → PartRead (fs ++ ts) s p g e
-    part-then g e q d = part-refused (fs ++ ts) s p g e d (q ∙ sym past)
+    part-then g e q d = part-refused (fs ++ ts) s p g e d (q ∙ sym part-past)
 
     pub part-both : firstOf ts ≡ noRefusal → PartRead (fs ++ ts) s p f end
     part-both q = record {
-      refuses = h .refuses ∙ first-none fs num (sym (ap (λ (g : Refusal). g .number) (h .refuses)) ∙ clear) ∙ sym (past ∙ q);
+      refuses = h .refuses ∙ first-none fs num (sym (ap (λ (g : Refusal). g .number) (h .refuses)) ∙ clear) ∙ sym (part-past ∙ q);
       next = h .next;
       inside = h .inside;
       near = h .near;

@@ -14,7 +14,7 @@ use Rattle.limits.specs.Points.{maxPoints}
 use Rattle.limits.specs.Rates.{isRate}
 use Rattle.refusals.specs.declared.Refusal.{Refusal}
 use Rattle.refusals.specs.Tests.{Test, test, firstOf, noRefusal}
-use Rattle.refusals.proofs.Tests.{numbered, first-here, first-skip, first-clear, first-end, first-append-none, first-append-some}
+use Rattle.refusals.proofs.Tests.{first-here, first-skip, first-clear, first-end, first-append-none, first-append-some}
 use Rattle.record_format.specs.Fields.{bodyAt, nextAt, fieldTests}
 use Rattle.record_format.specs.Runs.{rateTag, countTag, rateSize, countSize}
 use Rattle.record_format.specs.Reading.{rateAt, countAt, rateIn, countIn, otherRate, rateTests, countTests, frontTests}
@@ -98,22 +98,22 @@ module _ (e : ℕ) (s : List ℕ) (f : Number) (h : NumberRead rateSize (fieldTe
 -- ---- the count, at the offset p
 
 -- the test of a count c at the offset q
-abbrev many : ℕ → ℕ → List Test
-many q c = test (ltb maxPoints c) 15 q ∷ []
+abbrev count-contents : ℕ → ℕ → List Test
+count-contents q c = test (ltb maxPoints c) 15 q ∷ []
 
 module _ (s : List ℕ) (p : ℕ) (at : p ≡ countAt s) (f : Number) (h : NumberRead countSize (fieldTests s (countTag ∷ []) (some countSize) p) s p f) where
-  tests-at : fieldTests s (countTag ∷ []) (some countSize) p ++ many p (numberOf 256 (bodyAt s p)) ≡ countTests s
-  tests-at = ap (λ (q : ℕ). fieldTests s (countTag ∷ []) (some countSize) q ++ many q (numberOf 256 (bodyAt s q))) at
+  tests-at : fieldTests s (countTag ∷ []) (some countSize) p ++ count-contents p (numberOf 256 (bodyAt s p)) ≡ countTests s
+  tests-at = ap (λ (q : ℕ). fieldTests s (countTag ∷ []) (some countSize) q ++ count-contents q (numberOf 256 (bodyAt s q))) at
 
-  moved : (r : Number) → NumberRead countSize (fieldTests s (countTag ∷ []) (some countSize) p ++ many p (numberOf 256 (bodyAt s p))) s p r → NumberRead countSize (countTests s) s p r
+  moved : (r : Number) → NumberRead countSize (fieldTests s (countTag ∷ []) (some countSize) p ++ count-contents p (numberOf 256 (bodyAt s p))) s p r → NumberRead countSize (countTests s) s p r
   moved r k = subst (λ (l : List Test). NumberRead countSize l s p r) tests-at k
 
   pub count-first : (f .refusal .number ≡ 0 → ⊥) → NumberRead countSize (countTests s) s p f
   count-first d = moved f (contents-first s countTag countSize p _ f h d)
 
   module _ (clear : f .refusal .number ≡ 0) where
-    counted : firstOf (many p (numberOf 256 (bodyAt s p))) ≡ firstOf (many p (f .value))
-    counted = ap (λ (c : ℕ). firstOf (many p c)) (sym (h .value clear))
+    counted : firstOf (count-contents p (numberOf 256 (bodyAt s p))) ≡ firstOf (count-contents p (f .value))
+    counted = ap (λ (c : ℕ). firstOf (count-contents p c)) (sym (h .value clear))
 
     pub count-many : (r : Number) → r ≡ record { refusal = refusal 15 p; value = 0; end = 0 } → maxPoints < f .value → NumberRead countSize (countTests s) s p r
     count-many r q l =
@@ -152,7 +152,7 @@ module _ (e : ℕ) (s : List ℕ) (f : Number) (h : NumberRead rateSize (rateTes
 
     few-in : g .refusal .number ≡ 0 → countIn s ≤ maxPoints
     few-in z =
-        let c = field-clear s (countTag ∷ []) (some countSize) (countAt s) (many (countAt s) (countIn s)) (sym (ap (λ (x : Refusal). x .number) (k .part .refuses)) ∙ z) in
+        let c = field-clear s (countTag ∷ []) (some countSize) (countAt s) (count-contents (countAt s) (countIn s)) (sym (ap (λ (x : Refusal). x .number) (k .part .refuses)) ∙ z) in
         ltb-false maxPoints (countIn s) (first-clear _ _ (lit< tt) (c .1) .0)
 
     pub front-found : g .refusal .number ≡ 0 → FrontRead e s (record { refusal = g .refusal; rate = f .value; count = g .value; place = f .end; end = g .end })

@@ -1,22 +1,20 @@
 -- Laws of a record as it is read: the whole answer, by how its front, the room, its positions and its ratios turn out.
 use mathlib.Core.Path.{_≡_, refl, sym, ap, ap₂, _∙_, subst}
-use mathlib.Core.Bool.{Bool, true, false, cond}
-use mathlib.Core.List.{List, [], _∷_, _++_}
+use mathlib.Core.Bool.{Bool, true, false}
+use mathlib.Core.List.{List, _∷_, _++_}
 use Prim.Native.Nat.{ℕ, _+_, _≤_}
 use native.Mathlib.Omega.{arith}
-use borrow.Author.Tests.{ltb-false}
-use lib.Dec.{ltb}
 use lib.ListN.{length, replicate}
 use Rattle.refusals.specs.declared.Refusal.{Refusal}
-use Rattle.refusals.specs.Tests.{Test, test, firstOf, refused}
-use Rattle.refusals.proofs.Tests.{numbered, first-here, first-skip, first-end, first-none, first-append-none, first-append-some}
+use Rattle.refusals.specs.Tests.{Test, test, firstOf}
+use Rattle.refusals.proofs.Tests.{first-here, first-skip, first-end, first-none, first-append-none, first-append-some}
 use Rattle.outputs.specs.Outputs.{over}
 use Rattle.position_format.specs.Rows.{rows}
 use Rattle.position_format.specs.Positions.{readPositions}
 use Rattle.record_format.specs.Fields.{bodyAt, nextAt}
 use Rattle.record_format.specs.declared.ReadAnswer.{ReadAnswer}
-use Rattle.record_format.specs.Reading.{Answer, refusalAnswer, recordAnswer, answerBy, readWith, readTests, lacksRoom, countAt, positionsAt, ratiosAt, endAt, rateIn, countIn, positionsIn, ratiosIn, listOf, frontTests, roomTests, positionsTests, ratiosTests}
-use Rattle.record_format.proofs.Reading.{refusal, answer-refused, answer-good}
+use Rattle.record_format.specs.Reading.{Answer, refusalAnswer, recordAnswer, readWith, readTests, lacksRoom, ratiosAt, endAt, positionsIn, ratiosIn, listOf, frontTests, roomTests, positionsTests, ratiosTests}
+use Rattle.record_format.proofs.Reading.{refusal, room-enough, answer-refused, answer-good}
 use Rattle.record_codec.specs.declared.front.Front.{Front}
 use Rattle.record_codec.specs.declared.coding.Coding.the-variants.{Positions, Ratios}
 use Rattle.record_codec.specs.declared.coding.Part.{Part}
@@ -39,13 +37,8 @@ refusal-as f ts us vs ws a b =
     a b
 
 -- a part that is not refused
-quiet : {tests : List Test} {s : List ℕ} {p : ℕ} {f : Refusal} {end : ℕ} → PartRead tests s p f end → f .number ≡ 0 → firstOf tests .number ≡ 0
-quiet h z = sym (ap (λ (g : Refusal). g .number) (h .refuses)) ∙ z
-
--- there is room
-room-none : (a b : Bool) → cond a true b ≡ false → (a ≡ false) × (b ≡ false)
-room-none true b e = (cc, cc)
-room-none false b e = (refl, e)
+part-clear : {tests : List Test} {s : List ℕ} {p : ℕ} {f : Refusal} {end : ℕ} → PartRead tests s p f end → f .number ≡ 0 → firstOf tests .number ≡ 0
+part-clear h z = sym (ap (λ (g : Refusal). g .number) (h .refuses)) ∙ z
 
 module _ (openly : Bool) (e : ℕ) (s ts vs : List ℕ) where
   abbrev tests : List Test
@@ -79,10 +72,10 @@ module _ (openly : Bool) (e : ℕ) (s ts vs : List ℕ) where
 
       module _ (room : lacksRoom (length ts) (length vs) (f .count) ≡ false) where
         pub room-positions : f .count ≤ length ts
-        room-positions = ltb-false _ _ (room-none (ltb (length ts) (f .count)) (ltb (length vs) (f .count)) room .0)
+        room-positions = room-enough (length ts) (length vs) (f .count) room .0
 
         pub room-ratios : f .count ≤ length vs
-        room-ratios = ltb-false _ _ (room-none (ltb (length ts) (f .count)) (ltb (length vs) (f .count)) room .1)
+        room-ratios = room-enough (length ts) (length vs) (f .count) room .1
 
         past-room : firstOf tests ≡ firstOf (positionsTests s ++ ratiosTests (ratiosBy openly) s)
         past-room = past-front ∙ room-test ∙ first-skip _ _ room
@@ -112,7 +105,7 @@ module _ (openly : Bool) (e : ℕ) (s ts vs : List ℕ) where
             positions-near = omega (arith, i .part .next good, i .part .near good)
 
             past-positions : firstOf tests ≡ firstOf (ratiosTests (ratiosBy openly) s)
-            past-positions = past-room ∙ first-append-none (positionsTests s) _ refl (quiet positions-part good)
+            past-positions = past-room ∙ first-append-none (positionsTests s) _ refl (part-clear positions-part good)
 
             module _ (k : Part) (ws : List ℕ) (j : CodedRead Ratios openly (f .count) s (g .end) k vs ws) where
               ratios-same : bodyTests Ratios openly (f .count) s (g .end) ≡ ratiosTests (ratiosBy openly) s
@@ -138,5 +131,5 @@ module _ (openly : Bool) (e : ℕ) (s ts vs : List ℕ) where
                     let own : recordAnswer (ratiosBy openly) s ts vs ≡ answer =
                     sym
                     (answer-good (recordAnswer (ratiosBy openly) s ts vs) ts vs tests
-                    (past-positions ∙ first-none (ratiosTests (ratiosBy openly) s) refl (quiet ratios-part whole) ∙ sym first-end)) in
+                    (past-positions ∙ first-none (ratiosTests (ratiosBy openly) s) refl (part-clear ratios-part whole) ∙ sym first-end)) in
                     answered-as own (cc, p, q)

@@ -12,6 +12,7 @@ use super::field::Length;
 use super::field::read_field;
 use record_format::COUNT_SIZE;
 use record_format::COUNT_TAG;
+use record_format::RATE_AT;
 use record_format::RATE_SIZE;
 use record_format::RATE_TAG;
 use refusals::Refusal;
@@ -82,7 +83,7 @@ fn differs(expected: u32, rate: u32) -> bool
 fn read_rate(expected: u32, input: &[u8]) -> Number
     ensures { λ r. ⌜ NumberRead rateSize (rateTests expected (now (input .entry))) (now (input .entry)) rateAt r ⌝ }
 {
-    let found = read_number(input, 0, RATE_TAG, RATE_SIZE);
+    let found = read_number(input, RATE_AT, RATE_TAG, RATE_SIZE);
     let refusal = found.refusal;
     let number = refusal.number;
     if number != 0 {
@@ -90,10 +91,10 @@ fn read_rate(expected: u32, input: &[u8]) -> Number
     }
     let rate = found.value as u32;
     if !limits::is_rate(rate) {
-        return no_number(13, 0);
+        return no_number(13, RATE_AT);
     }
     if differs(expected, rate) {
-        return no_number(14, 0);
+        return no_number(14, RATE_AT);
     }
     found
 }
@@ -133,20 +134,20 @@ pub(crate) fn read_front(expected: u32, input: &[u8]) -> Front
     ensures { λ r. ⌜ FrontRead expected (now (input .entry)) r ⌝ }
 {
     let rate = read_rate(expected, input);
-    let refusal = rate.refusal;
-    let number = refusal.number;
-    if number != 0 {
-        return no_front(refusal);
+    let rate_refused = rate.refusal;
+    let rate_number = rate_refused.number;
+    if rate_number != 0 {
+        return no_front(rate_refused);
     }
     let place = rate.end;
     let count = read_count(input, place);
-    let refusal2 = count.refusal;
-    let number2 = refusal2.number;
-    if number2 != 0 {
-        return no_front(refusal2);
+    let count_refused = count.refusal;
+    let count_number = count_refused.number;
+    if count_number != 0 {
+        return no_front(count_refused);
     }
     Front {
-        refusal: refusal2,
+        refusal: count_refused,
         rate: rate.value as u32,
         count: count.value as usize,
         place,

@@ -41,10 +41,10 @@ fn read_record(
     ensures { λ r. ⌜ Answered (readWith (ratiosBy openly) expected (now (input .entry)) (now (positions .entry)) (now (ratios .entry))) r (now (positions .exit)) (now (ratios .exit)) ⌝ }
 {
     let front = read_front(expected, input);
-    let refused = front.refusal;
-    let number = refused.number;
-    if number != 0 {
-        return refuse_read(refused, positions, ratios);
+    let front_refused = front.refusal;
+    let front_number = front_refused.number;
+    if front_number != 0 {
+        return refuse_read(front_refused, positions, ratios);
     }
     let count = front.count;
     if lacks(positions.len(), ratios.len(), count) {
@@ -58,16 +58,16 @@ fn read_record(
         );
     }
     let points = read_positions(input, front.end, count, positions);
-    let refused2 = points.refusal;
-    let number2 = refused2.number;
-    if number2 != 0 {
-        return refuse_read(refused2, positions, ratios);
+    let positions_refused = points.refusal;
+    let positions_number = positions_refused.number;
+    if positions_number != 0 {
+        return refuse_read(positions_refused, positions, ratios);
     }
     let values = read_ratios(openly, input, points.end, count, ratios);
-    let refused3 = values.refusal;
-    let number3 = refused3.number;
-    if number3 != 0 {
-        return refuse_read(refused3, positions, ratios);
+    let ratios_refused = values.refusal;
+    let ratios_number = ratios_refused.number;
+    if ratios_number != 0 {
+        return refuse_read(ratios_refused, positions, ratios);
     }
     ReadAnswer {
         number: 0,

@@ -1,5 +1,5 @@
 // Writing: the record of a run, field by field, each straight into the rest of the caller's output.
-ghost use mathlib.Core.List.{[], _∷_, _++_};
+ghost use mathlib.Core.List.{_∷_, _++_};
 ghost use mathlib.Core.Path.{_≡_};
 ghost use mathlib.Core.Bool.{true};
 ghost use Prim.Native.Nat.{_≤_};
@@ -68,22 +68,28 @@ fn put_record(rate: u32, positions: &[u64], ratios: &[u64], out: &mut [u8]) -> W
     requires { ⌜ (validPositions rows (now positions) ≡ true) × (length (now positions) ≤ maxPoints) × (length (now ratios) ≤ maxPoints) ⌝ }
     ensures { λ r. ⌜ Placed (recordOf (run rate (now (positions .entry)) (now (ratios .entry)))) r (now (out .entry)) (now (out .exit)) ⌝ }
 {
-    let Wrote::Done(a) = put_number(out, RATE_TAG, RATE_SIZE, rate as u64) else {
+    let Wrote::Done(rate_end) = put_number(out, RATE_TAG, RATE_SIZE, rate as u64) else {
         return Wrote::NoRoom;
     };
-    let Wrote::Done(b) = put_number(&mut out[a..], COUNT_TAG, COUNT_SIZE, positions.len() as u64)
+    let Wrote::Done(count_size) = put_number(
+        &mut out[rate_end..],
+        COUNT_TAG,
+        COUNT_SIZE,
+        positions.len() as u64,
+    ) else {
+        return Wrote::NoRoom;
+    };
+    let count_end = rate_end + count_size;
+    let Wrote::Done(positions_size) = put_coded(Coding::Positions, positions, &mut out[count_end..])
     else {
         return Wrote::NoRoom;
     };
-    let c = a + b;
-    let Wrote::Done(d) = put_coded(Coding::Positions, positions, &mut out[c..]) else {
+    let positions_end = count_end + positions_size;
+    let Wrote::Done(ratios_size) = put_coded(Coding::Ratios, ratios, &mut out[positions_end..])
+    else {
         return Wrote::NoRoom;
     };
-    let e = c + d;
-    let Wrote::Done(f) = put_coded(Coding::Ratios, ratios, &mut out[e..]) else {
-        return Wrote::NoRoom;
-    };
-    Wrote::Done(e + f)
+    Wrote::Done(positions_end + ratios_size)
 }
 
 // The refusal of a run by tests 1 to 5, in this order, each over the whole run.

@@ -3,18 +3,16 @@ use mathlib.Core.Path.{_≡_, refl, sym, ap, ap₂, _∙_}
 use mathlib.Core.Bool.{Bool, true, false, not, cond}
 use mathlib.Core.List.{List, [], _∷_, _++_, append-nil}
 use mathlib.Core.Logic.{_⊎_, inl, inr}
-use mathlib.Core.Option.{Option, some}
 use Prim.Native.Nat.{ℕ, _≤_}
 use native.Mathlib.Omega.{arith}
-use borrow.Author.Tests.{eqb-true, eq-eqb, ltb-false, le-ltb, not-false}
-use lib.Dec.{eqb, ltb, lit<, lit≤}
-use lib.ListN.{length, getD}
+use borrow.Author.Tests.{eqb-true, eq-eqb, le-ltb, not-false}
+use lib.Dec.{eqb, lit<, lit≤}
+use lib.ListN.{length}
 use Rattle.lists.specs.Below.{Below}
 use Rattle.lists.specs.Compare.{both}
 use Rattle.bits.specs.Digits.{bytesOf, numberOf}
 use Rattle.bits.proofs.Digits.{number-digits-lt}
 use Rattle.limits.proofs.Rates.{rate-high}
-use Rattle.refusals.specs.Tests.{firstOf}
 use Rattle.refusals.proofs.Tests.{first-skip, first-clear}
 use Rattle.position_format.specs.Rows.{rows}
 use Rattle.position_format.specs.Positions.{codedPositions, readPositions}
@@ -26,13 +24,13 @@ use Rattle.ratio_format.proofs.Bodies.{nine-bytes}
 use Rattle.ratio_format.proofs.ReadFrom.{open-coded}
 use Rattle.ratio_format.proofs.Shortest.{shortest}
 use Rattle.ratio_format.proofs.Strict.{strict-coded}
-use Rattle.record_format.specs.Fields.{Field, fieldOf, fieldBytes, laid}
+use Rattle.record_format.specs.Fields.{Field, fieldBytes, laid}
 use Rattle.record_format.specs.Runs.{Run, run, rateSize, countSize, ratiosTag, fieldsOf, recordOf}
 use Rattle.record_format.specs.Reading.{Answer, readStrict, readOpen, listOf, otherRate}
 use Rattle.record_format.specs.Claims.{Accepted, AllAccepted, joined, ownTests, ownAnswer, runAnswer, ReadsBack, ReadsOnly, AcceptsExactly, OpenAgrees, PrefixFree, ListsApart, TrailingBytes, Shortest, NineEach, Demand3}
-use Rattle.record_format.proofs.Fields.{laid-same}
-use Rattle.record_format.proofs.Reading.{answer-quiet, answer-good}
-use Rattle.record_format.proofs.Runs.{fields-small}
+use Rattle.record_format.proofs.Fields.{fieldIn, laid-same}
+use Rattle.record_format.proofs.Reading.{room-enough, answer-clear, answer-good}
+use Rattle.record_format.proofs.Runs.{rateIndex, countIndex, positionsIndex, ratiosIndex, fields-small}
 use Rattle.record_format.proofs.ReadsBack.{read-record}
 use Rattle.record_format.proofs.ReadsOnly.{accepted-begins}
 use Rattle.record_format.proofs.Followed.{followed}
@@ -49,7 +47,7 @@ reads-back r a e rest ts vs =
 -- an answer with number 0 is the run's own
 own-of : (r : Run) (e : ℕ) (ts vs : List ℕ) → runAnswer r e ts vs .answer .number ≡ 0 → runAnswer r e ts vs ≡ ownAnswer r ts vs
 own-of r e ts vs h =
-    let z = answer-quiet (ownTests r e (length ts) (length vs)) (ownAnswer r ts vs) ts vs h in
+    let z = answer-clear (ownTests r e (length ts) (length vs)) (ownAnswer r ts vs) ts vs h in
     rw z
 
 pub reads-only : ReadsOnly
@@ -76,11 +74,6 @@ other-none e r h = go (eqb e 0) refl h
     go true q k = inl (eqb-true e 0 q)
     go false q k = inr (eqb-true e r (not-false (eqb e r) k))
 
--- there is room
-room-none : (a b : Bool) → cond a true b ≡ false → (a ≡ false) × (b ≡ false)
-room-none true b e = (cc, cc)
-room-none false b e = (refl, e)
-
 module _ (r : Run) (e : ℕ) (ts vs : List ℕ) where
   -- the tests of a run's record refuse nothing exactly where no other rate is expected and there is room
   own-clear : (e ≡ 0) ⊎ (e ≡ r .rate) → length (r .positions) ≤ length ts → length (r .positions) ≤ length vs → runAnswer r e ts vs ≡ ownAnswer r ts vs
@@ -91,10 +84,10 @@ module _ (r : Run) (e : ℕ) (ts vs : List ℕ) where
 
   own-only : runAnswer r e ts vs .answer .number ≡ 0 → ((e ≡ 0) ⊎ (e ≡ r .rate)) × (length (r .positions) ≤ length ts) × (length (r .positions) ≤ length vs)
   own-only h =
-      let a = first-clear _ _ (lit< tt) (answer-quiet (ownTests r e (length ts) (length vs)) (ownAnswer r ts vs) ts vs h) in
+      let a = first-clear _ _ (lit< tt) (answer-clear (ownTests r e (length ts) (length vs)) (ownAnswer r ts vs) ts vs h) in
       let b = first-clear _ _ (lit< tt) (a .1) in
-      let c = room-none (ltb (length ts) (length (r .positions))) (ltb (length vs) (length (r .positions))) (b .0) in
-      (other-none e (r .rate) (a .0), ltb-false _ _ (c .0), ltb-false _ _ (c .1))
+      let c = room-enough (length ts) (length vs) (length (r .positions)) (b .0) in
+      (other-none e (r .rate) (a .0), c .0, c .1)
 
 -- with room, and no other rate expected, the answer is the run's own
 pub with-room : (r : Run) (ts vs : List ℕ) → length (r .positions) ≤ length ts → length (r .positions) ≤ length vs → runAnswer r 0 ts vs ≡ ownAnswer r ts vs
@@ -133,19 +126,19 @@ isLast tag = eqb tag ratiosTag
 same-run : (r q : Run) → r .rate ≡ q .rate → r .positions ≡ q .positions → r .ratios ≡ q .ratios → r ≡ q
 same-run r q a b c = ap (λ (x : ℕ). run x (r .positions) (r .ratios)) a ∙ ap₂ (λ (x y : List ℕ). run (q .rate) x y) b c
 
--- the body of the field of index k
+-- the body of one of the fields
 abbrev body-of : ℕ → List Field → List ℕ
-body-of k fs = getD fs k (fieldOf 0 []) .body
+body-of k fs = fieldIn fs k .body
 
 -- the fields of two runs are the same: the runs are the same
 same-fields : (r q : Run) → Accepted r → Accepted q → fieldsOf r ≡ fieldsOf q → r ≡ q
 same-fields r q a b e =
     let f = accepted-fits r (a .passes) in
     let g = accepted-fits q (b .passes) in
-    let rates : bytesOf rateSize (r .rate) ≡ bytesOf rateSize (q .rate) = ap (body-of 0) e in
-    let counts : bytesOf countSize (length (r .positions)) ≡ bytesOf countSize (length (q .positions)) = ap (body-of 1) e in
-    let bodies : codedPositions rows (r .positions) ≡ codedPositions rows (q .positions) = ap (body-of 2) e in
-    let codes : codedRatios (r .ratios) ≡ codedRatios (q .ratios) = ap (body-of 3) e in
+    let rates : bytesOf rateSize (r .rate) ≡ bytesOf rateSize (q .rate) = ap (body-of rateIndex) e in
+    let counts : bytesOf countSize (length (r .positions)) ≡ bytesOf countSize (length (q .positions)) = ap (body-of countIndex) e in
+    let bodies : codedPositions rows (r .positions) ≡ codedPositions rows (q .positions) = ap (body-of positionsIndex) e in
+    let codes : codedRatios (r .ratios) ≡ codedRatios (q .ratios) = ap (body-of ratiosIndex) e in
     let n : length (r .positions) ≡ length (q .positions) =
     sym (number-digits-lt (lit< tt) countSize (omega (arith, f .few))) ∙ ap (numberOf 256) counts ∙ number-digits-lt (lit< tt) countSize (omega (arith, g .few)) in
     same-run r q

@@ -1,9 +1,9 @@
--- Laws of fields: where each stands when they are laid end to end, what is read there, what whole fields are, and that bytes are laid of one
--- list of fields only.
+-- Laws of fields: where each stands when they are laid end to end, what is read there, what whole fields are, that bytes are laid of one list
+-- of fields only, and that bytes after whole fields change nothing in them.
 use mathlib.Core.Path.{_≡_, refl, sym, ap, ap₂, _∙_, subst}
 use mathlib.Core.Bool.{Bool, true, false, not, false≢true}
 use mathlib.Core.List.{List, [], _∷_, _++_, append-assoc, append-nil}
-use Prim.Native.Nat.{ℕ, suc, _+_, _-_, _^_, _≤_, _<_}
+use Prim.Native.Nat.{ℕ, zero, suc, _+_, _-_, _^_, _≤_, _<_}
 use native.Mathlib.Numerals.{add-one}
 use native.Mathlib.Omega.{arith}
 use borrow.Author.Tests.{not-true}
@@ -47,7 +47,7 @@ laid-one f = append-nil (fieldBytes f)
 -- ---- a field that stands in bytes
 
 -- the field f stands at the offset p of the bytes s
-pub record Stands (s : List ℕ) (p : ℕ) (f : Field) : Type 0 where
+pub record FieldStands (s : List ℕ) (p : ℕ) (f : Field) : Type 0 where
   pub head : p + headSize ≤ length s
   pub tagged : tagAt s p ≡ f .tag
   pub stated : lengthAt s p ≡ length (f .body)
@@ -100,7 +100,7 @@ module _ (before : List ℕ) (f : Field) (rest : List ℕ) (small : length (f .b
   length-here : length here ≡ p + length (fieldBytes f) + length rest
   length-here = length-append before (fieldBytes f ++ rest) ∙ omega (arith, length-append (fieldBytes f) rest)
 
-  pub stands : Stands here p f
+  pub stands : FieldStands here p f
   stands = record {
     head = omega (arith, length-here, length-field f);
     tagged = tag-at;
@@ -120,7 +120,21 @@ Small (f ∷ fs) = (length (f .body) ≤ maxBody) × Small fs
 -- the fields fs stand one after the other, from the offset p on
 abbrev pub StandAll : List ℕ → ℕ → List Field → Type 0
 StandAll s p [] = Unit {0}
-StandAll s p (f ∷ fs) = Stands s p f × StandAll s (nextAt s p) fs
+StandAll s p (f ∷ fs) = FieldStands s p f × StandAll s (nextAt s p) fs
+
+-- the field of index k of a list that has one
+abbrev pub fieldIn : List Field → ℕ → Field
+fieldIn fs k = getD fs k (fieldOf 0 [])
+
+-- the offset of the field of index k, of fields that follow one another from the offset p on
+abbrev pub fieldAt : List ℕ → ℕ → ℕ → ℕ
+fieldAt s p zero = p
+fieldAt s p (suc k) = fieldAt s (nextAt s p) k
+
+pub stand-at : (s : List ℕ) (p : ℕ) (fs : List Field) → StandAll s p fs → (k : ℕ) → k < length fs → FieldStands s (fieldAt s p k) (fieldIn fs k)
+stand-at s p [] h k l = absurd (omega arith)
+stand-at s p (f ∷ fs) h zero l = h .0
+stand-at s p (f ∷ fs) h (suc k) l = stand-at s (nextAt s p) fs (h .1) k (omega arith)
 
 -- where each stands, whatever is before and after
 pub laid-stand : (before : List ℕ) (fs : List Field) (rest : List ℕ) → Small fs → StandAll (before ++ (laid fs ++ rest)) (length before) fs
@@ -274,6 +288,10 @@ follow-laid s p (f ∷ fs) h =
 
 -- ---- bytes after a field change nothing in it
 
+next-later : (s : List ℕ) (p : ℕ) → p ≤ nextAt s p
+unfolding nextAt
+next-later s p = omega arith
+
 module _ (s rest : List ℕ) (p : ℕ) where
   module _ (head : p + headSize ≤ length s) where
     pub tag-same : tagAt (s ++ rest) p ≡ tagAt s p
@@ -299,3 +317,26 @@ module _ (s rest : List ℕ) (p : ℕ) where
   body-same whole =
       ap₂ take (length-same (head-within whole)) (drop-append-le (p + headSize) s rest (head-within whole))
       ∙ take-append-le (lengthAt s p) (drop (p + headSize) s) rest (subst (λ (n : ℕ). lengthAt s p ≤ n) (sym (length-drop (p + headSize) s)) (omega (arith, whole)))
+
+-- ---- nor in fields that follow one another: n of them, from the offset p on, are whole in s
+
+field-later : (s : List ℕ) (p n : ℕ) → p ≤ fieldAt s p n
+field-later s p zero = omega arith
+field-later s p (suc n) = omega (arith, next-later s p, field-later s (nextAt s p) n)
+
+first-whole : (s : List ℕ) (p n : ℕ) → fieldAt s p (suc n) ≤ length s → nextAt s p ≤ length s
+first-whole s p n whole = omega (arith, field-later s (nextAt s p) n)
+
+-- each of them is whole
+pub field-whole : (s : List ℕ) (p n : ℕ) → fieldAt s p n ≤ length s → (k : ℕ) → k < n → nextAt s (fieldAt s p k) ≤ length s
+field-whole s p zero whole k h = absurd (omega arith)
+field-whole s p (suc n) whole zero h = first-whole s p n whole
+field-whole s p (suc n) whole (suc k) h = field-whole s (nextAt s p) n whole k (omega arith)
+
+-- and stands at the same offset where s is followed by more, so that its tag, its length and its body are the same
+pub field-at-same : (s rest : List ℕ) (p n : ℕ) → fieldAt s p n ≤ length s → (k : ℕ) → k ≤ n → fieldAt (s ++ rest) p k ≡ fieldAt s p k
+field-at-same s rest p n whole zero h = refl
+field-at-same s rest p zero whole (suc k) h = absurd (omega arith)
+field-at-same s rest p (suc n) whole (suc k) h =
+    ap (λ (q : ℕ). fieldAt (s ++ rest) q k) (next-same s rest p (head-within s rest p (first-whole s p n whole)))
+    ∙ field-at-same s rest (nextAt s p) n whole k (omega arith)

@@ -117,7 +117,7 @@ top-end a h = omega arith
 low-end : (a : ℕ) → a < 128 → a * (2 ^ 56 + 1) % 2 ^ 8 ≡ a
 low-end a h = omega arith
 
-two-ends : (i j : ℕ) → j < i → i ≤ j + 127 → Apart (twoEnds i) (twoEnds j)
+two-ends : (i j : ℕ) → j < i → i ≤ j + windowSize → Apart (twoEnds i) (twoEnds j)
 two-ends i j h g =
     let other : (i % 128 ≡ j % 128 → ⊥) = λ e. omega arith in
     let m : i % 128 < 128 = omega arith in

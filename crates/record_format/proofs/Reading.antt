@@ -1,8 +1,8 @@
 -- Laws of reading: the tests of a field by how it turns out, the answer by the tests that are left to make, and that bytes after the record
 -- change nothing.
 use mathlib.Core.Path.{_≡_, refl, sym, ap, ap₂, _∙_, subst}
-use mathlib.Core.Bool.{Bool, true, false, not, cond}
-use mathlib.Core.List.{List, [], _∷_, _++_, append-assoc}
+use mathlib.Core.Bool.{Bool, true, false, not, cond, false≢true}
+use mathlib.Core.List.{List, [], _∷_, _++_}
 use mathlib.Core.Option.{Option, none, some}
 use Prim.Native.Nat.{ℕ, zero, suc, _+_, _≤_, _<_}
 use native.Mathlib.Omega.{arith}
@@ -15,10 +15,10 @@ use Rattle.bits.specs.Digits.{bytesOf, digitsOf, numberOf}
 use Rattle.bits.proofs.Digits.{digits-number}
 use Rattle.refusals.specs.declared.Refusal.{Refusal}
 use Rattle.refusals.specs.Tests.{Test, test, firstOf, refused}
-use Rattle.refusals.proofs.Tests.{numbered, first-here, first-skip, first-clear, first-end, first-append-none, first-append-some}
+use Rattle.refusals.proofs.Tests.{first-here, first-skip, first-clear, first-end}
 use Rattle.record_format.specs.Fields.{Field, fieldOf, headSize, fieldBytes, tagAt, lengthAt, bodyAt, nextAt, lengthTests, fieldTests}
-use Rattle.record_format.specs.Reading.{Answer, refusalAnswer, answerBy, missing}
-use Rattle.record_format.proofs.Fields.{Stands, length-body, field-here, below-body, tag-same, length-same, next-same, head-within}
+use Rattle.record_format.specs.Reading.{Answer, refusalAnswer, answerBy, missing, lacksRoom}
+use Rattle.record_format.proofs.Fields.{FieldStands, length-body, field-here, below-body, tag-same, length-same, next-same, head-within}
 
 -- a refusal by its number and place
 abbrev pub refusal : ℕ → ℕ → Refusal
@@ -75,26 +75,26 @@ module _ (s tags : List ℕ) (n : Option ℕ) (p : ℕ) (ts : List Test) where
         field-good h = past-length ∙ first-skip _ _ (le-ltb (length s) (nextAt s p) h)
 
 -- a field that stands there
-pub field-passes : {s : List ℕ} {p : ℕ} {f : Field} → Stands s p f → (tags : List ℕ) (n : Option ℕ) (ts : List Test)
+pub field-passes : {s : List ℕ} {p : ℕ} {f : Field} → FieldStands s p f → (tags : List ℕ) (n : Option ℕ) (ts : List Test)
     → member (f .tag) tags ≡ true → Stated n (length (f .body)) → firstOf (fieldTests s tags n p ++ ts) ≡ firstOf ts
 field-passes {s} {p} {f} h tags n ts t l =
     field-good s tags n p ts (h .head) (ap (λ (x : ℕ). member x tags) (h .tagged) ∙ t) (subst (Stated n) (sym (h .stated)) l) (h .whole)
 
 -- ---- a field that is not refused
 
-pub record Sound (s tags : List ℕ) (n : Option ℕ) (p : ℕ) : Type 0 where
+pub record FieldSound (s tags : List ℕ) (n : Option ℕ) (p : ℕ) : Type 0 where
   pub head : p + headSize ≤ length s
   pub tagged : member (tagAt s p) tags ≡ true
   pub stated : Stated n (lengthAt s p)
   pub whole : nextAt s p ≤ length s
 
-pub field-clear : (s tags : List ℕ) (n : Option ℕ) (p : ℕ) (ts : List Test) → firstOf (fieldTests s tags n p ++ ts) .number ≡ 0 → Sound s tags n p × (firstOf ts .number ≡ 0)
+pub field-clear : (s tags : List ℕ) (n : Option ℕ) (p : ℕ) (ts : List Test) → firstOf (fieldTests s tags n p ++ ts) .number ≡ 0 → FieldSound s tags n p × (firstOf ts .number ≡ 0)
 field-clear s tags n p ts clear = go n clear
   where
-    made : (m : Option ℕ) → ltb (length s) (p + headSize) ≡ false → not (member (tagAt s p) tags) ≡ false → Stated m (lengthAt s p) → ltb (length s) (nextAt s p) ≡ false → Sound s tags m p
+    made : (m : Option ℕ) → ltb (length s) (p + headSize) ≡ false → not (member (tagAt s p) tags) ≡ false → Stated m (lengthAt s p) → ltb (length s) (nextAt s p) ≡ false → FieldSound s tags m p
     made m a b c d = record { head = ltb-false _ _ a; tagged = not-false _ b; stated = c; whole = ltb-false _ _ d }
 
-    go : (m : Option ℕ) → firstOf (fieldTests s tags m p ++ ts) .number ≡ 0 → Sound s tags m p × (firstOf ts .number ≡ 0)
+    go : (m : Option ℕ) → firstOf (fieldTests s tags m p ++ ts) .number ≡ 0 → FieldSound s tags m p × (firstOf ts .number ≡ 0)
     go none e =
         let a = first-clear _ _ (lit< tt) e in
         let b = first-clear _ _ (lit< tt) (a .1) in
@@ -115,7 +115,7 @@ one-of x t e = go (eqb x t) refl e
     go true q h = eqb-true x t q
     go false q h = cc
 
-module _ {s : List ℕ} {tag : ℕ} {n : Option ℕ} {p : ℕ} (bytes : Below 256 s) (h : Sound s (tag ∷ []) n p) where
+module _ {s : List ℕ} {tag : ℕ} {n : Option ℕ} {p : ℕ} (bytes : Below 256 s) (h : FieldSound s (tag ∷ []) n p) where
   -- it is the field of its tag with the body that stands there, written as b
   pub sound-follows : (b : List ℕ) → bodyAt s p ≡ b → drop p s ≡ fieldBytes (fieldOf tag b) ++ drop (nextAt s p) s
   sound-follows b e =
@@ -126,15 +126,23 @@ module _ {s : List ℕ} {tag : ℕ} {n : Option ℕ} {p : ℕ} (bytes : Below 25
   sound-below = below-body s p bytes (h .head) (h .whole)
 
 -- a field of k bytes holds the number that they stand for
-pub sound-number : {s : List ℕ} {tag k p : ℕ} → Below 256 s → Sound s (tag ∷ []) (some k) p → bodyAt s p ≡ bytesOf k (numberOf 256 (bodyAt s p))
+pub sound-number : {s : List ℕ} {tag k p : ℕ} → Below 256 s → FieldSound s (tag ∷ []) (some k) p → bodyAt s p ≡ bytesOf k (numberOf 256 (bodyAt s p))
 sound-number {s} {tag} {k} {p} bytes h =
     let e : length (bodyAt s p) ≡ k = length-body s p bytes (h .head) (h .whole) ∙ h .stated in
     sym (ap (λ (j : ℕ). digitsOf 256 j (numberOf 256 (bodyAt s p))) (sym e) ∙ digits-number 256 (bodyAt s p) (sound-below bytes h))
 
 -- a list that is not missing
-pub there : (o : Option (List ℕ)) → missing o ≡ false → (l : List ℕ) × (o ≡ some l)
-there none e = absurd (let z : _≡_ {A = ℕ} 0 1 = cc in omega arith)
-there (some l) e = (l, refl)
+pub missing-some : (o : Option (List ℕ)) → missing o ≡ false → (l : List ℕ) × (o ≡ some l)
+missing-some none e = absurd (let z : _≡_ {A = ℕ} 0 1 = cc in omega arith)
+missing-some (some l) e = (l, refl)
+
+-- both outputs have room
+pub room-enough : (m n c : ℕ) → lacksRoom m n c ≡ false → (c ≤ m) × (c ≤ n)
+room-enough m n c e = go (ltb m c) refl e
+  where
+    go : (b : Bool) → ltb m c ≡ b → cond b true (ltb n c) ≡ false → (c ≤ m) × (c ≤ n)
+    go true q k = absurd (false≢true (sym k))
+    go false q k = (ltb-false m c q, ltb-false n c k)
 
 -- ---- bytes after a field change none of its tests
 
@@ -158,8 +166,8 @@ module _ (s rest : List ℕ) (p : ℕ) (whole : nextAt s p ≤ length s) where
 -- ---- the answer by the tests
 
 -- an answer with number 0 comes of no refusal
-pub answer-quiet : (tests : List Test) (a : Answer) (ts vs : List ℕ) → answerBy tests a ts vs .answer .number ≡ 0 → firstOf tests .number ≡ 0
-answer-quiet tests a ts vs e = go (firstOf tests .number) refl e
+pub answer-clear : (tests : List Test) (a : Answer) (ts vs : List ℕ) → answerBy tests a ts vs .answer .number ≡ 0 → firstOf tests .number ≡ 0
+answer-clear tests a ts vs e = go (firstOf tests .number) refl e
   where
     go : (n : ℕ) → firstOf tests .number ≡ n → cond (not (eqb n 0)) (refusalAnswer (firstOf tests) ts vs) a .answer .number ≡ 0 → firstOf tests .number ≡ 0
     go zero q e = q

@@ -3,12 +3,11 @@ use mathlib.Core.Path.{_≡_, refl, sym, ap, ap₂, _∙_, subst}
 use mathlib.Core.Bool.{not, cond}
 use mathlib.Core.List.{List, [], _∷_, _++_}
 use mathlib.Core.Option.{Option, none, some}
-use Prim.Native.Nat.{ℕ, _+_, _≤_, _^_}
+use Prim.Native.Nat.{ℕ, _+_, _≤_}
 use native.Mathlib.Omega.{arith}
 use borrow.Author.Tests.{le-ltb}
 use lib.Dec.{ltb, lit<}
-use lib.ListN.{length, length-append}
-use Rattle.lists.specs.Below.{Below}
+use lib.ListN.{length}
 use Rattle.lists.specs.Lists.{member}
 use Rattle.bits.specs.Digits.{bytesOf, numberOf}
 use Rattle.bits.proofs.Digits.{length-digits, number-digits-lt}
@@ -19,22 +18,18 @@ use Rattle.refusals.specs.declared.Refusal.{Refusal}
 use Rattle.refusals.specs.Tests.{Test, test, firstOf, refused}
 use Rattle.refusals.proofs.Tests.{first-skip}
 use Rattle.position_format.specs.Rows.{rows}
-use Rattle.position_format.specs.Positions.{codedPositions, readPositions}
+use Rattle.position_format.specs.Positions.{readPositions}
 use Rattle.position_format.proofs.Rows.{rows-good}
 use Rattle.position_format.proofs.Positions.{read-coded}
-use Rattle.position_format.proofs.Sizes.{rows-size}
-use Rattle.ratio_format.specs.Windows.{windowSize}
 use Rattle.ratio_format.specs.Bodies.{codedRatios}
-use Rattle.ratio_format.proofs.Bodies.{nine-bytes}
-use Rattle.record_format.specs.Fields.{fieldOf, headSize, maxBody, fieldBytes, laid, nextAt}
+use Rattle.record_format.specs.Fields.{fieldOf}
 use Rattle.record_format.specs.Runs.{Run, rateTag, countTag, positionsTag, ratiosTag, rateSize, countSize, fieldsOf, recordOf}
 use Rattle.record_format.specs.Claims.{countPlace, ownTests, ownAnswer, runAnswer}
-use Rattle.record_format.specs.Sizes.{minRecord}
 use Rattle.record_format.specs.Reading.{Answer, refusalAnswer, recordAnswer, readTests, readWith, rateAt, countAt, positionsAt, ratiosAt, endAt, rateIn, countIn, positionsIn, ratiosIn, missing, listOf, otherRate, lacksRoom, countTests, roomTests, positionsTests, ratiosTests}
-use Rattle.record_format.proofs.Fields.{Stands, Small, StandAll, length-field, length-laid, laid-stand, pastAll, stand-past}
+use Rattle.record_format.proofs.Fields.{FieldStands, StandAll, length-field, fieldIn, stand-at, laid-stand, stand-past}
 use Rattle.record_format.proofs.Reading.{field-passes}
 use Rattle.record_format.proofs.Writing.{Fitting}
-use Rattle.record_format.proofs.Runs.{fields-small, length-record}
+use Rattle.record_format.proofs.Runs.{rateIndex, countIndex, positionsIndex, ratiosIndex, fields-small}
 
 -- a test before two lists that give the same
 first-cong : (t : Test) (us ts : List Test) → firstOf us ≡ firstOf ts → firstOf (t ∷ us) ≡ firstOf (t ∷ ts)
@@ -51,35 +46,48 @@ module _ (r : Run) (fit : Fitting r) (rest : List ℕ) where
   unfolding recordOf
   all = laid-stand [] (fieldsOf r) rest (fields-small r fit)
 
-  at-count : countAt s ≡ countPlace
-  at-count = all .0 .next ∙ omega (arith, length-field (fieldOf rateTag (bytesOf rateSize (r .rate))), length-digits 256 rateSize (r .rate))
+  -- each where reading looks for it
+  rate-stands : FieldStands s rateAt (fieldIn (fieldsOf r) rateIndex)
+  rate-stands = stand-at s rateAt (fieldsOf r) all rateIndex (lit< tt)
 
-  at-end : endAt s ≡ length (recordOf r)
+  count-stands : FieldStands s (countAt s) (fieldIn (fieldsOf r) countIndex)
+  count-stands = stand-at s rateAt (fieldsOf r) all countIndex (lit< tt)
+
+  positions-stand : FieldStands s (positionsAt s) (fieldIn (fieldsOf r) positionsIndex)
+  positions-stand = stand-at s rateAt (fieldsOf r) all positionsIndex (lit< tt)
+
+  pub ratios-stand : FieldStands s (ratiosAt s) (fieldIn (fieldsOf r) ratiosIndex)
+  ratios-stand = stand-at s rateAt (fieldsOf r) all ratiosIndex (lit< tt)
+
+  at-count : countAt s ≡ countPlace
+  at-count = rate-stands .next ∙ omega (arith, length-field (fieldOf rateTag (bytesOf rateSize (r .rate))), length-digits 256 rateSize (r .rate))
+
+  pub at-end : endAt s ≡ length (recordOf r)
   unfolding recordOf
   at-end = stand-past s rateAt (fieldsOf r) all ∙ omega arith
 
   -- the contents
   pub rate-is : rateIn s ≡ r .rate
-  rate-is = ap (numberOf 256) (all .0 .within) ∙ number-digits-lt (lit< tt) rateSize (omega (arith, rate-high (r .rate) (fit .listed)))
+  rate-is = ap (numberOf 256) (rate-stands .within) ∙ number-digits-lt (lit< tt) rateSize (omega (arith, rate-high (r .rate) (fit .listed)))
 
   pub count-is : countIn s ≡ length (r .positions)
-  count-is = ap (numberOf 256) (all .1 .0 .within) ∙ number-digits-lt (lit< tt) countSize (omega (arith, fit .few))
+  count-is = ap (numberOf 256) (count-stands .within) ∙ number-digits-lt (lit< tt) countSize (omega (arith, fit .few))
 
   pub positions-are : positionsIn s ≡ some (r .positions)
-  positions-are = ap₂ (readPositions rows) count-is (all .1 .1 .0 .within) ∙ read-coded rows rows-good (r .positions) (fit .valid)
+  positions-are = ap₂ (readPositions rows) count-is (positions-stand .within) ∙ read-coded rows rows-good (r .positions) (fit .valid)
 
   module _ (k : ℕ → List ℕ → Option (List ℕ)) (read : k (length (r .ratios)) (codedRatios (r .ratios)) ≡ some (r .ratios)) where
     pub ratios-are : ratiosIn k s ≡ some (r .ratios)
-    ratios-are = ap₂ k (count-is ∙ sym (fit .paired)) (all .1 .1 .1 .0 .within) ∙ read
+    ratios-are = ap₂ k (count-is ∙ sym (fit .paired)) (ratios-stand .within) ∙ read
 
     ratios-pass : firstOf (ratiosTests k s) ≡ firstOf []
     unfolding member
-    ratios-pass = field-passes (all .1 .1 .1 .0) (ratiosTag ∷ []) none _ refl tt ∙ first-skip _ _ (ap missing ratios-are)
+    ratios-pass = field-passes ratios-stand (ratiosTag ∷ []) none _ refl tt ∙ first-skip _ _ (ap missing ratios-are)
 
     positions-pass : firstOf (positionsTests s ++ ratiosTests k s) ≡ firstOf []
     unfolding member
     positions-pass =
-        field-passes (all .1 .1 .0) (positionsTag ∷ []) none (test (missing (positionsIn s)) 17 (positionsAt s) ∷ ratiosTests k s) refl tt
+        field-passes positions-stand (positionsTag ∷ []) none (test (missing (positionsIn s)) 17 (positionsAt s) ∷ ratiosTests k s) refl tt
         ∙ first-skip _ _ (ap missing positions-are) ∙ ratios-pass
 
     module _ (e : ℕ) (ts vs : List ℕ) where
@@ -94,7 +102,7 @@ module _ (r : Run) (fit : Fitting r) (rest : List ℕ) where
           ≡ firstOf (test (lacksRoom (length ts) (length vs) (length (r .positions))) 16 countPlace ∷ [])
       unfolding member
       count-passes =
-          field-passes (all .1 .0) (countTag ∷ []) (some countSize) (test (ltb maxPoints (countIn s)) 15 (countAt s) ∷ (roomTests s (length ts) (length vs) ++ (positionsTests s ++ ratiosTests k s)))
+          field-passes count-stands (countTag ∷ []) (some countSize) (test (ltb maxPoints (countIn s)) 15 (countAt s) ∷ (roomTests s (length ts) (length vs) ++ (positionsTests s ++ ratiosTests k s)))
           refl (length-digits 256 countSize (length (r .positions)))
           ∙ first-skip _ _ (le-ltb _ _ (subst (λ (c : ℕ). c ≤ maxPoints) (sym count-is) (fit .few)))
           ∙ room-passes
@@ -103,7 +111,7 @@ module _ (r : Run) (fit : Fitting r) (rest : List ℕ) where
       unfolding member
       only-own =
           let later = countTests s ++ (roomTests s (length ts) (length vs) ++ (positionsTests s ++ ratiosTests k s)) in
-          field-passes (all .0) (rateTag ∷ []) (some rateSize) (test (not (isRate (rateIn s))) 13 rateAt ∷ test (otherRate e (rateIn s)) 14 rateAt ∷ later)
+          field-passes rate-stands (rateTag ∷ []) (some rateSize) (test (not (isRate (rateIn s))) 13 rateAt ∷ test (otherRate e (rateIn s)) 14 rateAt ∷ later)
           refl (length-digits 256 rateSize (r .rate))
           ∙ first-skip _ _ (ap (λ (x : ℕ). not (isRate x)) rate-is ∙ ap not (fit .listed))
           ∙ ap (λ (x : ℕ). firstOf (test (otherRate e x) 14 rateAt ∷ later)) rate-is

@@ -2,7 +2,7 @@
 use mathlib.Core.Path.{_≡_, sym, ap, _∙_, subst}
 use mathlib.Core.Bool.{true, not}
 use mathlib.Core.List.{List, [], _∷_, _++_}
-use mathlib.Core.Option.{Option, none, some}
+use mathlib.Core.Option.{none, some}
 use Prim.Native.Nat.{ℕ, _≤_, _^_}
 use borrow.Author.Tests.{ltb-false, not-false}
 use lib.Dec.{ltb, lit<}
@@ -11,7 +11,7 @@ use Rattle.lists.specs.Below.{Below}
 use Rattle.bits.specs.Digits.{bytesOf}
 use Rattle.limits.specs.Rates.{isRate}
 use Rattle.limits.specs.Points.{maxPoints}
-use Rattle.refusals.specs.Tests.{Test, test, firstOf}
+use Rattle.refusals.specs.Tests.{test, firstOf}
 use Rattle.refusals.proofs.Tests.{first-clear}
 use Rattle.position_format.specs.Rows.{rows}
 use Rattle.position_format.proofs.Positions.{read-only}
@@ -21,18 +21,18 @@ use Rattle.record_format.specs.Fields.{bodyAt}
 use Rattle.record_format.specs.Runs.{Run, run, rateTag, countTag, positionsTag, ratiosTag, rateSize, countSize, fieldsOf, recordOf}
 use Rattle.record_format.specs.Reading.{recordAnswer, readTests, readStrict, readWith, rateAt, countAt, positionsAt, ratiosAt, endAt, rateIn, countIn, positionsIn, ratiosIn, missing, otherRate, countTests, roomTests, positionsTests, ratiosTests}
 use Rattle.record_format.proofs.Fields.{Follow, follow-laid}
-use Rattle.record_format.proofs.Reading.{Sound, field-clear, sound-follows, sound-below, sound-number, there, answer-quiet}
+use Rattle.record_format.proofs.Reading.{FieldSound, field-clear, sound-follows, sound-below, sound-number, missing-some, answer-clear}
 use Rattle.record_format.proofs.Writing.{Fitting}
 
 -- what the tests of reading say of bytes to which none applies
 record Read (s : List ℕ) : Type 0 where
-  rate : Sound s (rateTag ∷ []) (some rateSize) rateAt
+  rate : FieldSound s (rateTag ∷ []) (some rateSize) rateAt
   listed : isRate (rateIn s) ≡ true
-  count : Sound s (countTag ∷ []) (some countSize) (countAt s)
+  count : FieldSound s (countTag ∷ []) (some countSize) (countAt s)
   few : countIn s ≤ maxPoints
-  positions : Sound s (positionsTag ∷ []) none (positionsAt s)
+  positions : FieldSound s (positionsTag ∷ []) none (positionsAt s)
   points : (ts : List ℕ) × (positionsIn s ≡ some ts)
-  ratios : Sound s (ratiosTag ∷ []) none (ratiosAt s)
+  ratios : FieldSound s (ratiosTag ∷ []) none (ratiosAt s)
   values : (vs : List ℕ) × (ratiosIn strictRatios s ≡ some vs)
 
 passed : (e : ℕ) (s : List ℕ) (m n : ℕ) → firstOf (readTests strictRatios e s m n) .number ≡ 0 → Read s
@@ -56,9 +56,9 @@ passed e s m n clear =
       count = b .0;
       few = ltb-false _ _ (b15 .0);
       positions = c .0;
-      points = there (positionsIn s) (c17 .0);
+      points = missing-some (positionsIn s) (c17 .0);
       ratios = d .0;
-      values = there (ratiosIn strictRatios s) (d18 .0);
+      values = missing-some (ratiosIn strictRatios s) (d18 .0);
     }
 
 -- a run whose record the bytes s begin with
@@ -106,4 +106,4 @@ unfolding readWith
 accepted-begins e s ts vs bytes h =
     begins s bytes
     (passed e s (length ts) (length vs)
-    (answer-quiet (readTests strictRatios e s (length ts) (length vs)) (recordAnswer strictRatios s ts vs) ts vs h))
+    (answer-clear (readTests strictRatios e s (length ts) (length vs)) (recordAnswer strictRatios s ts vs) ts vs h))

@@ -1,7 +1,7 @@
--- Laws of a run's record: how long the bodies of its fields are, and how long it is.
+-- Laws of a run's record: which field is which, how long the bodies of its fields are, and how long it is.
 use mathlib.Core.List.{[]}
 use mathlib.Core.Path.{_≡_, _∙_}
-use Prim.Native.Nat.{_+_, _≤_}
+use Prim.Native.Nat.{ℕ, _+_, _≤_}
 use native.Mathlib.Omega.{arith}
 use lib.ListN.{length}
 use Rattle.bits.proofs.Digits.{length-digits}
@@ -15,6 +15,25 @@ use Rattle.record_format.specs.Runs.{Run, rateSize, countSize, fieldsOf,
 use Rattle.record_format.specs.Sizes.{minRecord}
 use Rattle.record_format.proofs.Fields.{Small, length-laid}
 use Rattle.record_format.proofs.Writing.{Fitting}
+
+-- ---- its fields, by what they hold: their indices in the list, and how many there are
+
+abbrev pub rateIndex : ℕ
+rateIndex = 0
+
+abbrev pub countIndex : ℕ
+countIndex = 1
+
+abbrev pub positionsIndex : ℕ
+positionsIndex = 2
+
+abbrev pub ratiosIndex : ℕ
+ratiosIndex = 3
+
+abbrev pub fieldCount : ℕ
+fieldCount = 4
+
+-- ---- its length
 
 module _ (r : Run) (fit : Fitting r) where
   pub positions-size : length (codedPositions rows (r .positions)) ≤ 18439

@@ -36,15 +36,20 @@ pub record Fitting (r : Run) : Type 0 where
   pub few : length (r .positions) ≤ maxPoints
   pub valid : validPositions rows (r .positions) ≡ true
 
--- no refusal
-quiet : (n : ℕ) → not (not (eqb n 0)) ≡ true → n ≡ 0
-quiet n e = eqb-true n 0 (not-false (eqb n 0) (not-true (not (eqb n 0)) e))
+-- the writer's tests 1 to 5 refuse nothing exactly where it accepts
+accepts-clear : (r : Run) → accepts r ≡ true → firstOf (runTests r) .number ≡ 0
+unfolding accepts
+accepts-clear r e = let n = firstOf (runTests r) .number in eqb-true n 0 (not-false (eqb n 0) (not-true (not (eqb n 0)) e))
+
+pub clear-accepts : (r : Run) → firstOf (runTests r) .number ≡ 0 → accepts r ≡ true
+unfolding accepts
+clear-accepts r e = rw e
 
 module _ (r : Run) where
   pub accepted-fits : accepts r ≡ true → Fitting r
-  unfolding accepts validPositions
+  unfolding validPositions
   accepted-fits e =
-      let c1 = first-clear _ _ (lit< tt) (quiet _ e) in
+      let c1 = first-clear _ _ (lit< tt) (accepts-clear r e) in
       let c2 = first-clear _ _ (lit< tt) (c1 .1) in
       let c3 = first-clear _ _ (lit< tt) (c2 .1) in
       let c4 = first-clear _ _ (lit< tt) (c3 .1) in
@@ -78,44 +83,39 @@ module _ (r : Run) where
       ∙ first-skip _ _ (le-ltb _ _ near)
       ∙ first-end))
 
--- the writer's tests 1 to 5 refuse nothing
-pub clear-accepts : (r : Run) → firstOf (runTests r) .number ≡ 0 → accepts r ≡ true
-unfolding accepts
-clear-accepts r e = rw e
-
 -- ---- tests 1 to 5
 
 module _ (r : Run) where
-  pub unlisted : isRate (r .rate) ≡ false → refusal 1 0 ≡ firstOf (runTests r)
-  unlisted e = sym (first-here _ _ (ap not e))
+  pub run-unlisted : isRate (r .rate) ≡ false → refusal 1 0 ≡ firstOf (runTests r)
+  run-unlisted e = sym (first-here _ _ (ap not e))
 
   module _ (listed : isRate (r .rate) ≡ true) where
-    pub unpaired : (length (r .ratios) ≡ length (r .positions) → ⊥) → refusal 2 0 ≡ firstOf (runTests r)
-    unpaired d = sym (first-skip _ _ (ap not listed) ∙ first-here _ _ (ap not (ne-eqb _ _ d)))
+    pub run-unpaired : (length (r .ratios) ≡ length (r .positions) → ⊥) → refusal 2 0 ≡ firstOf (runTests r)
+    run-unpaired d = sym (first-skip _ _ (ap not listed) ∙ first-here _ _ (ap not (ne-eqb _ _ d)))
 
     module _ (paired : length (r .ratios) ≡ length (r .positions)) where
-      past2 : firstOf (runTests r) ≡ firstOf (drop 2 (runTests r))
-      past2 = first-skip _ _ (ap not listed) ∙ first-skip _ _ (ap not (eq-eqb _ _ paired))
+      past-paired : firstOf (runTests r) ≡ firstOf (drop 2 (runTests r))
+      past-paired = first-skip _ _ (ap not listed) ∙ first-skip _ _ (ap not (eq-eqb _ _ paired))
 
-      pub many : maxPoints < length (r .positions) → refusal 3 0 ≡ firstOf (runTests r)
-      many h = sym (past2 ∙ first-here _ _ (lt-ltb _ _ h))
+      pub run-many : maxPoints < length (r .positions) → refusal 3 0 ≡ firstOf (runTests r)
+      run-many h = sym (past-paired ∙ first-here _ _ (lt-ltb _ _ h))
 
       module _ (few : length (r .positions) ≤ maxPoints) where
-        past3 : firstOf (runTests r) ≡ firstOf (drop 3 (runTests r))
-        past3 = past2 ∙ first-skip _ _ (le-ltb _ _ few)
+        past-few : firstOf (runTests r) ≡ firstOf (drop 3 (runTests r))
+        past-few = past-paired ∙ first-skip _ _ (le-ltb _ _ few)
 
-        pub high : firstHigh (r .positions) < length (r .positions) → refusal 4 (firstHigh (r .positions)) ≡ firstOf (runTests r)
-        high h = sym (past3 ∙ first-here _ _ (lt-ltb _ _ h))
+        pub run-high : firstHigh (r .positions) < length (r .positions) → refusal 4 (firstHigh (r .positions)) ≡ firstOf (runTests r)
+        run-high h = sym (past-few ∙ first-here _ _ (lt-ltb _ _ h))
 
         module _ (low : length (r .positions) ≤ firstHigh (r .positions)) where
-          past4 : firstOf (runTests r) ≡ firstOf (drop 4 (runTests r))
-          past4 = past3 ∙ first-skip _ _ (le-ltb _ _ low)
+          past-low : firstOf (runTests r) ≡ firstOf (drop 4 (runTests r))
+          past-low = past-few ∙ first-skip _ _ (le-ltb _ _ low)
 
-          pub far : firstOutside rows (r .positions) < length (r .positions) → refusal 5 (firstOutside rows (r .positions)) ≡ firstOf (runTests r)
-          far h = sym (past4 ∙ first-here _ _ (lt-ltb _ _ h))
+          pub run-far : firstOutside rows (r .positions) < length (r .positions) → refusal 5 (firstOutside rows (r .positions)) ≡ firstOf (runTests r)
+          run-far h = sym (past-low ∙ first-here _ _ (lt-ltb _ _ h))
 
-          pub accepted : length (r .positions) ≤ firstOutside rows (r .positions) → refusal 0 0 ≡ firstOf (runTests r)
-          accepted h = sym (past4 ∙ first-skip _ _ (le-ltb _ _ h) ∙ first-end)
+          pub run-accepted : length (r .positions) ≤ firstOutside rows (r .positions) → refusal 0 0 ≡ firstOf (runTests r)
+          run-accepted h = sym (past-low ∙ first-skip _ _ (le-ltb _ _ h) ∙ first-end)
 
 -- ---- the whole answer
 
@@ -134,13 +134,13 @@ module _ (r : Run) (o : List ℕ) where
       answered f (first-append-some (runTests r) _ (λ z. d (ap (λ (g : Refusal). g .number) e ∙ z)) ∙ sym e) d
 
   module _ (clear : firstOf (runTests r) .number ≡ 0) where
-    pub no-room : length o < length (recordOf r) → (refusedWriting (refusal 6 0) ≡ writeAnswer r o) × (zeros o ≡ writeOutput r o)
+    pub run-no-room : length o < length (recordOf r) → (refusedWriting (refusal 6 0) ≡ writeAnswer r o) × (zeros o ≡ writeOutput r o)
     unfolding writeRefusal
-    no-room h = answered (refusal 6 0) (first-append-none (runTests r) _ refl clear ∙ first-here _ _ (lt-ltb _ _ h)) (λ z. omega arith)
+    run-no-room h = answered (refusal 6 0) (first-append-none (runTests r) _ refl clear ∙ first-here _ _ (lt-ltb _ _ h)) (λ z. omega arith)
 
-    pub written : length (recordOf r) ≤ length o
+    pub run-written : length (recordOf r) ≤ length o
         → (_≡_ {A = WriteAnswer} (record { number = 0; place = 0; length = length (recordOf r) }) (writeAnswer r o)) × (over (recordOf r) o ≡ writeOutput r o)
     unfolding writeRefusal writeAnswer writeOutput
-    written h =
+    run-written h =
         let e : firstOf (runTests r ++ (test _ 6 0 ∷ [])) ≡ refusal 0 0 = first-append-none (runTests r) _ refl clear ∙ first-skip _ _ (le-ltb (length o) (length (recordOf r)) h) ∙ first-end in
         (rw e, rw e)

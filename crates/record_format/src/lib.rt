@@ -27,6 +27,9 @@ pub const POSITIONS_TAG: u8 = 3;
 
 pub const RATIOS_TAG: u8 = 4;
 
+// The offset of the rate's field: the first of a record.
+pub const RATE_AT: usize = 0;
+
 // The bytes before a field's body: its tag, and its length in two bytes.
 pub const HEAD_SIZE: usize = 3;
 

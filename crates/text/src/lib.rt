@@ -10,7 +10,7 @@ ghost use Rattle.text.specs.Numbers.{decimal, hex16, signed};
 ghost use Rattle.text.specs.PlacedAt.{PlacedAt};
 
 // A text as it stands.
-fn put_text(out: &mut [u8], at: usize, text: &[u8]) -> usize
+pub fn put_text(out: &mut [u8], at: usize, text: &[u8]) -> usize
     requires { ⌜ at + length (now text) ≤ length (now out) ⌝ }
     ensures { λ r. ⌜ PlacedAt (length (now (text .entry))) (now (text .entry)) at r (now (out .entry)) (now (out .exit)) ⌝ }
 {
@@ -23,7 +23,7 @@ fn put_text(out: &mut [u8], at: usize, text: &[u8]) -> usize
 }
 
 // A number in base 10.
-fn put_decimal(out: &mut [u8], at: usize, n: u64) -> usize
+pub fn put_decimal(out: &mut [u8], at: usize, n: u64) -> usize
     requires { ⌜ at + 20 ≤ length (now out) ⌝ }
     ensures { λ r. ⌜ PlacedAt 20 (decimal n) at r (now (out .entry)) (now (out .exit)) ⌝ }
 {
@@ -33,7 +33,7 @@ fn put_decimal(out: &mut [u8], at: usize, n: u64) -> usize
 }
 
 // 64 bits as 16 hex digits.
-fn put_hex(out: &mut [u8], at: usize, v: u64) -> usize
+pub fn put_hex(out: &mut [u8], at: usize, v: u64) -> usize
     requires { ⌜ at + 16 ≤ length (now out) ⌝ }
     ensures { λ r. ⌜ PlacedAt 16 (hex16 v) at r (now (out .entry)) (now (out .exit)) ⌝ }
 {
@@ -66,7 +66,7 @@ fn put_signed(out: &mut [u8], at: usize, z: i64) -> usize
 }
 
 // A word, a number in base 10 and the line's end.
-fn put_named(out: &mut [u8], at: usize, word: &[u8], n: u64) -> usize
+pub fn put_named(out: &mut [u8], at: usize, word: &[u8], n: u64) -> usize
     requires { ⌜ at + (length (now word) + 21) ≤ length (now out) ⌝ }
     ensures { λ r. ⌜ PlacedAt (length (now (word .entry)) + 21) (now (word .entry) ++ (decimal n ++ newline)) at r (now (out .entry)) (now (out .exit)) ⌝ }
 {

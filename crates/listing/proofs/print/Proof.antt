@@ -10,7 +10,8 @@ use Rattle.lists.specs.Below.{Below}
 use Rattle.lists.proofs.Below.{below-of}
 use Rattle.span.specs.declared.SpanAnswer.{SpanAnswer}
 use Rattle.text.proofs.PlacedAt.{put-same, put-more}
-use Rattle.listing.proofs.Printed.{Read, read-as, refused-text, run-text, Held, longest, held}
+use Rattle.inputs.proofs.Inputs.{Read, read-as, Held, read-held}
+use Rattle.listing.proofs.Printed.{refused-text, run-text, longest}
 use Rattle.listing.proofs.print.Statement.{statement}
 use Rattle.listing.proofs.print.Tie as tie
 
@@ -48,7 +49,7 @@ bytes c = below-of 256 (c .before .args .input .now) (λ i. c .shared-slice-know
 
 -- where nothing was refused, the outputs hold the run's numbers
 run-held : (c : tie.Else1) → Held (answered c .read-strict .result .count) (answered c .read-strict .last .1 .1 .0) (answered c .read-strict .last .1 .1 .1 .0)
-run-held c = held (read (answered c)) (entry (answered c) .before .pre .0) (c .if1 .left) (bytes (entry (answered c)))
+run-held c = read-held (read (answered c)) (bytes (entry (answered c))) (c .if1 .left)
 
 -- ---- the needs
 

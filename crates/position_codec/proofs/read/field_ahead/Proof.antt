@@ -1,6 +1,6 @@
 -- `field_ahead` meets its contract: the code's bits are the first of the word, and the field's the last of these.
 use mathlib.Core.Path.{ap, _∙_}
-use Prim.Native.Nat.{ℕ, _-_, _/_, _%_, _^_, _<_}
+use Prim.Native.Nat.{ℕ, _-_, _/_, _%_, _^_}
 use native.Mathlib.Omega.{arith}
 use borrow.Author.Needs.{needs}
 use Rattle.bits.proofs.Word.{mask, mask-pos}

@@ -2,7 +2,7 @@
 use Prim.Native.Nat.{_≤_, _<_}
 use native.Mathlib.Omega.{arith}
 use borrow.Author.Needs.{needs}
-use lib.ListN.{length, getD}
+use lib.ListN.{getD}
 use Rattle.bits.proofs.Packing.{length-left}
 use Rattle.position_format.specs.Rows.{rows, noRow}
 use Rattle.position_format.proofs.Codes.{row-within}
@@ -12,8 +12,8 @@ use Rattle.position_codec.proofs.read.field_at.Statement.{statement}
 use Rattle.position_codec.proofs.read.field_at.Tie as tie
 
 -- a code has a bit at least
-some : (s : tie.Start) → 0 < s .args .n
-some s = omega (arith, s .pre .2, row-within 1 69 rows rows-lengths (s .args .row) (omega (arith, s .pre .1, rows-count)) .0)
+nonzero : (s : tie.Start) → 0 < s .args .n
+nonzero s = omega (arith, s .pre .2, row-within 1 69 rows rows-lengths (s .args .row) (omega (arith, s .pre .1, rows-count)) .0)
 
 width-of-requires : tie.Need-width-of-requires
 width-of-requires c κs = search needs
@@ -35,7 +35,7 @@ get-bits-requires c κs =
     let narrow = row-narrow (a .row) (s .pre .1) in
     let fits : k .result ≤ a .n = omega (arith, k .ensures, s .pre .2) in
     let left = length-left (a .body .now) (a .at) in
-    (omega (arith, k .ensures), omega (arith, s .pre .3, some s), omega (arith, s .pre .0 .short, s .pre .3, some s))
+    (omega (arith, k .ensures), omega (arith, s .pre .3, nonzero s), omega (arith, s .pre .0 .short, s .pre .3, nonzero s))
 
 returns : tie.Need-returns
 returns c =

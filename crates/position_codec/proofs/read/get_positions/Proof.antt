@@ -18,7 +18,7 @@ use Rattle.position_format.proofs.Rows.{rows-good}
 use Rattle.position_format.proofs.Sizes.{rows-size}
 use Rattle.position_format.proofs.Reading.{read-long, read-inside}
 use Rattle.position_codec.specs.declared.read.GotPoint.{GotPoint}
-use Rattle.position_codec.specs.Found.{Within, PointFound}
+use Rattle.position_codec.specs.Found.{InBody, PointFound}
 use Rattle.position_codec.proofs.State.{State, state-start, state-raw, state-far, state-none, state-more, state-end}
 use Rattle.position_codec.proofs.read.get_positions.Statement.{statement}
 use Rattle.position_codec.proofs.read.get_positions.Tie as tie
@@ -46,7 +46,7 @@ loop-holds c = let s = c .before .before .before in state-start rows rows-good (
 abbrev start : tie.At-loop Inv-loop μ-loop → tie.Start Inv-loop μ-loop
 start c = c .before .before .before .before
 
-inside : (c : tie.At-loop Inv-loop μ-loop) → Within (start c .args .body .now) (c .loop .at)
+inside : (c : tie.At-loop Inv-loop μ-loop) → InBody (start c .args .body .now) (c .loop .at)
 inside c =
     let a = start c .args in
     let l = c .loop in

@@ -3,10 +3,11 @@ use mathlib.Core.Path.{_≡_, _∙_}
 use native.Mathlib.Nat.{mod-lt}
 use native.Mathlib.Omega.{arith}
 use borrow.Author.Needs.{needs}
+use lib.Dec.{lit≤}
 use lib.ListN.{length, getD, take, drop}
 use lib.Pow.{pow-pos}
 use mathlib.Core.List.{List}
-use Prim.Native.Nat.{ℕ, _≤_, _<_}
+use Prim.Native.Nat.{ℕ, _/_, _^_, _≤_, _<_}
 use Rattle.lists.specs.Below.{Below}
 use Rattle.bits.specs.Digits.{numberOf}
 use Rattle.bits.specs.Packing.{bits, ahead}
@@ -15,8 +16,8 @@ use Rattle.position_format.specs.Rows.{Row, rows, noRow}
 use Rattle.position_format.proofs.Rows.{rows-good}
 use Rattle.position_codec.specs.declared.table.GotStep.{GotStep}
 use Rattle.position_codec.specs.Found.{Leads, ReadBy, StepFound}
-use Rattle.position_codec.proofs.Rows.{rows-count, rows-short, lead-ahead, found-zero}
-use Rattle.position_codec.proofs.StepFound.{field-word, found-few, found-by}
+use Rattle.position_codec.proofs.Rows.{rows-count, rows-short, rows-zero, lead-zero}
+use Rattle.position_codec.proofs.StepFound.{field-word, lead-ahead, found-few, found-by, found-zero}
 use Rattle.position_codec.proofs.read.step_ahead.Statement.{statement}
 use Rattle.position_codec.proofs.read.step_ahead.Tie as tie
 
@@ -29,9 +30,12 @@ below s = below-left (s .args .body .now) (s .args .at)
 
 returns : tie.Need-returns
 returns c =
-    let start = c .before .before in
-    let a = start .args in
-    found-zero (left start) (below start) (a .w) (start .fits .w .fits) (start .pre .1) (omega (arith, start .pre .2, length-left (a .body .now) (a .at))) (c .if1 .taken)
+    let s = c .before .before in
+    let w = s .args .w in
+    let one-bit : Leads rows (ahead 4 (left s)) 0 1 =
+    lead-ahead rows (left s) w (s .pre .1) 4 (lit≤ tt) 0 1 (lead-zero (w / 2 ^ 60) (omega (arith, s .fits .w .fits)) (omega (arith, c .if1 .taken))) in
+    found-zero rows rows-good 4 rows-short (left s) (below s) 0 1 one-bit (rows-zero .0) (rows-zero .1) (rows-zero .2)
+    (omega (arith, s .pre .2, length-left (s .args .body .now) (s .args .at)))
 
 lead-of-requires : tie.Need-lead-of-requires
 lead-of-requires c κs = search needs
@@ -41,7 +45,7 @@ abbrev start : tie.After-lead-of → tie.Start
 start c = c .before .before .before
 
 leads : (c : tie.After-lead-of) → Leads rows (ahead 4 (left (start c))) (c .lead-of .result .row) (c .lead-of .result .len)
-leads c = let s = start c in lead-ahead (left s) (below s) (s .args .w) (s .fits .w .fits) (s .pre .1) (c .lead-of .result .row) (c .lead-of .result .len) (c .lead-of .ensures .0)
+leads c = let s = start c in lead-ahead rows (left s) (s .args .w) (s .pre .1) 4 (lit≤ tt) (c .lead-of .result .row) (c .lead-of .result .len) (c .lead-of .ensures .0)
 
 mul-if2 : tie.Need-mul-if2
 mul-if2 c = search needs

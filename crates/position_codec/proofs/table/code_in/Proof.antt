@@ -42,7 +42,7 @@ returns c =
     let small = row-small i (inside start) in
     let narrow = row-narrow i (inside start) in
     coded-by rows z (start .pre .0) i (start .pre .1) (prefixLenOf i) (prefixOf i) (k .result) (c .modulo .result)
-    (small .some) (omega (arith, small .short)) (small .prefix) (omega (arith, k .ensures))
+    (small .prefixed) (omega (arith, small .short)) (small .prefix) (omega (arith, k .ensures))
     (ap (λ (r : Row). r .prefix) (row-at i (inside start))) (sym (k .ensures))
     (c .modulo .ensures ∙ ap (residue (k .result)) (toZ-ofZ w64 z (start .fits .z)))
 

@@ -1,11 +1,11 @@
 -- `reading_in` meets its contract: by the row's highest step.
-use mathlib.Core.Path.{_≡_, ap, sym, subst, _∙_}
-use Prim.Native.Nat.{ℕ, _≤_, _<_, _^_}
+use mathlib.Core.Path.{ap, sym, subst, _∙_}
+use Prim.Native.Nat.{ℕ, _≤_, _^_}
 use native.Mathlib.Omega.{arith}
 use borrow.Author.Needs.{needs}
 use lib.Dec.{T}
-use lib.IntN.{ℤ, pos, natAbs}
-use lib.ListN.{length, getD}
+use lib.IntN.{ℤ, natAbs}
+use lib.ListN.{getD}
 use lib.Signed.{nonNeg}
 use Rattle.position_format.specs.Rows.{Row, rows, noRow}
 use Rattle.position_format.proofs.Rows.{full, rows-good, good-full}

@@ -33,7 +33,7 @@ cast-result-2 c = search needs
 
 -- what is counted, and how many steps are below zero, are small
 counted-lt : (x : ℕ) {m : ℕ} → 0 < m → m ≤ 2 ^ 57 → x % m < 2 ^ 62
-counted-lt x some few = omega (arith, mod-lt x some)
+counted-lt x nonzero few = omega (arith, mod-lt x nonzero)
 
 half-lt : {m : ℕ} → m ≤ 2 ^ 57 → m / 2 < 2 ^ 62
 half-lt few = omega arith

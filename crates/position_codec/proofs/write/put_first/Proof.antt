@@ -22,11 +22,11 @@ lay-requires : tie.Need-lay-requires
 lay-requires c κs = (omega arith, start-sound, omega arith, c .shared-slice-known2 .given 0 .fits)
 
 -- where the first is laid: the test that there is one, and the start
-abbrev some : tie.After-lay → tie.Else1
-some c = c .before .before .before
+abbrev filled : tie.After-lay → tie.Else1
+filled c = c .before .before .before
 
 abbrev start : tie.After-lay → tie.Start
-start c = some c .before .before .before
+start c = filled c .before .before .before
 
 same-length : tie.Need-same-length
 same-length c = search needs

@@ -79,7 +79,7 @@ lay-both-requires c κs =
     let coded = c .before in
     let s = start (coded .before .before) in
     let e = coded .code-of .ensures in
-    (small s, s .pre .2, e .some, e .short, e .prefix, e .narrow, e .rest)
+    (small s, s .pre .2, e .prefixed, e .short, e .prefix, e .narrow, e .rest)
 
 same-length-2 : tie.Need-same-length-2
 same-length-2 c = search needs

@@ -28,13 +28,13 @@ shared-slice-read-t16 c = search needs
 
 returns : tie.Need-returns
 returns c =
-    let some = c .before .before .before .before in
-    let start = some .before .before .before in
+    let filled = c .before .before .before .before in
+    let start = filled .before .before .before in
     let a = start .args in
     let b = getD (a .body .now) (a .at) 0 in
     let m : b % 128 ≡ b = omega arith in
     place-reference (a .ratios .now) (a .i) (start .pre .0) (drop (a .at) (a .body .now)) b (rest-first (a .at) (a .body .now))
-    (λ e. omega (arith, length-drop (a .at) (a .body .now), some .if1 .taken)) (omega arith) (λ e. omega arith)
+    (λ e. omega (arith, length-drop (a .at) (a .body .now), filled .if1 .taken)) (omega arith) (λ e. omega arith)
     (getD (a .ratios .now) (a .i - 1 - b) 0) (omega arith) (λ e. omega arith) (ap (λ (k : ℕ). getD (a .ratios .now) (a .i - 1 - k) 0) (sym m)) (omega arith)
 
 open-nth-requires : tie.Need-open-nth-requires

@@ -53,13 +53,13 @@ sub-result c = let key = c .before .before .before .before in omega (arith, most
 
 returns-3 : tie.Need-returns-3
 returns-3 c = λ h.
-    let some = c .before .before .before in
-    let key = some .before .before in
+    let filled = c .before .before .before in
+    let key = filled .before .before in
     let d = key .before .before .before in
     let a = d .args in
     let k = key .key-of in
     indexed-found (a .newest .now) (a .ratios .now) (a .i) (getD (a .newest .now) (k .result) 0) (omega arith) (d .pre .1) (ap (λ (m : ℕ). getD (a .newest .now) m 0) (k .ensures .0))
-    (some .if1 .left) h (c .if3 .taken)
+    (filled .if1 .left) h (c .if3 .taken)
 
 returns-4 : tie.Need-returns-4
 returns-4 c = λ h. absurd (omega arith)

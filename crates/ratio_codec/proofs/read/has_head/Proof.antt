@@ -1,5 +1,6 @@
 -- `has_head` meets its contract: each form by the test of its head.
 use mathlib.Core.Path.{sym, ap, _∙_, subst}
+use Prim.Native.Nat.{_≤_, _<_}
 use native.Mathlib.Omega.{arith}
 use Rattle.lists.specs.Compare.{begins}
 use Rattle.ratio_format.specs.declared.RatioForm.{RatioForm}
@@ -19,14 +20,18 @@ has-one-requires c κs = search needs
 enum-known-f-2 : tie.Need-enum-known-f-2
 enum-known-f-2 c = search needs
 
+-- the numbers of an xor form, where it is one
+fits : (c : tie.After-f2) → let g = c .f2 .given .0 in (g .0 < windowSize) × (g .1 .0 ≤ 8) × (g .1 .1 .0 ≤ 6)
+fits c = subst (Fit windowSize) (c .f2 .given .1) (c .before .before .before .pre)
+
 add-has-two : tie.Need-add-has-two
-add-has-two c = let h = subst (Fit windowSize) (c .before .f2 .given .1) (c .before .before .before .before .pre) in omega arith
+add-has-two c = omega (arith, fits (c .before))
 
 mul-has-two : tie.Need-mul-has-two
-mul-has-two c = let h = subst (Fit windowSize) (c .before .f2 .given .1) (c .before .before .before .before .pre) in omega arith
+mul-has-two c = omega (arith, fits (c .before))
 
 add-has-two-2 : tie.Need-add-has-two-2
-add-has-two-2 c = let h = subst (Fit windowSize) (c .before .f2 .given .1) (c .before .before .before .before .pre) in omega arith
+add-has-two-2 c = omega (arith, fits (c .before))
 
 has-two-requires : tie.Need-has-two-requires
 has-two-requires c κs = search needs

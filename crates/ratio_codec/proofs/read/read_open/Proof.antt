@@ -6,7 +6,7 @@ use native.Mathlib.Omega.{arith}
 use lib.ListN.{length, getD, length-reverse}
 use Rattle.ratio_format.specs.Open.{openXor}
 use Rattle.ratio_format.proofs.Open.{open-empty, open-reference, open-far, open-xor, open-away, open-exception, open-cut}
-use Rattle.ratio_format.proofs.Windows.{back}
+use Rattle.ratio_format.proofs.Windows.{reverse-back}
 use Rattle.outputs.proofs.Parts.{rest-is}
 use borrow.Author.Needs.{needs}
 use Rattle.ratio_codec.proofs.read.read_open.Statement.{statement}
@@ -43,7 +43,7 @@ returns-2 c =
     let l = a .window .now in
     let b = getD (a .s .now) 0 0 in
     let h = c .before .if3 .taken in
-    open-reference (reverse l) (a .s .now) (getD l (length l - 1 - b) 0) (some .if1 .left) (low .if2 .taken) (rw length-reverse h) (sym (back l b h))
+    open-reference (reverse l) (a .s .now) (getD l (length l - 1 - b) 0) (some .if1 .left) (low .if2 .taken) (rw length-reverse h) (sym (reverse-back l b h))
 
 returns-3 : tie.Need-returns-3
 returns-3 c =
@@ -86,7 +86,7 @@ returns-4 c =
     let p = getD s 0 0 - 128 in
     let u = getD l (length l - 1 - p) 0 in
     open-xor (reverse l) s u (c .read-xor .result) (some .if1 .left) (high .if2 .left) (inside .before .if4 .taken)
-    (rw length-reverse (inside .if5 .taken)) (sym (back l p (inside .if5 .taken))) (c .read-xor .ensures ∙ ap (openXor u) (rest-is 1 s))
+    (rw length-reverse (inside .if5 .taken)) (sym (reverse-back l p (inside .if5 .taken))) (c .read-xor .ensures ∙ ap (openXor u) (rest-is 1 s))
 
 returns-5 : tie.Need-returns-5
 returns-5 c =

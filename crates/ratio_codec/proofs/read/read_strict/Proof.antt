@@ -7,7 +7,7 @@ use lib.ListN.{length, getD, length-reverse}
 use Rattle.ratio_format.specs.declared.Read.the-variants.{Nothing}
 use Rattle.ratio_format.specs.Windows.{windowSize}
 use Rattle.ratio_format.specs.Choice.{find}
-use Rattle.ratio_format.proofs.Windows.{back}
+use Rattle.ratio_format.proofs.Windows.{reverse-back}
 use Rattle.ratio_format.proofs.Open.{open-empty, strict-nothing}
 use Rattle.ratio_codec.proofs.References.{Named, named-good, named-other}
 use borrow.Author.Needs.{needs}
@@ -63,7 +63,7 @@ module _ (c : tie.After-pass-equal) where
   named : Named (reverse l) v s
   named =
       let h = c .before .before .if2 .taken in
-      (omega arith, rw length-reverse h, back l (getD s 0 0) h)
+      (omega arith, rw length-reverse h, reverse-back l (getD s 0 0) h)
 
   found : find v (reverse l) ≡ c .pass-equal .result
   found = omega (arith, c .pass-equal .ensures)

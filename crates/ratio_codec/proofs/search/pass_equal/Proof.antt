@@ -4,7 +4,7 @@ use mathlib.Core.List.{reverse}
 use Prim.Native.Nat.{_-_, _≤_}
 use native.Mathlib.Omega.{arith}
 use lib.ListN.{length, length-reverse}
-use Rattle.ratio_format.proofs.Windows.{back}
+use Rattle.ratio_format.proofs.Windows.{reverse-back}
 use Rattle.ratio_codec.proofs.Find.{findFrom, findFrom-here, findFrom-next, findFrom-end}
 use Rattle.ratio_codec.proofs.search.pass_equal.Statement.{statement}
 use Rattle.ratio_codec.proofs.search.pass_equal.Tie as tie
@@ -36,7 +36,7 @@ returns c =
     let l = c .before .before .before .loop in
     let w = a .window .now in
     let h = c .before .before .loop-test .taken in
-    findFrom-here (a .v) (reverse w) (l .i) (rw length-reverse h) (back w (l .i) h ∙ c .if1 .taken) ∙ l .inv .1
+    findFrom-here (a .v) (reverse w) (l .i) (rw length-reverse h) (reverse-back w (l .i) h ∙ c .if1 .taken) ∙ l .inv .1
 
 add-i : tie.Need-add-i Inv-loop μ-loop
 add-i c = omega arith
@@ -50,7 +50,7 @@ loop-again c =
     let l = c .before .before .before .loop in
     let w = a .window .now in
     let h = c .before .before .loop-test .taken in
-    (omega arith, sym (findFrom-next (a .v) (reverse w) (l .i) (rw length-reverse h) (λ e. c .if1 .left (sym (back w (l .i) h) ∙ e))) ∙ l .inv .1)
+    (omega arith, sym (findFrom-next (a .v) (reverse w) (l .i) (rw length-reverse h) (λ e. c .if1 .left (sym (reverse-back w (l .i) h) ∙ e))) ∙ l .inv .1)
 
 returns-2 : tie.Need-returns-2 Inv-loop μ-loop
 returns-2 c =

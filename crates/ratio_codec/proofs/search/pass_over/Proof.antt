@@ -3,7 +3,7 @@ use mathlib.Core.List.{reverse}
 use Prim.Native.Nat.{ℕ, _-_, _^_, _≤_}
 use native.Mathlib.Omega.{arith}
 use lib.ListN.{length, getD}
-use Rattle.ratio_format.proofs.Windows.{back}
+use Rattle.ratio_format.proofs.Windows.{reverse-back}
 use Rattle.ratio_window.specs.Passed.{Passed}
 use Rattle.ratio_window.proofs.Passed.{passed-none, passed-next}
 use Rattle.ratio_window.proofs.Sums.{sum-under}
@@ -59,7 +59,7 @@ loop-again c =
       omega arith,
       λ s q.
           passed-next (a .v) (reverse w) s (a .from) (l .i) (l .inv .2 s q)
-          (rw (back w (l .i) h) (sum-under (a .v) (getD w k 0) s (start .fits .v .fits) known (omega (arith, c .before .if1 .left)) (c .if2 .left))),
+          (rw (reverse-back w (l .i) h) (sum-under (a .v) (getD w k 0) s (start .fits .v .fits) known (omega (arith, c .before .if1 .left)) (c .if2 .left))),
     )
 
 returns-3 : tie.Need-returns-3 Inv-loop μ-loop

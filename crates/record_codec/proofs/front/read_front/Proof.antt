@@ -1,9 +1,6 @@
 -- `read_front` meets its contract, by what `read_rate` and `read_count` find.
-use Prim.Native.Nat.{_≤_}
 use native.Mathlib.Omega.{arith}
 use borrow.Author.Needs.{needs}
-use lib.ListN.{length}
-use Rattle.record_format.specs.Reading.{countAt}
 use Rattle.record_codec.proofs.Fronts.{front-rate, front-count, front-found}
 use Rattle.record_codec.proofs.front.read_front.Statement.{statement}
 use Rattle.record_codec.proofs.front.read_front.Tie as tie

@@ -1,8 +1,6 @@
 -- `read_record` meets its contract: a law of readings answers each return.
-use mathlib.Core.Bool.{Bool, false}
-use mathlib.Core.List.{List}
-use mathlib.Core.Path.{_≡_, refl, sym, _∙_}
-use Prim.Native.Nat.{ℕ, _≤_}
+use mathlib.Core.Bool.{false}
+use mathlib.Core.Path.{_≡_, sym, _∙_}
 use native.Mathlib.Omega.{arith}
 use borrow.Author.Needs.{needs}
 use lib.ListN.{length}
@@ -23,27 +21,27 @@ front k = k .before .before
 abbrev room : tie.After-read-positions → tie.Else2
 room k = k .before .before
 
-abbrev positions : tie.After-refused2 → tie.After-read-positions
+abbrev positions : tie.After-positions-refused → tie.After-read-positions
 positions k = k .before .before .before
 
 abbrev later : tie.After-read-ratios → tie.Else3
 later k = k .before .before
 
-abbrev ratios : tie.After-refused3 → tie.After-read-ratios
+abbrev ratios : tie.After-ratios-refused → tie.After-read-ratios
 ratios k = k .before .before .before
 
 -- the call that clears the outputs, as each return of a refusal sees it
-abbrev cleared : tie.After-slice-known4 → tie.After-refuse-read
-cleared k = k .before .before .before .before
+abbrev front-cleared : tie.After-slice-known4 → tie.After-refuse-read
+front-cleared k = k .before .before .before .before
 
-abbrev cleared2 : tie.After-slice-known6 → tie.After-refuse-read2
-cleared2 k = k .before .before .before .before
+abbrev room-cleared : tie.After-slice-known6 → tie.After-refuse-read2
+room-cleared k = k .before .before .before .before
 
-abbrev cleared3 : tie.After-slice-known9 → tie.After-refuse-read3
-cleared3 k = k .before .before .before .before
+abbrev positions-cleared : tie.After-slice-known9 → tie.After-refuse-read3
+positions-cleared k = k .before .before .before .before
 
-abbrev cleared4 : tie.After-slice-known12 → tie.After-refuse-read4
-cleared4 k = k .before .before .before .before
+abbrev ratios-cleared : tie.After-slice-known12 → tie.After-refuse-read4
+ratios-cleared k = k .before .before .before .before
 
 -- ---- what holds past the test of room
 
@@ -79,12 +77,12 @@ same-length-2 c = search needs
 
 returns : tie.Need-returns
 returns c =
-    let i = cleared c .before .before .before in
+    let i = front-cleared c .before .before .before in
     let k = i .before .before in
     let a = entry k .args in
     answered-as
     (read-front (a .openly) (a .expected) (a .input .now) (a .positions .now) (a .ratios .now) (k .read-front .result) (k .read-front .ensures) (i .if1 .taken))
-    (cleared c .refuse-read .ensures)
+    (front-cleared c .refuse-read .ensures)
 
 lacks-requires : tie.Need-lacks-requires
 lacks-requires c κs = search needs
@@ -106,14 +104,14 @@ same-length-4 c = search needs
 
 returns-2 : tie.Need-returns-2
 returns-2 c =
-    let i = cleared2 c .before .before .before .before in
+    let i = room-cleared c .before .before .before .before in
     let l = i .before in
     let k = front (l .before) in
     let a = entry k .args in
     answered-as
     (read-lacks (a .openly) (a .expected) (a .input .now) (a .positions .now) (a .ratios .now) (k .read-front .result) (k .read-front .ensures) (l .before .if1 .left)
     (sym (l .lacks .ensures) ∙ i .if2 .taken))
-    (cleared2 c .refuse-read2 .ensures)
+    (room-cleared c .refuse-read2 .ensures)
 
 read-positions-requires : tie.Need-read-positions-requires
 read-positions-requires c κs =
@@ -139,14 +137,14 @@ same-length-6 c = search needs
 
 returns-3 : tie.Need-returns-3
 returns-3 c =
-    let i = cleared3 c .before .before .before in
+    let i = positions-cleared c .before .before .before in
     let p = positions (i .before) in
     let r = room p in
     let f = fronted r in
     let a = start r .args in
     answered-as
     (read-positions (a .openly) (a .expected) (a .input .now) (a .positions .now) (a .ratios .now) (f .read-front .result) (f .read-front .ensures) (good-front r) (enough r) (p .read-positions .result) _ (p .read-positions .ensures) (i .if3 .taken) (p .read-positions .kept .1 .1 .1 .0))
-    (cleared3 c .refuse-read3 .ensures)
+    (positions-cleared c .refuse-read3 .ensures)
 
 read-ratios-requires : tie.Need-read-ratios-requires
 read-ratios-requires c κs =
@@ -175,7 +173,7 @@ same-length-8 c = search needs
 
 returns-4 : tie.Need-returns-4
 returns-4 c =
-    let j = cleared4 c .before .before .before in
+    let j = ratios-cleared c .before .before .before in
     let q = ratios (j .before) in
     let i = later q in
     let p = positions (i .before) in
@@ -185,7 +183,7 @@ returns-4 c =
     answered-as
     (read-ratios (a .openly) (a .expected) (a .input .now) (a .positions .now) (a .ratios .now) (f .read-front .result) (f .read-front .ensures) (good-front r) (enough r) (p .read-positions .result) _ (p .read-positions .ensures) (i .if3 .left)
     (q .read-ratios .result) _ (q .read-ratios .ensures) (j .if4 .taken) (p .read-positions .kept .1 .1 .1 .0) (q .read-ratios .kept .1 .1 .1 .1 .0))
-    (cleared4 c .refuse-read4 .ensures)
+    (ratios-cleared c .refuse-read4 .ensures)
 
 cast-t42 : tie.Need-cast-t42
 cast-t42 c =

@@ -8,7 +8,7 @@ use lib.ListN.{length}
 use Rattle.limits.specs.Points.{firstHigh}
 use Rattle.limits.specs.Rates.{isRate}
 use Rattle.record_format.specs.Runs.{Run, run}
-use Rattle.record_format.proofs.Writing.{unlisted, unpaired, many, high, far, accepted}
+use Rattle.record_format.proofs.Writing.{run-unlisted, run-unpaired, run-many, run-high, run-far, run-accepted}
 use Rattle.record_codec.proofs.writer.check_run.Statement.{statement}
 use Rattle.record_codec.proofs.writer.check_run.Tie as tie
 
@@ -43,15 +43,15 @@ is-rate-requires : tie.Need-is-rate-requires
 is-rate-requires c κs = search needs
 
 returns : tie.Need-returns
-returns c = unlisted (given-run (c .before)) (sym (c .before .is-rate .ensures) ∙ not-true _ (c .if1 .taken))
+returns c = run-unlisted (given-run (c .before)) (sym (c .before .is-rate .ensures) ∙ not-true _ (c .if1 .taken))
 
 returns-2 : tie.Need-returns-2
-returns-2 c = unpaired (given-run (c .before .before)) (listed (c .before)) (c .if2 .taken)
+returns-2 c = run-unpaired (given-run (c .before .before)) (listed (c .before)) (c .if2 .taken)
 
 returns-3 : tie.Need-returns-3
 returns-3 c =
     let p = c .before in
-    many (given-run (rated p)) (listed (p .before)) (p .if2 .left) (c .if3 .taken)
+    run-many (given-run (rated p)) (listed (p .before)) (p .if2 .left) (c .if3 .taken)
 
 first-high-requires : tie.Need-first-high-requires
 first-high-requires c κs = search needs
@@ -65,7 +65,7 @@ returns-4 c =
     let p = counted h .before in
     let r = given-run (rated p) in
     rw (h .first-high .ensures)
-    (high r (listed (p .before)) (p .if2 .left) (counted h .if3 .left) (subst (λ (n : ℕ). n < length (r .positions)) (h .first-high .ensures) (c .if4 .taken)))
+    (run-high r (listed (p .before)) (p .if2 .left) (counted h .if3 .left) (subst (λ (n : ℕ). n < length (r .positions)) (h .first-high .ensures) (c .if4 .taken)))
 
 first-outside-requires : tie.Need-first-outside-requires
 first-outside-requires c κs = search needs
@@ -80,7 +80,7 @@ returns-5 c =
     let p = counted h .before in
     let r = given-run (rated p) in
     rw (o .first-outside .ensures)
-    (far r (listed (p .before)) (p .if2 .left) (counted h .if3 .left) (none-high (low o)) (subst (λ (n : ℕ). n < length (r .positions)) (o .first-outside .ensures) (c .if5 .taken)))
+    (run-far r (listed (p .before)) (p .if2 .left) (counted h .if3 .left) (none-high (low o)) (subst (λ (n : ℕ). n < length (r .positions)) (o .first-outside .ensures) (c .if5 .taken)))
 
 returns-6 : tie.Need-returns-6
 returns-6 c =
@@ -88,7 +88,7 @@ returns-6 c =
     let h = low o .before in
     let p = counted h .before in
     let r = given-run (rated p) in
-    accepted r (listed (p .before)) (p .if2 .left) (counted h .if3 .left) (none-high (low o)) (subst (λ (n : ℕ). length (r .positions) ≤ n) (o .first-outside .ensures) (c .if5 .left))
+    run-accepted r (listed (p .before)) (p .if2 .left) (counted h .if3 .left) (none-high (low o)) (subst (λ (n : ℕ). length (r .positions) ≤ n) (o .first-outside .ensures) (c .if5 .left))
 
 pub check-run-spec : {M : Type 1} → statement M
 check-run-spec =

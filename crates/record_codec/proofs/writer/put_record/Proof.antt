@@ -1,7 +1,6 @@
 -- `put_record` meets its contract: one field after the other, each in the rest of the output.
 use mathlib.Core.List.{List, [], _∷_}
-use mathlib.Core.Path.{_≡_, _∙_}
-use Prim.Native.Nat.{ℕ, _+_, _-_, _≤_}
+use Prim.Native.Nat.{ℕ, _+_, _-_}
 use native.Mathlib.Omega.{arith}
 use borrow.Author.Needs.{needs}
 use borrow.Rule.Slice.PartMut.{putMid}
@@ -10,7 +9,7 @@ use Rattle.bits.specs.Digits.{bytesOf}
 use Rattle.outputs.specs.declared.Wrote.the-variants.{Done}
 use Rattle.outputs.specs.Outputs.{Placed}
 use Rattle.record_format.specs.Fields.{Field, fieldOf, laid}
-use Rattle.record_format.specs.Runs.{Run, run, rateTag, countTag, positionsTag, ratiosTag, rateSize, countSize, recordOf}
+use Rattle.record_format.specs.Runs.{rateTag, countTag, positionsTag, ratiosTag, rateSize, countSize, recordOf}
 use Rattle.position_format.specs.Rows.{rows}
 use Rattle.position_format.specs.Positions.{codedPositions}
 use Rattle.ratio_format.specs.Bodies.{codedRatios}
@@ -26,25 +25,25 @@ lent k = k .before .before
 abbrev known : tie.After-put-number → tie.Start
 known k = lent k .before .before .before
 
-abbrev rated : tie.After-a → tie.After-put-number
+abbrev rated : tie.After-rate-end → tie.After-put-number
 rated k = k .before .before .before .before
 
-abbrev counting : tie.After-put-number2 → tie.After-a
+abbrev counting : tie.After-put-number2 → tie.After-rate-end
 counting k = k .before .before .before
 
-abbrev counted : tie.After-b → tie.After-put-number2
+abbrev counted : tie.After-count-size → tie.After-put-number2
 counted k = k .before .before .before .before
 
-abbrev coding : tie.After-put-coded → tie.After-b
+abbrev coding : tie.After-put-coded → tie.After-count-size
 coding k = k .before .before .before
 
-abbrev coded : tie.After-d → tie.After-put-coded
+abbrev coded : tie.After-positions-size → tie.After-put-coded
 coded k = k .before .before .before .before
 
-abbrev closing : tie.After-put-coded2 → tie.After-d
+abbrev closing : tie.After-put-coded2 → tie.After-positions-size
 closing k = k .before .before .before
 
-abbrev closed : tie.After-f → tie.After-put-coded2
+abbrev closed : tie.After-ratios-size → tie.After-put-coded2
 closed k = k .before .before .before .before
 
 -- ---- the fields, and what stands in the output after each
@@ -63,53 +62,53 @@ module _ (e : tie.Start) where
   ratios-field = fieldOf ratiosTag (codedRatios (e .args .ratios .now))
 
 -- the rate
-module _ (k : tie.After-a) where
-  abbrev entry1 : tie.Start
-  entry1 = known (rated k)
+module _ (k : tie.After-rate-end) where
+  abbrev rate-entry : tie.Start
+  rate-entry = known (rated k)
 
-  done1 : Placed (laid (rate-field entry1 ∷ [])) (Done (k .a .given .0 .0)) (entry1 .args .out .now) (rated k .put-number .last .0)
-  done1 = first-done (rate-field entry1) (entry1 .args .out .now) _ _ _ (rated k .put-number .ensures) (k .a .given .1)
+  rate-done : Placed (laid (rate-field rate-entry ∷ [])) (Done (k .rate-end .given .0 .0)) (rate-entry .args .out .now) (rated k .put-number .last .0)
+  rate-done = first-done (rate-field rate-entry) (rate-entry .args .out .now) _ _ _ (rated k .put-number .ensures) (k .rate-end .given .1)
 
 -- and the count
-module _ (k : tie.After-b) where
-  abbrev first2 : tie.After-a
-  first2 = counting (counted k)
+module _ (k : tie.After-count-size) where
+  abbrev rate-of : tie.After-rate-end
+  rate-of = counting (counted k)
 
-  abbrev entry2 : tie.Start
-  entry2 = entry1 first2
+  abbrev count-entry : tie.Start
+  count-entry = rate-entry rate-of
 
-  abbrev out2 : List ℕ
-  out2 = putMid (first2 .a .given .0 .0) (length (rated first2 .put-number .last .0) - first2 .a .given .0 .0) (rated first2 .put-number .last .0) (counted k .put-number2 .last .0)
+  abbrev count-out : List ℕ
+  count-out = putMid (rate-of .rate-end .given .0 .0) (length (rated rate-of .put-number .last .0) - rate-of .rate-end .given .0 .0) (rated rate-of .put-number .last .0) (counted k .put-number2 .last .0)
 
-  done2 : Placed (laid (rate-field entry2 ∷ count-field entry2 ∷ [])) (Done (first2 .a .given .0 .0 + k .b .given .0 .0)) (entry2 .args .out .now) out2
-  done2 =
-      more-done (rate-field entry2 ∷ []) (count-field entry2) (entry2 .args .out .now) _ _ (done1 first2) _ _ (counted k .put-number2 .ensures) _ (k .b .given .1)
+  count-done : Placed (laid (rate-field count-entry ∷ count-field count-entry ∷ [])) (Done (rate-of .rate-end .given .0 .0 + k .count-size .given .0 .0)) (count-entry .args .out .now) count-out
+  count-done =
+      more-done (rate-field count-entry ∷ []) (count-field count-entry) (count-entry .args .out .now) _ _ (rate-done rate-of) _ _ (counted k .put-number2 .ensures) _ (k .count-size .given .1)
 
 -- and the positions
-module _ (k : tie.After-d) where
-  abbrev first3 : tie.After-b
-  first3 = coding (coded k)
+module _ (k : tie.After-positions-size) where
+  abbrev count-of : tie.After-count-size
+  count-of = coding (coded k)
 
-  abbrev entry3 : tie.Start
-  entry3 = entry2 first3
+  abbrev positions-entry : tie.Start
+  positions-entry = count-entry count-of
 
-  abbrev at3 : ℕ
-  at3 = first2 first3 .a .given .0 .0 + first3 .b .given .0 .0
+  abbrev positions-at : ℕ
+  positions-at = rate-of count-of .rate-end .given .0 .0 + count-of .count-size .given .0 .0
 
-  abbrev out3 : List ℕ
-  out3 = putMid at3 (length (out2 first3) - at3) (out2 first3) (coded k .put-coded .last .1 .1 .0)
+  abbrev positions-out : List ℕ
+  positions-out = putMid positions-at (length (count-out count-of) - positions-at) (count-out count-of) (coded k .put-coded .last .1 .1 .0)
 
-  done3 : Placed (laid (rate-field entry3 ∷ count-field entry3 ∷ positions-field entry3 ∷ [])) (Done (at3 + k .d .given .0 .0)) (entry3 .args .out .now) out3
-  done3 =
-      more-done (rate-field entry3 ∷ count-field entry3 ∷ []) (positions-field entry3) (entry3 .args .out .now) _ _ (done2 first3) _ _ (coded k .put-coded .ensures) _ (k .d .given .1)
+  positions-done : Placed (laid (rate-field positions-entry ∷ count-field positions-entry ∷ positions-field positions-entry ∷ [])) (Done (positions-at + k .positions-size .given .0 .0)) (positions-entry .args .out .now) positions-out
+  positions-done =
+      more-done (rate-field positions-entry ∷ count-field positions-entry ∷ []) (positions-field positions-entry) (positions-entry .args .out .now) _ _ (count-done count-of) _ _ (coded k .put-coded .ensures) _ (k .positions-size .given .1)
 
 -- ---- the needs
 
 put-number-requires : tie.Need-put-number-requires
 put-number-requires c κs = search needs
 
-enum-known-a : tie.Need-enum-known-a
-enum-known-a c = search needs
+enum-known-rate-end : tie.Need-enum-known-rate-end
+enum-known-rate-end c = search needs
 
 enum-told : tie.Need-enum-told
 enum-told c = search needs
@@ -127,12 +126,12 @@ returns c =
 sub-put-number : tie.Need-sub-put-number
 sub-put-number c =
     let k = c .before in
-    room-left (rate-field (entry1 k) ∷ []) (count-field (entry1 k)) (entry1 k .args .out .now) _ _ (done1 k)
+    room-left (rate-field (rate-entry k) ∷ []) (count-field (rate-entry k)) (rate-entry k .args .out .now) _ _ (rate-done k)
 
 part-put-number-start : tie.Need-part-put-number-start
 part-put-number-start c =
     let k = c .before in
-    room-left (rate-field (entry1 k) ∷ []) (count-field (entry1 k)) (entry1 k .args .out .now) _ _ (done1 k)
+    room-left (rate-field (rate-entry k) ∷ []) (count-field (rate-entry k)) (rate-entry k .args .out .now) _ _ (rate-done k)
 
 part-put-number-end : tie.Need-part-put-number-end
 part-put-number-end c = search needs
@@ -140,8 +139,8 @@ part-put-number-end c = search needs
 put-number-requires-2 : tie.Need-put-number-requires-2
 put-number-requires-2 c κs = search needs
 
-enum-known-b : tie.Need-enum-known-b
-enum-known-b c = search needs
+enum-known-count-size : tie.Need-enum-known-count-size
+enum-known-count-size c = search needs
 
 enum-told-2 : tie.Need-enum-told-2
 enum-told-2 c = search needs
@@ -154,27 +153,27 @@ unfolding recordOf
 returns-2 c =
     let n = c .before .before .before .before in
     let k = counting n in
-    let e = entry1 k in
-    more-none (rate-field e ∷ []) (count-field e) (e .args .out .now) _ _ (done1 k) _ _ (n .put-number2 .ensures) (positions-field e ∷ ratios-field e ∷ []) (c .enum-told2 .given .1)
+    let e = rate-entry k in
+    more-none (rate-field e ∷ []) (count-field e) (e .args .out .now) _ _ (rate-done k) _ _ (n .put-number2 .ensures) (positions-field e ∷ ratios-field e ∷ []) (c .enum-told2 .given .1)
 
-add-c : tie.Need-add-c
-add-c c =
+add-count-end : tie.Need-add-count-end
+add-count-end c =
     let k = c .before in
     let a = counting (counted k) in
-    let fits = more-fits (rate-field (entry1 a) ∷ []) (count-field (entry1 a)) (entry1 a .args .out .now) _ _ (done1 a) _ _ (counted k .put-number2 .ensures) _ (k .b .given .1) in
-    omega (arith, entry1 a .good)
+    let fits = more-fits (rate-field (rate-entry a) ∷ []) (count-field (rate-entry a)) (rate-entry a .args .out .now) _ _ (rate-done a) _ _ (counted k .put-number2 .ensures) _ (k .count-size .given .1) in
+    omega (arith, rate-entry a .good)
 
 sub-put-coded : tie.Need-sub-put-coded
 sub-put-coded c =
     let k = c .before in
-    let e = entry2 k in
-    room-left (rate-field e ∷ count-field e ∷ []) (positions-field e) (e .args .out .now) _ _ (done2 k)
+    let e = count-entry k in
+    room-left (rate-field e ∷ count-field e ∷ []) (positions-field e) (e .args .out .now) _ _ (count-done k)
 
 part-put-coded-start : tie.Need-part-put-coded-start
 part-put-coded-start c =
     let k = c .before in
-    let e = entry2 k in
-    room-left (rate-field e ∷ count-field e ∷ []) (positions-field e) (e .args .out .now) _ _ (done2 k)
+    let e = count-entry k in
+    room-left (rate-field e ∷ count-field e ∷ []) (positions-field e) (e .args .out .now) _ _ (count-done k)
 
 part-put-coded-end : tie.Need-part-put-coded-end
 part-put-coded-end c = search needs
@@ -182,8 +181,8 @@ part-put-coded-end c = search needs
 put-coded-requires : tie.Need-put-coded-requires
 put-coded-requires c κs = search needs
 
-enum-known-d : tie.Need-enum-known-d
-enum-known-d c = search needs
+enum-known-positions-size : tie.Need-enum-known-positions-size
+enum-known-positions-size c = search needs
 
 enum-told-3 : tie.Need-enum-told-3
 enum-told-3 c = search needs
@@ -196,28 +195,28 @@ unfolding recordOf
 returns-3 c =
     let n = c .before .before .before .before in
     let k = coding n in
-    let e = entry2 k in
-    more-none (rate-field e ∷ count-field e ∷ []) (positions-field e) (e .args .out .now) _ _ (done2 k) _ _ (n .put-coded .ensures) (ratios-field e ∷ []) (c .enum-told3 .given .1)
+    let e = count-entry k in
+    more-none (rate-field e ∷ count-field e ∷ []) (positions-field e) (e .args .out .now) _ _ (count-done k) _ _ (n .put-coded .ensures) (ratios-field e ∷ []) (c .enum-told3 .given .1)
 
-add-e : tie.Need-add-e
-add-e c =
+add-positions-end : tie.Need-add-positions-end
+add-positions-end c =
     let k = c .before in
     let b = coding (coded k) in
-    let e = entry2 b in
-    let fits = more-fits (rate-field e ∷ count-field e ∷ []) (positions-field e) (e .args .out .now) _ _ (done2 b) _ _ (coded k .put-coded .ensures) _ (k .d .given .1) in
+    let e = count-entry b in
+    let fits = more-fits (rate-field e ∷ count-field e ∷ []) (positions-field e) (e .args .out .now) _ _ (count-done b) _ _ (coded k .put-coded .ensures) _ (k .positions-size .given .1) in
     omega arith
 
 sub-put-coded-2 : tie.Need-sub-put-coded-2
 sub-put-coded-2 c =
     let k = c .before in
-    let e = entry3 k in
-    room-left (rate-field e ∷ count-field e ∷ positions-field e ∷ []) (ratios-field e) (e .args .out .now) _ _ (done3 k)
+    let e = positions-entry k in
+    room-left (rate-field e ∷ count-field e ∷ positions-field e ∷ []) (ratios-field e) (e .args .out .now) _ _ (positions-done k)
 
 part-put-coded-start-2 : tie.Need-part-put-coded-start-2
 part-put-coded-start-2 c =
     let k = c .before in
-    let e = entry3 k in
-    room-left (rate-field e ∷ count-field e ∷ positions-field e ∷ []) (ratios-field e) (e .args .out .now) _ _ (done3 k)
+    let e = positions-entry k in
+    room-left (rate-field e ∷ count-field e ∷ positions-field e ∷ []) (ratios-field e) (e .args .out .now) _ _ (positions-done k)
 
 part-put-coded-end-2 : tie.Need-part-put-coded-end-2
 part-put-coded-end-2 c = search needs
@@ -225,8 +224,8 @@ part-put-coded-end-2 c = search needs
 put-coded-requires-2 : tie.Need-put-coded-requires-2
 put-coded-requires-2 c κs = search needs
 
-enum-known-f : tie.Need-enum-known-f
-enum-known-f c = search needs
+enum-known-ratios-size : tie.Need-enum-known-ratios-size
+enum-known-ratios-size c = search needs
 
 enum-told-4 : tie.Need-enum-told-4
 enum-told-4 c = search needs
@@ -239,15 +238,15 @@ unfolding recordOf
 returns-4 c =
     let n = c .before .before .before .before in
     let k = closing n in
-    let e = entry3 k in
-    more-none (rate-field e ∷ count-field e ∷ positions-field e ∷ []) (ratios-field e) (e .args .out .now) _ _ (done3 k) _ _ (n .put-coded2 .ensures) [] (c .enum-told4 .given .1)
+    let e = positions-entry k in
+    more-none (rate-field e ∷ count-field e ∷ positions-field e ∷ []) (ratios-field e) (e .args .out .now) _ _ (positions-done k) _ _ (n .put-coded2 .ensures) [] (c .enum-told4 .given .1)
 
 add-t17 : tie.Need-add-t17
 add-t17 c =
     let k = c .before in
     let d = closing (closed k) in
-    let e = entry3 d in
-    let fits = more-fits (rate-field e ∷ count-field e ∷ positions-field e ∷ []) (ratios-field e) (e .args .out .now) _ _ (done3 d) _ _ (closed k .put-coded2 .ensures) _ (k .f .given .1) in
+    let e = positions-entry d in
+    let fits = more-fits (rate-field e ∷ count-field e ∷ positions-field e ∷ []) (ratios-field e) (e .args .out .now) _ _ (positions-done d) _ _ (closed k .put-coded2 .ensures) _ (k .ratios-size .given .1) in
     omega arith
 
 same-length-5 : tie.Need-same-length-5
@@ -258,15 +257,15 @@ unfolding recordOf
 returns-5 c =
     let k = c .before in
     let d = closing (closed k) in
-    let e = entry3 d in
-    more-done (rate-field e ∷ count-field e ∷ positions-field e ∷ []) (ratios-field e) (e .args .out .now) _ _ (done3 d) _ _ (closed k .put-coded2 .ensures) _ (k .f .given .1)
+    let e = positions-entry d in
+    more-done (rate-field e ∷ count-field e ∷ positions-field e ∷ []) (ratios-field e) (e .args .out .now) _ _ (positions-done d) _ _ (closed k .put-coded2 .ensures) _ (k .ratios-size .given .1)
 
 pub put-record-spec : {M : Type 1} → statement M
 put-record-spec =
     tie.close
     (tie.spec
     put-number-requires
-    enum-known-a
+    enum-known-rate-end
     enum-told
     same-length
     returns
@@ -274,25 +273,25 @@ put-record-spec =
     part-put-number-start
     part-put-number-end
     put-number-requires-2
-    enum-known-b
+    enum-known-count-size
     enum-told-2
     same-length-2
     returns-2
-    add-c
+    add-count-end
     sub-put-coded
     part-put-coded-start
     part-put-coded-end
     put-coded-requires
-    enum-known-d
+    enum-known-positions-size
     enum-told-3
     same-length-3
     returns-3
-    add-e
+    add-positions-end
     sub-put-coded-2
     part-put-coded-start-2
     part-put-coded-end-2
     put-coded-requires-2
-    enum-known-f
+    enum-known-ratios-size
     enum-told-4
     same-length-4
     returns-4

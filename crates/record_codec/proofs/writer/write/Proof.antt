@@ -9,7 +9,7 @@ use Rattle.refusals.specs.Tests.{firstOf}
 use Rattle.record_format.specs.declared.WriteAnswer.{WriteAnswer}
 use Rattle.record_format.specs.Runs.{Run, run, recordOf}
 use Rattle.record_format.specs.Writing.{runTests}
-use Rattle.record_format.proofs.Writing.{accepted-fits, clear-accepts, run-refused, no-room, written}
+use Rattle.record_format.proofs.Writing.{accepted-fits, clear-accepts, run-refused, run-no-room, run-written}
 use Rattle.record_codec.proofs.Writings.{short-of, wrote-all}
 use Rattle.record_codec.proofs.writer.write.Statement.{statement}
 use Rattle.record_codec.proofs.writer.write.Tie as tie
@@ -87,7 +87,7 @@ returns-2 c =
     let k = accepted p in
     let r = given-run (k .before) in
     let o = entry (k .before) .args .out .now in
-    let h = no-room r o (clear k) (short-of (recordOf r) o _ _ (p .put-record .ensures) (t .enum-told .given .1)) in
+    let h = run-no-room r o (clear k) (short-of (recordOf r) o _ _ (p .put-record .ensures) (t .enum-told .given .1)) in
     let e = cleared .refuse-write2 .ensures in
     (e .0 ∙ h .0, e .1 ∙ ap (λ (n : ℕ). replicate n 0) (p .put-record .kept .1 .1 .1 .0) ∙ h .1)
 
@@ -101,7 +101,7 @@ returns-3 c =
     let r = given-run (k .before) in
     let o = entry (k .before) .args .out .now in
     let g = wrote-all (recordOf r) o _ _ (p .put-record .ensures) _ (c .before .n .given .1) in
-    let h = written r o (clear k) (g .1) in
+    let h = run-written r o (clear k) (g .1) in
     (ap answer (g .0) ∙ h .0, g .2 ∙ h .1)
 
 pub write-spec : {M : Type 1} → statement M

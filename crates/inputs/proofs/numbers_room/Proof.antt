@@ -1,8 +1,8 @@
 -- `numbers_room` meets its contract.
 use mathlib.Core.Path.{refl}
-use Rattle.listing.specs.Printed.{blank}
-use Rattle.listing.proofs.numbers_room.Statement.{statement}
-use Rattle.listing.proofs.numbers_room.Tie as tie
+use Rattle.inputs.specs.Inputs.{blank}
+use Rattle.inputs.proofs.numbers_room.Statement.{statement}
+use Rattle.inputs.proofs.numbers_room.Tie as tie
 
 returns : tie.Need-returns
 unfolding blank

@@ -1,0 +1,5 @@
+pub mod Indexes
+pub mod Offsets
+pub mod Printed
+pub mod Claims
+pub mod Examples

@@ -1,0 +1,125 @@
+-- `put_reason` meets its contract: the line of each case.
+use mathlib.Core.Path.{sym, ap}
+use native.Mathlib.Omega.{arith}
+use Rattle.text.proofs.PlacedAt.{put-same, put-more}
+use Rattle.explain.specs.Lines.{reasonLine}
+use borrow.Author.Needs.{needs}
+use Rattle.explain.proofs.put_reason.Statement.{statement}
+use Rattle.explain.proofs.put_reason.Tie as tie
+
+enum-known-reason : tie.Need-enum-known-reason
+enum-known-reason c = search needs
+
+slice-aggregate-put-named : tie.Need-slice-aggregate-put-named
+slice-aggregate-put-named c = search needs
+
+put-named-requires : tie.Need-put-named-requires
+put-named-requires c κs = search needs
+
+enum-known-reason-2 : tie.Need-enum-known-reason-2
+enum-known-reason-2 c = search needs
+
+put-xor-requires : tie.Need-put-xor-requires
+put-xor-requires c κs = search needs
+
+enum-known-reason-3 : tie.Need-enum-known-reason-3
+enum-known-reason-3 c = search needs
+
+slice-aggregate-put-named-2 : tie.Need-slice-aggregate-put-named-2
+slice-aggregate-put-named-2 c = search needs
+
+put-named-requires-2 : tie.Need-put-named-requires-2
+put-named-requires-2 c κs = search needs
+
+enum-told : tie.Need-enum-told
+enum-told c = search needs
+
+slice-aggregate-put-text : tie.Need-slice-aggregate-put-text
+slice-aggregate-put-text c = search needs
+
+put-text-requires : tie.Need-put-text-requires
+put-text-requires c κs = search needs
+
+enum-known-reason-4 : tie.Need-enum-known-reason-4
+enum-known-reason-4 c = search needs
+
+put-refused-requires : tie.Need-put-refused-requires
+put-refused-requires c κs = search needs
+
+same-length : tie.Need-same-length
+same-length c = search needs
+
+returns : tie.Need-returns
+unfolding reasonLine
+returns c =
+    let put = c .before .before in
+    let told = put .before .before .before in
+    put-more (omega arith) (put-same (sym (ap reasonLine (told .before .reason .given .1))) (put .put-named .ensures))
+
+same-length-2 : tie.Need-same-length-2
+same-length-2 c = search needs
+
+returns-2 : tie.Need-returns-2
+unfolding reasonLine
+returns-2 c =
+    let put = c .before .before in
+    let told = put .before .before in
+    put-same (sym (ap reasonLine (told .before .reason2 .given .1))) (put .put-xor .ensures)
+
+same-length-3 : tie.Need-same-length-3
+same-length-3 c = search needs
+
+returns-3 : tie.Need-returns-3
+unfolding reasonLine
+returns-3 c =
+    let put = c .before .before in
+    let told = put .before .before .before in
+    put-more (omega arith) (put-same (sym (ap reasonLine (told .before .reason3 .given .1))) (put .put-named2 .ensures))
+
+same-length-4 : tie.Need-same-length-4
+same-length-4 c = search needs
+
+returns-4 : tie.Need-returns-4
+unfolding reasonLine
+returns-4 c =
+    let put = c .before .before in
+    let told = put .before .before .before in
+    put-more (omega arith) (put-same (sym (ap reasonLine (told .enum-told .given .1))) (put .put-text .ensures))
+
+same-length-5 : tie.Need-same-length-5
+same-length-5 c = search needs
+
+returns-5 : tie.Need-returns-5
+unfolding reasonLine
+returns-5 c =
+    let put = c .before .before in
+    let told = put .before .before in
+    put-more (omega arith) (put-same (sym (ap reasonLine (told .before .reason4 .given .1))) (put .put-refused .ensures))
+
+pub put-reason-spec : {M : Type 1} → statement M
+put-reason-spec =
+    tie.close
+    (tie.spec
+    enum-known-reason
+    slice-aggregate-put-named
+    put-named-requires
+    enum-known-reason-2
+    put-xor-requires
+    enum-known-reason-3
+    slice-aggregate-put-named-2
+    put-named-requires-2
+    enum-told
+    slice-aggregate-put-text
+    put-text-requires
+    enum-known-reason-4
+    put-refused-requires
+    same-length
+    returns
+    same-length-2
+    returns-2
+    same-length-3
+    returns-3
+    same-length-4
+    returns-4
+    same-length-5
+    returns-5)

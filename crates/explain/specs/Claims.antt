@@ -1,0 +1,44 @@
+-- Document 02, No. 1, the program, as statements about runs; proved in proofs/Claims.
+--   BytesThere      the bytes that the first line speaks of are those of the record: the writer's form of that ratio, at that offset
+--   PrintsReason    of input that begins with the record of an accepted run, and an index below its count, the program prints cost and
+--                   reason, whatever follows
+--   PrintsPast      of such input and any other text `refused 22 at 0`
+--   PrintsOnly      of input that begins with no accepted run's record it prints the line of reading's refusal, whatever the index
+use mathlib.Core.List.{List, _++_}
+use mathlib.Core.Option.{none, some}
+use mathlib.Core.Path.{_≡_}
+use mathlib.Core.Logic.{_⊎_}
+use Prim.Native.Nat.{ℕ, _+_, _≤_, _<_}
+use lib.ListN.{length, getD, take, drop}
+use Rattle.ratio_format.specs.Forms.{coded, written}
+use Rattle.record_format.specs.Claims.{Accepted, Beginning, Bytes}
+use Rattle.record_format.specs.Runs.{Run, recordOf}
+use Rattle.text.specs.Lines.{refusedLine}
+use Rattle.reasons.specs.Claims.{formNamed}
+use Rattle.reasons.specs.Reasons.{windowAt, explained}
+use Rattle.inputs.specs.Inputs.{readInput}
+use Rattle.explain.specs.Indexes.{indexOf}
+use Rattle.explain.specs.Lines.{costLine, reasonLine}
+use Rattle.explain.specs.Printed.{bodyIn, costOf, offsetOf, printed}
+
+-- as many bytes as the first line says, from the offset that it says, in the record, are the form that the reason names
+abbrev pub BytesThere : Type 0
+BytesThere = (r : Run) → Accepted r → (i : ℕ) → i < length (r .ratios)
+    → let v = getD (r .ratios) i 0 in let w = windowAt (r .ratios) i in
+    take (costOf (r .ratios) i) (drop (offsetOf (bodyIn (recordOf r)) (r .ratios) i) (recordOf r)) ≡ written v (formNamed v w (explained (r .ratios) i))
+
+-- both lines
+abbrev pub PrintsReason : Type 0
+PrintsReason = (r : Run) → Accepted r → (rest t : List ℕ) (i : ℕ) → indexOf t ≡ some i → i < length (r .ratios)
+    → printed (recordOf r ++ rest) t
+    ≡ costLine i (getD (r .ratios) i 0) (costOf (r .ratios) i) (offsetOf (bodyIn (recordOf r)) (r .ratios) i) ++ reasonLine (explained (r .ratios) i)
+
+-- an index that is not below the count, or a text that is no number
+abbrev pub PrintsPast : Type 0
+PrintsPast = (r : Run) → Accepted r → (rest t : List ℕ)
+    → (indexOf t ≡ none) ⊎ ((i : ℕ) × (indexOf t ≡ some i) × (length (r .ratios) ≤ i)) → printed (recordOf r ++ rest) t ≡ refusedLine 22 0
+
+-- of all else: the refusal of the bytes that the program reads
+abbrev pub PrintsOnly : Type 0
+PrintsOnly = (s t : List ℕ) → Bytes s → ((r : Run) → Accepted r → Beginning (recordOf r) s → ⊥)
+    → let a = readInput s .answer in (a .number ≡ 0 → ⊥) × (printed s t ≡ refusedLine (a .number) (a .place))

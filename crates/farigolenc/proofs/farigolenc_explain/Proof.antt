@@ -1,0 +1,95 @@
+-- `farigolenc_explain` meets its contract: the numbers of each case, which are small.
+use mathlib.Core.Path.{_≡_, sym, ap, subst, _∙_}
+use native.Mathlib.Omega.{arith}
+use borrow.Author.Needs.{needs}
+use Rattle.reasons.specs.declared.Reason.{Reason}
+use Rattle.reasons.specs.Reasons.{explained}
+use Rattle.reasons.proofs.Reasons.{Small, explained-small}
+use Rattle.farigolenc.specs.Reasons.{reasonNumbers}
+use Rattle.farigolenc.proofs.farigolenc_explain.Statement.{statement}
+use Rattle.farigolenc.proofs.farigolenc_explain.Tie as tie
+
+-- the case r of the answer is small
+small : (c : tie.After-explain) {r : Reason} → c .explain .result ≡ r → Small r
+small c e =
+    let a = c .before .before .args in
+    subst Small (sym (c .explain .ensures) ∙ e) (explained-small (a .ratios .now) (a .index))
+
+-- and its numbers are those of the answer
+said : (c : tie.After-explain) {r : Reason} → c .explain .result ≡ r → reasonNumbers r ≡ reasonNumbers (explained (c .before .before .args .ratios .now) (c .before .before .args .index))
+said c e = ap reasonNumbers (sym e ∙ c .explain .ensures)
+
+explain-requires : tie.Need-explain-requires
+explain-requires c κs = search needs
+
+enum-known-r : tie.Need-enum-known-r
+enum-known-r c = search needs
+
+reason-numbers-requires : tie.Need-reason-numbers-requires
+reason-numbers-requires c κs =
+    let s = small (c .before .before .before) (c .before .r .given .1) in
+    (omega arith, omega arith, omega arith, omega arith)
+
+enum-known-r-2 : tie.Need-enum-known-r-2
+enum-known-r-2 c = search needs
+
+add-reason-numbers : tie.Need-add-reason-numbers
+add-reason-numbers c = let s = small (c .before .before .before) (c .before .r2 .given .1) in omega (arith, s .1, s .2)
+
+reason-numbers-requires-2 : tie.Need-reason-numbers-requires-2
+reason-numbers-requires-2 c κs =
+    let s = small (c .before .before .before) (c .before .r2 .given .1) in
+    (omega (arith, s .0), omega (arith, s .1), omega (arith, s .2), omega (arith, s .1, s .2))
+
+enum-known-r-3 : tie.Need-enum-known-r-3
+enum-known-r-3 c = search needs
+
+reason-numbers-requires-3 : tie.Need-reason-numbers-requires-3
+reason-numbers-requires-3 c κs =
+    let s = small (c .before .before .before) (c .before .r3 .given .1) in
+    (omega arith, omega arith, omega arith, omega arith)
+
+enum-told : tie.Need-enum-told
+enum-told c = search needs
+
+reason-numbers-requires-4 : tie.Need-reason-numbers-requires-4
+reason-numbers-requires-4 c κs = search needs
+
+enum-known-r-4 : tie.Need-enum-known-r-4
+enum-known-r-4 c = search needs
+
+returns : tie.Need-returns
+returns c = let k = c .before .before in c .reason-numbers .ensures ∙ said (k .before .before) (k .r .given .1)
+
+returns-2 : tie.Need-returns-2
+returns-2 c = let k = c .before .before in c .reason-numbers2 .ensures ∙ said (k .before .before) (k .r2 .given .1)
+
+returns-3 : tie.Need-returns-3
+returns-3 c = let k = c .before .before in c .reason-numbers3 .ensures ∙ said (k .before .before) (k .r3 .given .1)
+
+returns-4 : tie.Need-returns-4
+returns-4 c = let k = c .before in c .reason-numbers4 .ensures ∙ said (k .before .before) (k .enum-told .given .1)
+
+returns-5 : tie.Need-returns-5
+returns-5 c = let k = c .before in said (k .before .before) (k .r4 .given .1)
+
+pub farigolenc-explain-spec : {M : Type 1} → statement M
+farigolenc-explain-spec =
+    tie.close
+    (tie.spec
+    explain-requires
+    enum-known-r
+    reason-numbers-requires
+    enum-known-r-2
+    add-reason-numbers
+    reason-numbers-requires-2
+    enum-known-r-3
+    reason-numbers-requires-3
+    enum-told
+    reason-numbers-requires-4
+    enum-known-r-4
+    returns
+    returns-2
+    returns-3
+    returns-4
+    returns-5)

@@ -1,0 +1,107 @@
+-- Laws of what a program reads: what strict reading left in its outputs, the run of a record, and that there is one.
+use mathlib.Core.Path.{_≡_, sym, ap, ap₂, subst, _∙_}
+use mathlib.Core.List.{List, _++_, append-assoc}
+use Prim.Native.Nat.{ℕ, _+_, _-_, _≤_}
+use native.Mathlib.Omega.{arith}
+use lib.ListN.{length, take, drop, length-append, length-replicate, take-append-drop}
+use lib.Seq.{take-all, take-at, take-append-add}
+use Rattle.lists.specs.Below.{Below}
+use Rattle.lists.proofs.Below.{below-take}
+use Rattle.limits.specs.Points.{maxPoints}
+use Rattle.outputs.specs.Outputs.{over}
+use Rattle.record_format.specs.Claims.{Accepted, Beginning, Bytes, ownAnswer}
+use Rattle.record_format.specs.Reading.{Answer, readStrict}
+use Rattle.record_format.specs.Runs.{Run, recordOf}
+use Rattle.record_format.specs.declared.ReadAnswer.{ReadAnswer}
+use Rattle.record_format.proofs.Writing.{accepted-fits}
+use Rattle.record_format.proofs.Sizes.{within}
+use Rattle.record_format.proofs.Claims.{reads-back, reads-only, with-room}
+use Rattle.inputs.specs.Inputs.{inputLimit, blank, readInput}
+
+-- ---- what strict reading of the bytes s left: it answered r, and the outputs are ts and vs
+
+pub record Read (s : List ℕ) (r : ReadAnswer) (ts vs : List ℕ) : Type 0 where
+  pub numbers : r ≡ readStrict 0 s blank blank .answer
+  pub positions : ts ≡ readStrict 0 s blank blank .positions
+  pub ratios : vs ≡ readStrict 0 s blank blank .ratios
+
+-- from a call that is lent such outputs
+pub read-as : {s : List ℕ} {r : ReadAnswer} {ps qs ts vs : List ℕ} → ps ≡ blank → qs ≡ blank
+    → (r ≡ readStrict 0 s ps qs .answer) × (ts ≡ readStrict 0 s ps qs .positions) × (vs ≡ readStrict 0 s ps qs .ratios) → Read s r ts vs
+read-as {s} p q e = record {
+  numbers = e .0 ∙ ap₂ (λ (ts vs : List ℕ). readStrict 0 s ts vs .answer) p q;
+  positions = e .1 ∙ ap₂ (λ (ts vs : List ℕ). readStrict 0 s ts vs .positions) p q;
+  ratios = e .2 ∙ ap₂ (λ (ts vs : List ℕ). readStrict 0 s ts vs .ratios) p q;
+}
+
+-- the first n numbers of two outputs are a run's
+pub record Held (n : ℕ) (ts vs : List ℕ) : Type 0 where
+  pub few : n ≤ maxPoints
+  pub positions : n ≤ length ts
+  pub ratios : n ≤ length vs
+
+-- an answer by its parts
+abbrev pub answerOf : ReadAnswer → List ℕ → List ℕ → Answer
+answerOf r ts vs = record { answer = r; positions = ts; ratios = vs }
+
+-- the numbers at the front of an output
+pub over-front : (xs o : List ℕ) (n : ℕ) → length xs ≡ n → take n (over xs o) ≡ xs
+over-front xs o n e = take-at xs (drop (length xs) o) n e
+
+module _ {s : List ℕ} {r : ReadAnswer} {ts vs : List ℕ} (h : Read s r ts vs) where
+  read-all : answerOf r ts vs ≡ readStrict 0 s blank blank
+  read-all =
+      ap (λ (x : ReadAnswer). answerOf x ts vs) (h .numbers)
+      ∙ ap (λ (l : List ℕ). answerOf (readStrict 0 s blank blank .answer) l vs) (h .positions)
+      ∙ ap (λ (l : List ℕ). answerOf (readStrict 0 s blank blank .answer) (readStrict 0 s blank blank .positions) l) (h .ratios)
+
+  -- a program reads all of it
+  pub read-input : length s ≤ inputLimit → answerOf r ts vs ≡ readInput s
+  read-input short = read-all ∙ ap (λ (l : List ℕ). readStrict 0 l blank blank) (sym (take-all inputLimit s short))
+
+  -- where nothing was refused the input begins with a run's record, and the answer is that run's
+  pub read-own : Below 256 s → r .number ≡ 0 → (own : Run) × Accepted own × ((rest : List ℕ) × (s ≡ recordOf own ++ rest)) × (answerOf r ts vs ≡ ownAnswer own blank blank)
+  read-own bytes ok =
+      let o = reads-only 0 s blank blank bytes (sym (ap (λ (x : ReadAnswer). x .number) (h .numbers)) ∙ ok) in
+      (o .0, o .1, o .2, read-all ∙ o .3)
+
+  -- and its numbers stand at the front of the outputs
+  pub read-held : Below 256 s → r .number ≡ 0 → Held (r .count) ts vs
+  read-held bytes ok =
+      let o = read-own bytes ok in
+      let own : Run = o .0 in
+      let f = accepted-fits own (o .1 .passes) in
+      subst (λ (a : Answer). Held (a .answer .count) (a .positions) (a .ratios)) (sym (o .3))
+      (record {
+        few = f .few;
+        positions = simp length-append (omega arith);
+        ratios = simp length-append (omega (arith, f .paired));
+      })
+
+-- ---- what a program reads of a record, and of all else
+
+-- the room is enough
+roomy : (n : ℕ) → n ≤ maxPoints → n ≤ length blank
+unfolding blank
+roomy n h = omega (arith, length-replicate {A = ℕ} maxPoints 0)
+
+-- a record is not cut: it is no longer than what a program reads
+pub record-uncut : (r : Run) → Accepted r → (rest : List ℕ) → take inputLimit (recordOf r ++ rest) ≡ recordOf r ++ take (inputLimit - length (recordOf r)) rest
+record-uncut r a rest =
+    let h = within r a .1 in
+    let e : inputLimit ≡ length (recordOf r) + (inputLimit - length (recordOf r)) = omega arith in
+    ap (λ (n : ℕ). take n (recordOf r ++ rest)) e ∙ take-append-add (recordOf r) rest (inputLimit - length (recordOf r))
+
+pub reads-record : (r : Run) → Accepted r → (rest : List ℕ) → readInput (recordOf r ++ rest) ≡ ownAnswer r blank blank
+reads-record r a rest =
+    let f = accepted-fits r (a .passes) in
+    ap (λ (l : List ℕ). readStrict 0 l blank blank) (record-uncut r a rest)
+    ∙ reads-back r a 0 (take (inputLimit - length (recordOf r)) rest) blank blank .0
+    ∙ with-room r blank blank (roomy (length (r .positions)) (f .few)) (roomy (length (r .positions)) (f .few))
+
+pub reads-no-other : (s : List ℕ) → Bytes s → ((r : Run) → Accepted r → Beginning (recordOf r) s → ⊥) → readInput s .answer .number ≡ 0 → ⊥
+reads-no-other s b never e =
+    let l = take inputLimit s in
+    let r = reads-only 0 l blank blank (below-take 256 inputLimit s b) e in
+    never (r .0) (r .1)
+    (r .2 .0 ++ drop inputLimit s, sym (take-append-drop inputLimit s) ∙ ap (λ (x : List ℕ). x ++ drop inputLimit s) (r .2 .1) ∙ append-assoc (recordOf (r .0)) (r .2 .0) (drop inputLimit s))

@@ -1,0 +1,74 @@
+-- Document 02, No. 1, as statements about the answer `explained`; proved in proofs/Claims.
+--   NoneEqual v w n   no ratio of the window w before place n is v
+--   Says v w r        what the reason r says of the ratio v is true of the window w
+--   SaysTrue          the answer for an index says what is true of the window there
+--   formNamed v w r   the form of v that the reason r names
+--   NamesForm         it is the form that the writer chooses there, and its bytes are those at that point of the body of the whole run
+--   OnlyWindow        the answer goes by the ratio at the index and the 127 before it, and by no other
+--   RefusesExactly    it is the refusal 3 for more than 4,096 ratios, and else 22 for an index not below their number
+use mathlib.Core.List.{List, _++_}
+use mathlib.Core.Path.{_≡_}
+use Prim.Native.Nat.{ℕ, _+_, _-_, _/_, _^_, _≤_, _<_}
+use lib.Bits.{bitXor}
+use lib.ListN.{length, getD, take, drop}
+use Rattle.limits.specs.Points.{maxPoints}
+use Rattle.ratio_format.specs.declared.RatioForm.{RatioForm}
+use Rattle.ratio_format.specs.declared.RatioForm.the-variants.{Reference as ByPlace, Xor as ByXor, Exception as Literal}
+use Rattle.ratio_format.specs.Bodies.{codedFrom, codedRatios}
+use Rattle.ratio_format.specs.Choice.{ratioForm}
+use Rattle.ratio_format.specs.Forms.{written}
+use Rattle.ratio_format.specs.Windows.{windowSize}
+use Rattle.ratio_format.specs.Zeros.{leadZeros, trailZeros, sumOf}
+use Rattle.reasons.specs.declared.Reason.{Reason}
+use Rattle.reasons.specs.declared.Reason.the-variants.{Reference, Xor, Exception, Empty, Refused}
+use Rattle.reasons.specs.Reasons.{windowAt, explained}
+
+-- no equal ratio nearer than place n
+abbrev pub NoneEqual : ℕ → List ℕ → ℕ → Type 0
+NoneEqual v w n = (q : ℕ) → q < n → getD w q 0 ≡ v → ⊥
+
+-- no ratio of the window has a sum above s
+abbrev pub NoneAbove : ℕ → List ℕ → ℕ → Type 0
+NoneAbove v w s = (q : ℕ) → q < length w → sumOf v (getD w q 0) ≤ s
+
+-- equal to the ratio at place p, no nearer one equal; xored with place p, with the two counts, no ratio of the window equal, none with a
+-- larger sum nor a nearer one with the same; an exception, with the best sum, below 2, which some ratio has and none exceeds, and none
+-- equal; nothing in the window. A refusal says nothing of it.
+abbrev pub Says : ℕ → List ℕ → Reason → Type 0
+Says v w (Reference p) = (p < length w) × (getD w p 0 ≡ v) × NoneEqual v w p
+Says v w (Xor p l t) =
+    (p < length w) × (l ≡ leadZeros (bitXor v (getD w p 0))) × (t ≡ trailZeros (bitXor v (getD w p 0))) × (2 ≤ l + t)
+    × NoneEqual v w (length w) × NoneAbove v w (l + t) × ((q : ℕ) → q < p → sumOf v (getD w q 0) < l + t)
+Says v w (Exception s) =
+    (s < 2) × ((q : ℕ) × (q < length w) × (sumOf v (getD w q 0) ≡ s)) × NoneAbove v w s × NoneEqual v w (length w)
+Says v w Empty = length w ≡ 0
+Says v w (Refused n p) = ⊥
+
+-- the answer is true of the window at the index
+abbrev pub SaysTrue : Type 0
+SaysTrue = (vs : List ℕ) (i : ℕ) → length vs ≤ maxPoints → i < length vs → Says (getD vs i 0) (windowAt vs i) (explained vs i)
+
+-- a reference; the xor's middle between the zero bytes; an exception
+abbrev pub formNamed : ℕ → List ℕ → Reason → RatioForm
+formNamed v w (Reference p) = ByPlace p
+formNamed v w (Xor p l t) = ByXor p t (8 - (l + t)) (bitXor v (getD w p 0) / 256 ^ t)
+formNamed v w (Exception s) = Literal
+formNamed v w Empty = Literal
+formNamed v w (Refused n p) = Literal
+
+-- the writer's form there, and the bytes there: after those of the ratios before it, and before those of the ratios after it
+abbrev pub NamesForm : Type 0
+NamesForm = (vs : List ℕ) (i : ℕ) → length vs ≤ maxPoints → i < length vs
+    → let v = getD vs i 0 in let w = windowAt vs i in let f = formNamed v w (explained vs i) in
+    (f ≡ ratioForm v w)
+    × (codedRatios vs ≡ codedRatios (take i vs) ++ (written v f ++ codedFrom windowSize (windowAt vs (i + 1)) (drop (i + 1) vs)))
+
+-- two runs that have the same ratio at the index and the same 127 before it get the same answer
+abbrev pub OnlyWindow : Type 0
+OnlyWindow = (vs us : List ℕ) (i : ℕ) → length vs ≤ maxPoints → length us ≤ maxPoints → i < length vs → i < length us
+    → ((j : ℕ) → j ≤ i → i ≤ j + windowSize → getD vs j 0 ≡ getD us j 0) → explained vs i ≡ explained us i
+
+-- the refusals, and their places
+abbrev pub RefusesExactly : Type 0
+RefusesExactly = (vs : List ℕ) (i : ℕ)
+    → (maxPoints < length vs → explained vs i ≡ Refused 3 0) × (length vs ≤ maxPoints → length vs ≤ i → explained vs i ≡ Refused 22 0)

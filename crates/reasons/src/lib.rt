@@ -1,0 +1,65 @@
+// Why a ratio of a run takes the bytes that it takes (document 02, No. 1): the form that the writer chooses for it, and what in the window
+// decides it.
+ghost use mathlib.Core.Path.{_≡_};
+ghost use mathlib.Core.List.{reverse};
+ghost use Prim.Native.Nat.{_<_};
+ghost use lib.ListN.{length};
+ghost use Rattle.reasons.specs.Reasons.{reasonOf, explained};
+use limits::MAX_POINTS;
+use ratio_codec::search::search;
+use ratio_window::lead_zeros;
+use ratio_window::trail_zeros;
+use ratio_window::window_start;
+
+// A reference to the place of an equal ratio; the xor with the ratio at a place, by its leading and trailing zero bytes; an exception with
+// the best sum found, or because the window is empty; or the number and the place of a refusal.
+pub enum Reason {
+    Reference(usize),
+    Xor {
+        place: usize,
+        lead: usize,
+        trail: usize,
+    },
+    Exception(usize),
+    Empty,
+    Refused(u32, u32),
+}
+
+// The reason for v against a window, oldest first. The plain search knows every sum; only an equal ratio has the sum 16.
+fn reason_of(window: &[u64], v: u64) -> Reason
+    ensures { λ r. ⌜ r ≡ reasonOf v (reverse (now (window .entry))) ⌝ }
+{
+    let b = search(window, v);
+    let place = b.place;
+    let sum = b.sum;
+    if sum == 16 {
+        return Reason::Reference(place);
+    }
+    if 2 <= sum {
+        let x = v ^ window[window.len() - 1 - place];
+        return Reason::Xor {
+            place,
+            lead: lead_zeros(x),
+            trail: trail_zeros(x),
+        };
+    }
+    if window.len() == 0 {
+        return Reason::Empty;
+    }
+    Reason::Exception(sum)
+}
+
+// The reason for the ratio of an index among a run's ratios.
+pub fn explain(ratios: &[u64], index: u64) -> Reason
+    ensures { λ r. ⌜ r ≡ explained (now (ratios .entry)) index ⌝ }
+{
+    if MAX_POINTS < ratios.len() {
+        return Reason::Refused(3, 0);
+    }
+    if ratios.len() as u64 <= index {
+        return Reason::Refused(22, 0);
+    }
+    let i = index as usize;
+    let from = window_start(i);
+    reason_of(&ratios[from..i], ratios[i])
+}

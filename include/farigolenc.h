@@ -29,6 +29,7 @@
  *   17   field 3 is not the coding of count positions          field
  *   18   field 4 is not the coding (or open form) of count     field, or 0 in
  *        ratios                                                stepping
+ *   22   an index not below the number of ratios               0
  *
  * Indices count from 0; the step at index n is
  * (t[n] - t[n-1]) - (t[n-1] - t[n-2]). "Field" is the offset of the field's tag
@@ -58,7 +59,7 @@
  * must be looked at and compiled again; the minor grows by one when something is
  * added. Records have no version. */
 #define FARIGOLENC_VERSION_MAJOR 1
-#define FARIGOLENC_VERSION_MINOR 0
+#define FARIGOLENC_VERSION_MINOR 1
 
 #include <stddef.h>
 #include <stdint.h>
@@ -189,6 +190,41 @@ typedef struct {
 } farigolenc_kind_answer;
 
 farigolenc_kind_answer farigolenc_kind(uint64_t ratio);
+
+/* Why the ratio at `index` has the bytes that farigolenc_write gives it. Its
+ * window is the last 127 ratios before it, or all of them where they are fewer;
+ * place 0 is the ratio just before it. The sum for a ratio of the window is the
+ * number of leading zero bytes plus the number of trailing ones of its bits xor
+ * those of the ratio at `index`.
+ *
+ *   reason                    what holds of the window             bytes
+ *   FARIGOLENC_REFERENCE      `at` is the smallest place with an   1
+ *                             equal ratio
+ *   FARIGOLENC_XOR            none is equal; `at` is the smallest  3 to 8
+ *                             place with the largest sum, which
+ *                             is 2 or more
+ *   FARIGOLENC_EXCEPTION      none is equal; the largest sum, 0    9
+ *                             or 1, is `sum`
+ *   FARIGOLENC_EMPTY_WINDOW   it is empty: `index` is 0            9
+ *
+ * A member that a reason does not have is 0. Ratios after `index`, and those
+ * more than 127 before it, have no part in the answer. Tests 3 and 22. */
+#define FARIGOLENC_REFERENCE 1
+#define FARIGOLENC_XOR 2
+#define FARIGOLENC_EXCEPTION 3
+#define FARIGOLENC_EMPTY_WINDOW 4
+
+typedef struct {
+    uint32_t number, place;
+    uint32_t reason;            /* 0 on a refusal */
+    uint32_t at;                /* place in the window */
+    uint32_t leading, trailing; /* zero bytes, for FARIGOLENC_XOR */
+    uint32_t sum;               /* for FARIGOLENC_XOR leading + trailing */
+} farigolenc_explain_answer;
+
+farigolenc_explain_answer farigolenc_explain(
+    const uint64_t *ratios, size_t ratios_length,
+    uint64_t index);
 
 #ifdef __cplusplus
 }

@@ -1,5 +1,6 @@
 /* Calls every function of farigolenc.h from C99: writes a run, reads it, adds its
- * ratios live, steps through them, and tries kinds, spans and refusals.
+ * ratios live, steps through them, explains each, and tries kinds, spans, reasons
+ * and refusals.
  * Prints "ok" and returns 0, or says what differs and returns 1. */
 
 #include "farigolenc.h"
@@ -122,6 +123,27 @@ static void check_reading(const char *which, farigolenc_read_answer read, uint64
     check(all_are(read_ratios + POINTS, (ROOM - POINTS) * 8, DIRT), "ratios past the run");
 }
 
+/* The reason names the form that stands in the body, by its size and first bytes. */
+static void check_form(farigolenc_explain_answer why, const uint8_t *form, uint64_t size)
+{
+    check(why.number == 0 && why.place == 0, "explaining");
+    switch (why.reason) {
+    case FARIGOLENC_REFERENCE:
+        check(size == 1 && form[0] == why.at, "explaining, reference");
+        break;
+    case FARIGOLENC_XOR:
+        check(size == 10 - why.sum && form[0] == 128 + why.at, "explaining, xor form");
+        check(form[1] == 16 * why.trailing + 8 - why.sum, "explaining, counts of an xor form");
+        break;
+    case FARIGOLENC_EXCEPTION:
+    case FARIGOLENC_EMPTY_WINDOW:
+        check(size == 9 && form[0] == 255, "explaining, exception");
+        break;
+    default:
+        check(0, "explaining, reason");
+    }
+}
+
 static void check_run(void)
 {
     static uint64_t positions[POINTS], ratios[POINTS];
@@ -180,6 +202,8 @@ static void check_run(void)
         step = farigolenc_step(body, length, cursor);
         check(step.number == 0 && step.place == 0 && step.ratio == ratios[i], "step");
         check(step.next.seen == i + 1 && step.next.place > cursor.place, "cursor after a step");
+        check_form(farigolenc_explain(ratios, POINTS, i), body + cursor.place,
+                   step.next.place - cursor.place);
         cursor = step.next;
     }
     step = farigolenc_step(body, length, cursor);
@@ -225,6 +249,71 @@ static void check_spans(void)
     check(span.number == 1 && span.place == 0 && span.milliseconds == 0, "span, unlisted rate");
     span = farigolenc_span(48000, above, 2);
     check(span.number == 4 && span.place == 1 && span.milliseconds == 0, "span, large position");
+}
+
+static void check_reason(const uint64_t *ratios, size_t count, uint64_t index, uint32_t reason,
+                         uint32_t at, uint32_t leading, uint32_t trailing, uint32_t sum,
+                         const char *what)
+{
+    farigolenc_explain_answer why = farigolenc_explain(ratios, count, index);
+    check(why.number == 0 && why.place == 0, what);
+    check(why.reason == reason && why.at == at, what);
+    check(why.leading == leading && why.trailing == trailing && why.sum == sum, what);
+}
+
+static void refuse_reason(const uint64_t *ratios, size_t count, uint64_t index, uint32_t number,
+                          const char *what)
+{
+    farigolenc_explain_answer why = farigolenc_explain(ratios, count, index);
+    check(why.number == number && why.place == 0, what);
+    check(why.reason == 0 && why.at == 0, what);
+    check(why.leading == 0 && why.trailing == 0 && why.sum == 0, what);
+}
+
+static void check_reasons(void)
+{
+    static uint64_t many[FARIGOLENC_POINTS + 1];
+    const uint64_t equal[4] = {1, 2, 2, 1};
+    const uint64_t xored[2] = {UINT64_C(0xC01A666666666666), UINT64_C(0xC00E666666666666)};
+    const uint64_t two[2] = {0, UINT64_C(0x0001020304050600)};
+    const uint64_t one[2] = {0, UINT64_C(0x0001020304050607)};
+    const uint64_t none[2] = {0, UINT64_C(0x0101020304050607)};
+    const uint64_t nearer[3] = {1, 2, 3};
+    const uint64_t farther[3] = {UINT64_C(0x1000000000000000), 1, UINT64_C(0x1000000000000002)};
+    const size_t most = FARIGOLENC_POINTS;
+    size_t i;
+
+    check_reason(equal, 4, 3, FARIGOLENC_REFERENCE, 2, 0, 0, 0, "reason, equal ratio");
+    check_reason(equal, 4, 2, FARIGOLENC_REFERENCE, 0, 0, 0, 0, "reason, equal ratio before");
+    check_reason(xored, 2, 1, FARIGOLENC_XOR, 0, 1, 6, 7, "reason, xor with the sum 7");
+    check_reason(two, 2, 1, FARIGOLENC_XOR, 0, 1, 1, 2, "reason, xor with the sum 2");
+    check_reason(nearer, 3, 2, FARIGOLENC_XOR, 0, 7, 0, 7, "reason, the nearer of equal sums");
+    check_reason(farther, 3, 2, FARIGOLENC_XOR, 1, 7, 0, 7, "reason, a larger sum behind");
+    check_reason(one, 2, 1, FARIGOLENC_EXCEPTION, 0, 0, 0, 1, "reason, best sum 1");
+    check_reason(none, 2, 1, FARIGOLENC_EXCEPTION, 0, 0, 0, 0, "reason, best sum 0");
+    check_reason(xored, 2, 0, FARIGOLENC_EMPTY_WINDOW, 0, 0, 0, 0, "reason, empty window");
+    check_reason(xored, 1, 0, FARIGOLENC_EMPTY_WINDOW, 0, 0, 0, 0, "reason, one ratio");
+
+    /* Bytes that are all the same, so that sums are 0; each comes again after 127, then 128. */
+    for (i = 0; i <= most; i++) {
+        many[i] = UINT64_C(0x0101010101010101) * (i % FARIGOLENC_WINDOW);
+    }
+    check_reason(many, most, 126, FARIGOLENC_EXCEPTION, 0, 0, 0, 0, "reason, 126 ratios before");
+    check_reason(many, most, 127, FARIGOLENC_REFERENCE, 126, 0, 0, 0, "reason, equal 127 back");
+    check_reason(many, most, most - 1, FARIGOLENC_REFERENCE, 126, 0, 0, 0, "reason, last of all");
+    for (i = 0; i <= most; i++) {
+        many[i] = UINT64_C(0x0101010101010101) * (i % (FARIGOLENC_WINDOW + 1));
+    }
+    check_reason(many, most, 128, FARIGOLENC_EXCEPTION, 0, 0, 0, 0, "reason, equal 128 back");
+
+    refuse_reason(many, most + 1, 0, 3, "reason, too many");
+    refuse_reason(many, most + 1, 9999, 3, "reason, too many, and none at the index");
+    refuse_reason(many, most, most, 22, "reason, index 4096");
+    refuse_reason(xored, 2, 2, 22, "reason, index 2 of 2");
+    refuse_reason(xored, 2, 3, 22, "reason, index 3 of 2");
+    refuse_reason(xored, 2, (UINT64_C(1) << 32) + 1, 22, "reason, index above 32 bits");
+    refuse_reason(xored, 2, UINT64_MAX, 22, "reason, largest index");
+    refuse_reason(xored, 0, 0, 22, "reason, no ratios");
 }
 
 static void refuse_writing(uint32_t rate, const uint64_t *positions, size_t points, size_t ratios,
@@ -336,6 +425,7 @@ int main(void)
     check_run();
     check_kinds();
     check_spans();
+    check_reasons();
     check_refusals();
     if (differences != 0) {
         return 1;

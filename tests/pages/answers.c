@@ -7,6 +7,7 @@
    positions COUNT BYTE..          the positions of this body of field 3, or the refusal's number
    form RATIO..                    the bytes of the last of these ratios
    ratios COUNT BYTE..             the ratios of this body of field 4, read strictly and openly, a line each
+   reason INDEX RATIO..            why the ratio of this index has its form, or the refusal
    live FILL SEEN                  the number that an addition to this state gives
    reader FILL SEEN COUNT OFFSET LENGTH   the number that a step of this reader gives, over so many bytes 00
    widths                          sign and bits of the integers, in the order of the page
@@ -234,6 +235,30 @@ static void body_of_ratios(size_t count)
     }
 }
 
+static void reason(uint64_t index, char **words)
+{
+    farigolenc_explain_answer why;
+    size_t count;
+    for (count = 0; words[count] != NULL && strcmp(words[count], "none") != 0; count++) {
+        if (count == POINTS) {
+            exit(2);
+        }
+        ratios[count] = strtoull(words[count], NULL, 16);
+    }
+    why = farigolenc_explain(ratios, count, index);
+    if (why.number != 0 && why.reason == 0) {
+        printf("refused %" PRIu32 " at %" PRIu32 "\n", why.number, why.place);
+    } else if (why.reason == FARIGOLENC_REFERENCE) {
+        printf("equal to place %" PRIu32 "\n", why.at);
+    } else if (why.reason == FARIGOLENC_XOR && why.sum == why.leading + why.trailing) {
+        printf("xor with place %" PRIu32 ", %" PRIu32 " leading and %" PRIu32 " trailing zero bytes\n", why.at, why.leading, why.trailing);
+    } else if (why.reason == FARIGOLENC_EXCEPTION) {
+        printf("exception, best sum %" PRIu32 "\n", why.sum);
+    } else if (why.reason == FARIGOLENC_EMPTY_WINDOW) {
+        printf("exception, window empty\n");
+    }
+}
+
 static void live(char **words)
 {
     farigolenc_live state = farigolenc_live_new();
@@ -258,7 +283,7 @@ static void reader(char **words)
 
 /* What is lent, by types that the header's declarations must have. */
 typedef uint32_t lent_rate;
-typedef uint64_t lent_point, lent_count;
+typedef uint64_t lent_point, lent_count, lent_index;
 static farigolenc_write_answer (*const write_call)(
     lent_rate, const lent_point *, size_t, const lent_point *, size_t, uint8_t *, size_t) = farigolenc_write;
 static farigolenc_read_answer (*const read_calls[2])(
@@ -266,6 +291,7 @@ static farigolenc_read_answer (*const read_calls[2])(
 static farigolenc_span_answer (*const span_call)(lent_rate, const lent_point *, size_t) = farigolenc_span;
 static farigolenc_write_answer (*const add_call)(farigolenc_live *, lent_point, uint8_t *, size_t) = farigolenc_live_add;
 static farigolenc_cursor_answer (*const making_call)(lent_count) = farigolenc_cursor_new;
+static farigolenc_explain_answer (*const explain_call)(const lent_point *, size_t, lent_index) = farigolenc_explain;
 
 /* Sign and bits of one integer. */
 #define WIDTH(integer) ((integer) = -1, printf("%s\t%d\n", (integer) > 0 ? "unsigned" : "signed", (int)(8 * sizeof(integer))))
@@ -278,6 +304,8 @@ static void widths(void)
     lent_rate rate;
     lent_point point;
     lent_count count;
+    lent_index index;
+    farigolenc_explain_answer why;
     farigolenc_write_answer written;
     farigolenc_read_answer read;
     farigolenc_span_answer span;
@@ -285,7 +313,7 @@ static void widths(void)
     farigolenc_step_answer stepped;
     farigolenc_live state;
     farigolenc_cursor cursor;
-    if (!write_call || !read_calls[0] || !read_calls[1] || !span_call || !add_call || !making_call) {
+    if (!write_call || !read_calls[0] || !read_calls[1] || !span_call || !add_call || !making_call || !explain_call) {
         exit(2);
     }
     WIDTH(rate);
@@ -299,6 +327,8 @@ static void widths(void)
     SAME(read.number, made.place);
     SAME(read.number, stepped.number);
     SAME(read.number, stepped.place);
+    SAME(read.number, why.number);
+    SAME(read.number, why.place);
     WIDTH(read.number);
     SAME(read.rate, read.count);
     WIDTH(read.rate);
@@ -313,6 +343,12 @@ static void widths(void)
     SAME(state.fill, cursor.count);
     SAME(state.fill, cursor.place);
     WIDTH(state.fill);
+    WIDTH(index);
+    SAME(why.reason, why.at);
+    SAME(why.reason, why.leading);
+    SAME(why.reason, why.trailing);
+    SAME(why.reason, why.sum);
+    WIDTH(why.reason);
 }
 
 int main(int count, char **words)
@@ -339,6 +375,8 @@ int main(int count, char **words)
     } else if (strcmp(mode, "ratios") == 0 && count > 3) {
         body_length = take_bytes(words + 3, body);
         body_of_ratios((size_t)decimal(words[2]));
+    } else if (strcmp(mode, "reason") == 0 && count > 3) {
+        reason(decimal(words[2]), words + 3);
     } else if (strcmp(mode, "live") == 0 && count == 4) {
         live(words + 2);
     } else if (strcmp(mode, "reader") == 0 && count == 7) {

@@ -80,3 +80,17 @@ pub struct Kind {
     pub value: f64,
     pub bits: u64,
 }
+
+/// What the explain call answers; `reason` is 0 with a refusal, 1 for a reference, 2 for an xor
+/// form, 3 for an exception with a best sum, 4 for an exception with an empty window.
+#[repr(C)]
+#[derive(Clone, Copy, Debug, Default, PartialEq)]
+pub struct Explained {
+    pub number: u32,
+    pub place: u32,
+    pub reason: u32,
+    pub at: u32,
+    pub leading: u32,
+    pub trailing: u32,
+    pub sum: u32,
+}

@@ -1,4 +1,4 @@
-//! A differential test of the library (library.rs) against document 01 (reference.rs).
+//! A differential test of the library (library.rs) against documents 01 and 02 (reference.rs).
 //!
 //! Usage: differential [seed [trace]]
 //!
@@ -12,8 +12,9 @@ mod library;
 mod reference;
 
 use answers::WINDOW;
-use answers::{Cursor, Kind, Live, Making, Reading, Span, Stepped, Written};
+use answers::{Cursor, Explained, Kind, Live, Making, Reading, Span, Stepped, Written};
 use inputs::*;
+use std::cmp::Reverse;
 use std::collections::BTreeMap;
 use std::fmt::Debug;
 use std::process::exit;
@@ -28,7 +29,7 @@ struct Test {
     trace: bool,
     random: Random,
     cases: u64,
-    /// How often each call returned each number.
+    /// How often each call returned each number, and explain each reason, place and sum.
     numbers: BTreeMap<(&'static str, u32), u64>,
 }
 
@@ -38,6 +39,22 @@ type Add = fn(&mut Live, u64, &mut [u8]) -> Written;
 
 fn hex(bytes: &[u8]) -> String {
     bytes.iter().map(|byte| format!("{byte:02x}")).collect()
+}
+
+/// The bytes of the form that an answer of explain names.
+fn form_named(ratios: &[u64], index: usize, explained: Explained) -> Vec<u8> {
+    let (at, ratio) = (explained.at as usize, ratios[index]);
+    match explained.reason {
+        1 => vec![at as u8],
+        2 => {
+            let (leading, trailing) = (explained.leading as usize, explained.trailing as usize);
+            let x = (ratio ^ ratios[index - 1 - at]).to_be_bytes();
+            let middle = &x[leading..8 - trailing];
+            let head = [at as u8 + 128, (16 * trailing + middle.len()) as u8];
+            [&head, middle].concat()
+        }
+        _ => [&[255][..], &ratio.to_be_bytes()].concat(),
+    }
 }
 
 impl Test {
@@ -180,6 +197,38 @@ impl Test {
             [reference::kind, library::kind],
             |outcome| outcome.0,
         );
+    }
+
+    fn explain(&mut self, ratios: &[u64], index: u64) -> Explained {
+        let explained = self.case::<fn(&[u64], u64) -> Explained, _>(
+            "explain",
+            || format!("ratios {ratios:x?} index {index:x}"),
+            |explain| explain(ratios, index),
+            [reference::explain, library::explain],
+            |explained| explained.number,
+        );
+        let Explained {
+            reason, at, sum, ..
+        } = explained;
+        let mut seen = |what, number| *self.numbers.entry((what, number)).or_default() += 1;
+        seen("explain, reason", reason);
+        match reason {
+            1 => seen("explain, place of an equal ratio", at),
+            2 => seen("explain, place of an xor", at),
+            _ => {}
+        }
+        if reason == 2 || reason == 3 {
+            seen("explain, sum", sum);
+        }
+        explained
+    }
+
+    /// Ends the test unless what explain answered is so.
+    fn holds(&self, good: bool, what: &str, ratios: &[u64], index: u64, explained: Explained) {
+        if !good {
+            println!("explain: {what}\nratios {ratios:x?} index {index:x}\n{explained:x?}");
+            exit(1);
+        }
     }
 }
 
@@ -493,6 +542,200 @@ impl Test {
         self.kind(bits >> height);
     }
 
+    /// Explains a ratio after a window that is made so that the answer is known. With all ratios
+    /// before it the sum is 0, but for those given: their places, and the leading and trailing
+    /// zero bytes of their xor; eight leading ones are those of an equal ratio.
+    fn made_window(&mut self, fill: usize, given: &[(usize, u32, u32)]) {
+        let ratio = u64::MAX;
+        let plain = (1..=fill as u64).map(|byte| byte * 0x0101_0101_0101_0101);
+        let mut ratios: Vec<u64> = plain.chain([ratio]).collect();
+        for &(place, leading, trailing) in given {
+            // Zero bytes in the middle do not count, nor do zero bits at its ends.
+            let inner = self.random.pick(&[0, 0x55]);
+            let (first, last) = self.random.pick(&[(1, 0x80), (0x80, 1), (0xff, 0xff)]);
+            let mut x = [0; 8];
+            if leading < 8 {
+                let (from, to) = (leading as usize, 7 - trailing as usize);
+                x[from..=to].fill(inner);
+                x[to] = last;
+                x[from] = first;
+            }
+            ratios[fill - 1 - place] = ratio ^ u64::from_be_bytes(x);
+        }
+        let inside = given.iter().filter(|given| given.0 < WINDOW);
+        let best = inside.max_by_key(|given| (given.1 + given.2, Reverse(given.0)));
+        let none = Explained::default();
+        let wanted = match best {
+            None => Explained {
+                reason: if fill == 0 { 4 } else { 3 },
+                ..none
+            },
+            Some(&(place, leading, trailing)) => match leading + trailing {
+                8 => Explained {
+                    reason: 1,
+                    at: place as u32,
+                    ..none
+                },
+                sum @ 0..=1 => Explained {
+                    reason: 3,
+                    sum,
+                    ..none
+                },
+                sum => Explained {
+                    reason: 2,
+                    at: place as u32,
+                    leading,
+                    trailing,
+                    sum,
+                    ..none
+                },
+            },
+        };
+        let explained = self.explain(&ratios, fill as u64);
+        let what = "not the answer that the window was made for";
+        self.holds(explained == wanted, what, &ratios, fill as u64, explained);
+    }
+
+    /// One ratio, two and several that are given, at the ends of the window and around them, with
+    /// every pair of counts, equal sums among them.
+    fn made_windows(&mut self, fill: usize) {
+        self.made_window(fill, &[]);
+        let splits = |sum: u32| (0..=sum).map(move |leading| (leading, sum - leading));
+        let mut counts: Vec<(u32, u32)> = (0..8).flat_map(splits).collect();
+        counts.push((8, 0));
+        let ends = [0, 1, 2, 63, 64, 125, 126, 127, 128];
+        let places: Vec<usize> = ends.into_iter().filter(|&place| place < fill).collect();
+        for &far in &places {
+            for &(leading, trailing) in &counts {
+                self.made_window(fill, &[(far, leading, trailing)]);
+            }
+            for &near in places.iter().filter(|&&near| near < far) {
+                for sum in 0..8 {
+                    let same: Vec<(u32, u32)> = splits(sum).collect();
+                    for others in [&same, &counts] {
+                        let (leading, trailing) = self.random.pick(&same);
+                        let (far_leading, far_trailing) = self.random.pick(others);
+                        let far = (far, far_leading, far_trailing);
+                        self.made_window(fill, &[(near, leading, trailing), far]);
+                    }
+                }
+                self.made_window(fill, &[(near, 3, 4), (far, 8, 0)]);
+                self.made_window(fill, &[(near, 8, 0), (far, 8, 0)]);
+            }
+        }
+        for _ in 0..if fill == 0 { 0 } else { 100 } {
+            let most = self.random.pick(&[counts.len(), counts.len() - 1, 6, 3]);
+            let mut given: Vec<(usize, u32, u32)> = Vec::new();
+            for _ in 0..2 + self.random.below(8) {
+                let place = self.random.below(fill);
+                let (leading, trailing) = self.random.pick(&counts[..most]);
+                given.retain(|given| given.0 != place);
+                given.push((place, leading, trailing));
+            }
+            self.made_window(fill, &given);
+        }
+    }
+
+    /// Explains every index of a run, and some that are none; the forms that are named must be
+    /// those in the record that the library writes.
+    fn explain_everywhere(&mut self, ratios: &[u64]) {
+        let count = ratios.len();
+        // More ratios stand behind them in memory.
+        let longer = [ratios, ratios, &[0, 1]].concat();
+        let ratios = &longer[..count];
+        let (positions, mut record) = (vec![0; count], vec![0; LONGEST_RECORD]);
+        let written = library::write(48_000, &positions, ratios, &mut record);
+        assert_eq!(written.number, 0, "the test made a run that is refused");
+        let fields = Fields::split(&record[..written.length as usize]);
+        let mut rest = &fields.0[3].2[..];
+        for index in 0..count {
+            let explained = self.explain(ratios, index as u64);
+            let form = form_named(ratios, index, explained);
+            let what = "not the form that is written";
+            let there = rest.starts_with(&form);
+            self.holds(there, what, ratios, index as u64, explained);
+            rest = &rest[form.len()..];
+        }
+        assert!(rest.is_empty(), "the forms do not use up the body");
+        let count = count as u64;
+        let wide = [8, 16, 32, 63].map(|height| count + (1 << height));
+        let none = [count, count + 1, 1 << 32, u64::MAX];
+        for index in none.into_iter().chain(wide) {
+            self.explain(ratios, index);
+        }
+        if count > 0 {
+            // The low bits of an index that there is.
+            let height = self.random.pick(&[16, 32, 48, 63]);
+            let index = self.random.below(count as usize) as u64 + (1 << height);
+            self.explain(ratios, index);
+        }
+    }
+
+    /// The ratios after an index, and those more than 127 before it, have no part in the answer.
+    fn explain_elsewhere(&mut self, ratios: &[u64]) {
+        let index = self.random.below(ratios.len());
+        let explained = self.explain(ratios, index as u64);
+        let start = index.saturating_sub(WINDOW);
+        for _ in 0..4 {
+            let mut others = ratios.to_vec();
+            let manner = self.random.below(3);
+            for (n, other) in others.iter_mut().enumerate() {
+                if n < start || n > index {
+                    *other = match manner {
+                        0 => ratios[index],
+                        1 => change_bytes(&mut self.random, ratios[index]),
+                        _ => self.random.bits(),
+                    };
+                }
+            }
+            let more = self.random.below((MOST_POINTS - index).min(200));
+            others.resize(index + 1 + more, ratios[index]);
+            let again = self.explain(&others, index as u64);
+            let what = "another answer by ratios outside the window";
+            self.holds(again == explained, what, &others, index as u64, again);
+        }
+        let (window, index) = (&ratios[start..=index], (index - start) as u64);
+        let alone = self.explain(window, index);
+        let what = "another answer by the window alone";
+        self.holds(alone == explained, what, window, index, alone);
+    }
+
+    /// More ratios than a run has, with indices below their number and others: 3 before 22.
+    fn explain_too_many(&mut self) {
+        let refused = Explained {
+            number: 3,
+            ..Explained::default()
+        };
+        for count in [4_097, 4_098, 8_192, 65_536, 65_537] {
+            let ratios = vec![self.random.bits(); count];
+            let count = count as u64;
+            for index in [0, 4_095, 4_096, count - 1, count, 9_999, u64::MAX] {
+                let explained = self.explain(&ratios, index);
+                let what = "too many ratios, and not refused by 3";
+                self.holds(explained == refused, what, &[], index, explained);
+            }
+        }
+    }
+
+    fn explains(&mut self) {
+        for fill in [0, 1, 2, 3, 126, 127, 128, 129, 200] {
+            self.made_windows(fill);
+        }
+        self.explain_everywhere(&[]);
+        for count in [1, 2, 126, 127, 128, 129, 300] {
+            let same = vec![self.random.bits(); count];
+            self.explain_everywhere(&same);
+            for kind in 0..Ratios::KINDS {
+                let ratios = Ratios::list(&mut self.random, kind, count);
+                self.explain_everywhere(&ratios);
+                for _ in 0..3 {
+                    self.explain_elsewhere(&ratios);
+                }
+            }
+        }
+        self.explain_too_many();
+    }
+
     /// The steps and ratios that document 01 lists.
     fn document_cases(&mut self) {
         let start = 1_u64 << 40;
@@ -559,6 +802,8 @@ impl Test {
         self.write(run.rate, shorter, &run.ratios[1..], LONGEST_RECORD);
         self.spoiled_writes(&run);
         self.made_bodies(MOST_POINTS);
+        self.explain_everywhere(&run.ratios);
+        self.explain_elsewhere(&run.ratios);
     }
 
     /// The longest open body has ten bytes for each ratio but the first.
@@ -649,12 +894,14 @@ impl Test {
         }
         self.longest_open_record();
         self.longest_fields();
+        self.explains();
     }
 
-    /// Prints how often each call returned each number; each must have come up.
+    /// Prints how often each call returned each number, and explain each reason, places at the
+    /// window's ends, and each sum; each must have come up.
     fn report(&self) {
         let reading = &[0, 10, 11, 12, 13, 14, 15, 16, 17, 18][..];
-        let calls: [(_, &[u32]); 9] = [
+        let calls: [(_, &[u32]); 14] = [
             ("write", &[0, 1, 2, 3, 4, 5, 6]),
             ("read_strict", reading),
             ("read_open", reading),
@@ -664,6 +911,11 @@ impl Test {
             ("cursor_new", &[0, 15]),
             ("step", &[0, 7, 8, 18]),
             ("kind", &[0, 1, 2]),
+            ("explain", &[0, 3, 22]),
+            ("explain, reason", &[0, 1, 2, 3, 4]),
+            ("explain, place of an equal ratio", &[0, 1, 125, 126]),
+            ("explain, place of an xor", &[0, 1, 125, 126]),
+            ("explain, sum", &[0, 1, 2, 3, 4, 5, 6, 7]),
         ];
         let mut missing = false;
         for (call, numbers) in calls {

@@ -1,7 +1,7 @@
 //! The library's C functions as declared in include/farigolenc.h, and safe wrappers around them.
 //! Which library that is, is said when linking: see tests/shared.
 
-use crate::answers::{Cursor, Kind, Live, Making, Reading, Span, Stepped, Written};
+use crate::answers::{Cursor, Explained, Kind, Live, Making, Reading, Span, Stepped, Written};
 
 unsafe extern "C" {
     fn farigolenc_write(
@@ -42,6 +42,7 @@ unsafe extern "C" {
     fn farigolenc_cursor_new(count: u64) -> Making;
     fn farigolenc_step(body: *const u8, body_length: usize, cursor: Cursor) -> Stepped;
     fn farigolenc_kind(ratio: u64) -> Kind;
+    fn farigolenc_explain(ratios: *const u64, ratios_length: usize, index: u64) -> Explained;
 }
 
 // Each call below lends slices, which are valid and non-null also when empty, and whose borrows
@@ -130,4 +131,9 @@ pub fn step(body: &[u8], cursor: Cursor) -> Stepped {
 pub fn kind(ratio: u64) -> Kind {
     // SAFETY: nothing is lent.
     unsafe { farigolenc_kind(ratio) }
+}
+
+pub fn explain(ratios: &[u64], index: u64) -> Explained {
+    // SAFETY: see above.
+    unsafe { farigolenc_explain(ratios.as_ptr(), ratios.len(), index) }
 }

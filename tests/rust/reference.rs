@@ -1,8 +1,8 @@
-//! Document 01 written out plainly: every call with its whole answer and outputs.
-//! It is meant to be compared with the document line by line, not to be fast.
+//! Document 01, and of document 02 the call explain, written out plainly: every call with its whole
+//! answer and outputs. It is meant to be compared with the documents line by line, not to be fast.
 
 use crate::answers::WINDOW;
-use crate::answers::{Cursor, Kind, Live, Making, Reading, Span, Stepped, Written};
+use crate::answers::{Cursor, Explained, Kind, Live, Making, Reading, Span, Stepped, Written};
 
 const RATES: [u32; 6] = [44_100, 48_000, 88_200, 96_000, 176_400, 192_000];
 const MOST_POINTS: usize = 4_096;
@@ -573,6 +573,99 @@ pub fn kind(ratio: u64) -> Kind {
             negative: 0,
             value: f64::from_bits(ratio),
             bits: 0,
+        },
+    }
+}
+
+// Reasons
+
+/// The zero bytes before the first byte that is not 0, and those after the last such byte.
+fn zero_bytes(x: u64) -> (usize, usize) {
+    let bytes = x.to_be_bytes();
+    let first = bytes.iter().position(|&byte| byte != 0).unwrap_or(8);
+    let last = bytes.iter().rposition(|&byte| byte != 0).unwrap_or(7);
+    (first, 7 - last)
+}
+
+/// Why the ratio at an index has its form.
+enum Reason {
+    /// Equal to the ratio at this place, and no nearer one equal.
+    Equal(usize),
+    /// No ratio of the window has a larger sum than the one at this place, and no nearer one the
+    /// same.
+    Xored {
+        at: usize,
+        leading: usize,
+        trailing: usize,
+    },
+    /// The largest sum is below 2.
+    BestSum(usize),
+    EmptyWindow,
+}
+
+/// The reason, or the first refusal among 3 and 22.
+fn reason(ratios: &[u64], index: u64) -> Result<Reason, Refusal> {
+    if ratios.len() > MOST_POINTS {
+        return refuse(3, 0);
+    }
+    if index >= ratios.len() as u64 {
+        return refuse(22, 0);
+    }
+    let (before, ratio) = (&ratios[..index as usize], ratios[index as usize]);
+    // By places: the nearest first.
+    let window: Vec<u64> = before.iter().rev().take(WINDOW).copied().collect();
+    let places = 0..window.len();
+    if let Some(at) = places.clone().find(|&place| window[place] == ratio) {
+        return Ok(Reason::Equal(at));
+    }
+    let counts = |place: usize| zero_bytes(ratio ^ window[place]);
+    let sum = |place: usize| counts(place).0 + counts(place).1;
+    let Some(best) = places.clone().map(sum).max() else {
+        return Ok(Reason::EmptyWindow);
+    };
+    match places.clone().find(|&place| sum(place) == best) {
+        Some(at) if best >= 2 => {
+            let (leading, trailing) = counts(at);
+            Ok(Reason::Xored {
+                at,
+                leading,
+                trailing,
+            })
+        }
+        _ => Ok(Reason::BestSum(best)),
+    }
+}
+
+pub fn explain(ratios: &[u64], index: u64) -> Explained {
+    let none = Explained::default();
+    match reason(ratios, index) {
+        Ok(Reason::Equal(at)) => Explained {
+            reason: 1,
+            at: at as u32,
+            ..none
+        },
+        Ok(Reason::Xored {
+            at,
+            leading,
+            trailing,
+        }) => Explained {
+            reason: 2,
+            at: at as u32,
+            leading: leading as u32,
+            trailing: trailing as u32,
+            sum: (leading + trailing) as u32,
+            ..none
+        },
+        Ok(Reason::BestSum(sum)) => Explained {
+            reason: 3,
+            sum: sum as u32,
+            ..none
+        },
+        Ok(Reason::EmptyWindow) => Explained { reason: 4, ..none },
+        Err(Refusal { number, place }) => Explained {
+            number,
+            place,
+            ..none
         },
     }
 }

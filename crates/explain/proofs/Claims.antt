@@ -1,8 +1,7 @@
 -- What the program prints of a run's record, and of all other input.
 use mathlib.Core.List.{List, _++_}
 use mathlib.Core.Logic.{⊎-elim}
-use mathlib.Core.Option.{Option, none, some}
-use mathlib.Core.Path.{_≡_, refl, sym, ap, ap₂, _∙_}
+use mathlib.Core.Path.{_≡_, refl, sym, ap, _∙_}
 use Prim.Native.Nat.{ℕ, _+_, _-_, _≤_}
 use native.Mathlib.Omega.{arith}
 use borrow.Author.Tests.{ne-eqb}
@@ -13,7 +12,6 @@ use Rattle.record_format.specs.Claims.{Accepted}
 use Rattle.record_format.specs.Reading.{Answer}
 use Rattle.record_format.specs.Runs.{Run, recordOf}
 use Rattle.record_format.proofs.Writing.{accepted-fits}
-use Rattle.text.specs.Lines.{refusedLine}
 use Rattle.inputs.specs.Inputs.{inputLimit, blank, readInput}
 use Rattle.inputs.proofs.Inputs.{over-front, record-uncut, reads-record, reads-no-other}
 use Rattle.explain.specs.Indexes.{indexOf}

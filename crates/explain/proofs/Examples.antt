@@ -1,7 +1,6 @@
 -- What the program prints of the example: the run is accepted, and its lines are computed.
 use mathlib.Core.List.{[], _∷_, _++_, append-nil}
 use mathlib.Core.Path.{_≡_, refl, sym, ap, _∙_}
-use Prim.Native.Nat.{ℕ}
 use lib.Dec.{lit<}
 use lib.ListN.{getD}
 use Rattle.lists.specs.Below.{Below}

@@ -26,7 +26,7 @@ use Rattle.inputs.specs.Inputs.{inputLimit, blank}
 use Rattle.inputs.proofs.Inputs.{Read, answerOf, over-front, read-input, read-own}
 use Rattle.explain.specs.Indexes.{indexOf, capped}
 use Rattle.explain.specs.Lines.{costLine, reasonLine}
-use Rattle.explain.specs.Printed.{bodyIn, costOf, offsetOf, costText, pointText, indexText, answerText, printed}
+use Rattle.explain.specs.Printed.{bodyIn, costOf, offsetOf, pointText, indexText, answerText, printed}
 use Rattle.explain.proofs.Offsets.{body-end}
 
 -- ---- of an index

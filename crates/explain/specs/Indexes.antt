@@ -19,6 +19,7 @@ use Rattle.bits.specs.Digits.{numberOf}
 abbrev pub isDigit : ℕ → Bool
 isDigit c = both (leb 48 c) (leb c 57)
 
+-- any other byte
 abbrev pub notDigit : ℕ → Bool
 notDigit c = not (isDigit c)
 

@@ -11,18 +11,17 @@ use lib.Bits.{bitXor}
 use lib.Dec.{leb, ltb, eqb}
 use lib.ListN.{length, getD, take, drop, length-take, length-reverse, take-append-drop}
 use lib.Seq.{ext-getD, length-take-le}
-use Rattle.limits.specs.Points.{maxPoints}
-use Rattle.ratio_format.specs.declared.RatioForm.the-variants.{Reference as ByPlace, Xor as ByXor, Exception as Literal}
+use Rattle.ratio_format.specs.declared.RatioForm.the-variants.{Reference as ByPlace, Exception as Literal}
 use Rattle.ratio_format.specs.Bodies.{codedFrom, codedRatios}
 use Rattle.ratio_format.specs.Choice.{find, best, xorForm, ratioForm}
-use Rattle.ratio_format.specs.Forms.{written, coded}
-use Rattle.ratio_format.specs.Windows.{windowSize, windowOf}
+use Rattle.ratio_format.specs.Forms.{coded}
+use Rattle.ratio_format.specs.Windows.{windowSize}
 use Rattle.ratio_format.specs.Zeros.{leadZeros, trailZeros, sumOf}
 use Rattle.ratio_format.proofs.Bodies.{coded-on, coded-more}
 use Rattle.ratio_format.proofs.Choice.{best-at, best-most, best-first, best-xor, bestXor, find-at, find-first}
-use Rattle.ratio_window.proofs.Windows.{window-inside, window-has, window-at}
+use Rattle.ratio_window.proofs.Windows.{window-inside, window-at}
 use Rattle.reasons.specs.declared.Reason.the-variants.{Reference, Xor, Exception, Empty, Refused}
-use Rattle.reasons.specs.Reasons.{xorReason, reasonOf, windowAt, explained}
+use Rattle.reasons.specs.Reasons.{xorReason, reasonOf, windowAt}
 use Rattle.reasons.specs.Claims.{NoneEqual, Says, SaysTrue, WindowIs, SaysOne, formNamed, NamesForm, OnlyWindow, RefusesExactly}
 use Rattle.reasons.proofs.Reasons.{reason-cases, explained-many, explained-past, explained-here}
 

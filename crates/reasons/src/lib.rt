@@ -2,8 +2,6 @@
 // decides it.
 ghost use mathlib.Core.Path.{_≡_};
 ghost use mathlib.Core.List.{reverse};
-ghost use Prim.Native.Nat.{_<_};
-ghost use lib.ListN.{length};
 ghost use Rattle.reasons.specs.Reasons.{reasonOf, explained};
 use limits::MAX_POINTS;
 use ratio_codec::search::search;

@@ -1,9 +1,9 @@
 -- `put_lines` meets its contract: the line of the cost, and that of the reason.
-use mathlib.Core.List.{List, [], _++_}
+use mathlib.Core.List.{[], _++_}
 use mathlib.Core.Path.{_≡_, ap, _∙_}
-use Prim.Native.Nat.{ℕ, _+_, _≤_, _<_}
+use Prim.Native.Nat.{ℕ, _+_}
 use native.Mathlib.Omega.{arith}
-use lib.ListN.{length, getD, take}
+use lib.ListN.{getD, take}
 use lib.Seq.{length-take-le}
 use Rattle.ratio_format.specs.Windows.{windowSize}
 use Rattle.ratio_format.proofs.Bodies.{nine-bytes}

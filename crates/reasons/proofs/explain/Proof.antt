@@ -1,10 +1,8 @@
 -- `explain` meets its contract: the tests in their order, and then the window of the ratio.
-use mathlib.Core.List.{reverse}
-use mathlib.Core.Path.{_≡_, sym, ap, _∙_}
-use Prim.Native.Nat.{ℕ, _≤_, _<_}
+use mathlib.Core.Path.{sym, ap, _∙_}
 use native.Mathlib.Omega.{arith}
 use borrow.Author.Needs.{needs}
-use lib.ListN.{length, getD}
+use lib.ListN.{getD}
 use Rattle.ratio_format.specs.Windows.{windowSize}
 use Rattle.ratio_window.proofs.Windows.{window-part}
 use Rattle.reasons.specs.Reasons.{reasonOf}

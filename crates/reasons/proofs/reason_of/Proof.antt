@@ -36,7 +36,7 @@ in-slice : (c : tie.Then2) → c .before .before .search .result .place < length
 in-slice c =
     let d = c .before .before in
     let b = d .search in
-    slice-in (l d) (v d) (b .result .place) (b .result .sum) (known d) (v64 d) (b .ensures .0) (b .ensures .1) (c .if2 .taken)
+    slice-in (l d) (v d) (b .result .place) (b .result .sum) (known d) (v64 d) (b .ensures .0) (b .ensures .1) (omega (arith, c .if2 .taken))
 
 sub-x : tie.Need-sub-x
 sub-x c = omega (arith, in-slice c)
@@ -65,7 +65,7 @@ returns-2 c =
     let t = chosen c in
     let d = t .before .before in
     let b = d .search in
-    slice-xor (l d) (v d) (b .result .place) (b .result .sum) (known d) (v64 d) (b .ensures .0) (b .ensures .1) (t .before .if1 .left) (t .if2 .taken)
+    slice-xor (l d) (v d) (b .result .place) (b .result .sum) (known d) (v64 d) (b .ensures .0) (b .ensures .1) (t .before .if1 .left) (omega (arith, t .if2 .taken))
     (c .before .lead-zeros .result) (c .trail-zeros .result) (c .before .lead-zeros .ensures .0) (c .trail-zeros .ensures .0)
 
 returns-3 : tie.Need-returns-3

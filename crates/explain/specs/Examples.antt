@@ -1,10 +1,10 @@
 -- The example of document 02, No. 1, that the program's page shows: index 1 of the points 0 and 960 with two ratios.
---   explainedRun    the run
---   explainedText   the two lines, as ASCII codes
---   PrintsExample   of the run's record and the text "1" the program prints them
+--   explainedRun d  the run, on the side d
+--   explainedText o the two lines, as ASCII codes, where the offset's digits are o
+--   PrintsExample   of the run's record and the text "1" the program prints them, without a side and, four bytes further on, with one
 --   Example, example, examples   lines, each with its bytes; examples-hold: each is as it is given
 --   index-examples  what texts of an index are
-use mathlib.Core.List.{List, [], _∷_, map}
+use mathlib.Core.List.{List, [], _∷_, _++_, map}
 use mathlib.Core.Option.{none, some}
 use mathlib.Core.Path.{_≡_, refl}
 use Prim.Native.Nat.{ℕ, _+_, _^_}
@@ -19,22 +19,24 @@ use Rattle.explain.specs.Lines.{costLine, reasonLine}
 use Rattle.explain.specs.Printed.{printed}
 
 -- the rate has no part in the text
-abbrev pub explainedRun : Run
-explainedRun = run 48000 (0 ∷ 960 ∷ []) (0xc01a666666666666 ∷ 0xc00e666666666666 ∷ [])
+abbrev pub explainedRun : ℕ → Run
+explainedRun d = run 48000 d (0 ∷ 960 ∷ []) (0xc01a666666666666 ∷ 0xc00e666666666666 ∷ [])
 
--- `ratio 1 c00e666666666666 3 bytes at 43` and `xor with place 0, 1 leading and 6 trailing zero bytes`
-abbrev pub explainedText : List ℕ
-explainedText =
+-- `ratio 1 c00e666666666666 3 bytes at 43`, or another offset, and `xor with place 0, 1 leading and 6 trailing zero bytes`
+abbrev pub explainedText : List ℕ → List ℕ
+explainedText o =
     114 ∷ 97 ∷ 116 ∷ 105 ∷ 111 ∷ 32 ∷ 49 ∷ 32
     ∷ 99 ∷ 48 ∷ 48 ∷ 101 ∷ 54 ∷ 54 ∷ 54 ∷ 54 ∷ 54 ∷ 54 ∷ 54 ∷ 54 ∷ 54 ∷ 54 ∷ 54 ∷ 54
-    ∷ 32 ∷ 51 ∷ 32 ∷ 98 ∷ 121 ∷ 116 ∷ 101 ∷ 115 ∷ 32 ∷ 97 ∷ 116 ∷ 32 ∷ 52 ∷ 51 ∷ 10
+    ∷ 32 ∷ 51 ∷ 32 ∷ 98 ∷ 121 ∷ 116 ∷ 101 ∷ 115 ∷ 32 ∷ 97 ∷ 116 ∷ 32 ∷ (o ++ (10
     ∷ 120 ∷ 111 ∷ 114 ∷ 32 ∷ 119 ∷ 105 ∷ 116 ∷ 104 ∷ 32 ∷ 112 ∷ 108 ∷ 97 ∷ 99 ∷ 101 ∷ 32 ∷ 48 ∷ 44 ∷ 32 ∷ 49
     ∷ 32 ∷ 108 ∷ 101 ∷ 97 ∷ 100 ∷ 105 ∷ 110 ∷ 103 ∷ 32 ∷ 97 ∷ 110 ∷ 100 ∷ 32 ∷ 54
-    ∷ 32 ∷ 116 ∷ 114 ∷ 97 ∷ 105 ∷ 108 ∷ 105 ∷ 110 ∷ 103 ∷ 32 ∷ 122 ∷ 101 ∷ 114 ∷ 111 ∷ 32 ∷ 98 ∷ 121 ∷ 116 ∷ 101 ∷ 115 ∷ 10 ∷ []
+    ∷ 32 ∷ 116 ∷ 114 ∷ 97 ∷ 105 ∷ 108 ∷ 105 ∷ 110 ∷ 103 ∷ 32 ∷ 122 ∷ 101 ∷ 114 ∷ 111 ∷ 32 ∷ 98 ∷ 121 ∷ 116 ∷ 101 ∷ 115 ∷ 10 ∷ []))
 
 -- the whole output
 abbrev pub PrintsExample : Type 0
-PrintsExample = printed (recordOf explainedRun) (49 ∷ []) ≡ explainedText
+PrintsExample =
+    (printed (recordOf (explainedRun 0)) (49 ∷ []) ≡ explainedText (52 ∷ 51 ∷ []))
+    × (printed (recordOf (explainedRun 4)) (49 ∷ []) ≡ explainedText (52 ∷ 55 ∷ []))
 
 -- ---- lines by themselves
 

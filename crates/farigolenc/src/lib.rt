@@ -72,14 +72,15 @@ pub extern "C" fn farigolenc_span(rate: u32, positions: &[u64]) -> SpanAnswer
 #[no_mangle]
 pub extern "C" fn farigolenc_write(
     rate: u32,
+    side: u32,
     positions: &[u64],
     ratios: &[u64],
     out: &mut [u8],
 ) -> WriteAnswer
-    ensures { λ r. ⌜ (r ≡ writeAnswer (run rate (now (positions .entry)) (now (ratios .entry))) (now (out .entry)))
-        × (now (out .exit) ≡ writeOutput (run rate (now (positions .entry)) (now (ratios .entry))) (now (out .entry))) ⌝ }
+    ensures { λ r. ⌜ (r ≡ writeAnswer (run rate side (now (positions .entry)) (now (ratios .entry))) (now (out .entry)))
+        × (now (out .exit) ≡ writeOutput (run rate side (now (positions .entry)) (now (ratios .entry))) (now (out .entry))) ⌝ }
 {
-    record_codec::write(rate, positions, ratios, out)
+    record_codec::write(rate, side, positions, ratios, out)
 }
 
 // Strict reading of a record.

@@ -5,7 +5,7 @@ ghost use Rattle.inputs.specs.Inputs.{inputLimit, blank};
 use limits::MAX_POINTS;
 
 // As many bytes as a program reads: those of the longest record.
-pub const INPUT: usize = 55321;
+pub const INPUT: usize = 55325;
 
 // Room for the input.
 pub fn input_room() -> [u8; INPUT]

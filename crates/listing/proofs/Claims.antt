@@ -19,7 +19,7 @@ own-text : (r : Run) → Accepted r → textOf (ownAnswer r blank blank) ≡ lis
 unfolding textOf runText
 own-text r a =
     let f = accepted-fits r (a .passes) in
-    ap₂ (λ (ts vs : List ℕ). listing (r .rate) (spanned (r .rate) ts .milliseconds) ts vs)
+    ap₂ (λ (ts vs : List ℕ). listing (r .rate) (r .side) (spanned (r .rate) ts .milliseconds) ts vs)
     (over-front (r .positions) blank (length (r .positions)) refl) (over-front (r .ratios) blank (length (r .positions)) (f .paired))
 
 pub prints-run : PrintsRun

@@ -15,7 +15,7 @@ use Rattle.inputs.proofs.Inputs.{Read, Held, read-input}
 use Rattle.listing.specs.Printed.{textLimit, runText, textOf, printed}
 
 -- the longest text
-pub longest : {n : ℕ} {ts vs : List ℕ} → Held n ts vs → 80 + 38 * length (take n ts) ≤ textLimit
+pub longest : {n : ℕ} {ts vs : List ℕ} → Held n ts vs → 106 + 38 * length (take n ts) ≤ textLimit
 longest {n} {ts} h = omega (arith, length-take-le n ts (h .positions), h .few)
 
 module _ {s : List ℕ} {r : ReadAnswer} {ts vs : List ℕ} (h : Read s r ts vs) (short : length s ≤ inputLimit) where
@@ -25,6 +25,6 @@ module _ {s : List ℕ} {r : ReadAnswer} {ts vs : List ℕ} (h : Read s r ts vs)
   refused-text n = sym (ap textOf (sym (read-input h short)) ∙ rw (ne-eqb (r .number) 0 n))
 
   -- a run
-  pub run-text : r .number ≡ 0 → (z : ℤ) → z ≡ spanned (r .rate) (take (r .count) ts) .milliseconds → listing (r .rate) z (take (r .count) ts) (take (r .count) vs) ≡ printed s
+  pub run-text : r .number ≡ 0 → (z : ℤ) → z ≡ spanned (r .rate) (take (r .count) ts) .milliseconds → listing (r .rate) (r .side) z (take (r .count) ts) (take (r .count) vs) ≡ printed s
   unfolding textOf runText
   run-text ok z e = rw e (sym (ap textOf (sym (read-input h short)) ∙ rw (eq-eqb (r .number) 0 ok)))

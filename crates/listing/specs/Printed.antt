@@ -1,4 +1,4 @@
--- Document 01, "Bytes to compare", the listing: what the program prints.
+-- Document 01, "Bytes to compare", the listing, with the side of document 02, No. 2: what the program prints.
 --   textLimit       how many bytes it prints at most
 --   runText a       the text of the run that a reading answered
 --   textOf a        the text for the answer a of a reading: that run, or the line of the refusal
@@ -14,16 +14,16 @@ use Rattle.span.specs.Spans.{spanned}
 use Rattle.text.specs.Lines.{refusedLine, listing}
 use Rattle.inputs.specs.Inputs.{readInput}
 
--- 80 for the lines of rate, count and span, and 38 for each point
+-- 106 for the lines of rate, side, count and span, and 38 for each point
 abbrev pub textLimit : ℕ
-textLimit = 80 + 38 * maxPoints
+textLimit = 106 + 38 * maxPoints
 
 -- the first `count` numbers of an output are the run's
 unfoldable pub runText : Answer → List ℕ
 runText a =
     let rate = a .answer .rate in
     let ts = take (a .answer .count) (a .positions) in
-    listing rate (spanned rate ts .milliseconds) ts (take (a .answer .count) (a .ratios))
+    listing rate (a .answer .side) (spanned rate ts .milliseconds) ts (take (a .answer .count) (a .ratios))
 
 -- a refusal is one line
 unfoldable pub textOf : Answer → List ℕ

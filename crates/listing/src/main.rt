@@ -10,8 +10,8 @@ use inputs::numbers_room;
 use libc::STDIN_FILENO;
 use libc::STDOUT_FILENO;
 
-// As many bytes as the longest text has: 80 for the first three lines, and 38 for each of 4,096 points.
-const TEXT: usize = 155728;
+// As many bytes as the longest text has: 106 for the lines of rate, side, count and span, and 38 for each of 4,096 points.
+const TEXT: usize = 155754;
 
 // Room for the text.
 fn output_room() -> [u8; TEXT]
@@ -38,6 +38,7 @@ fn print(input: &[u8], out: &mut [u8]) -> usize
     text::put_listing(
         out,
         rate,
+        answer.side,
         span.milliseconds,
         &positions[..count],
         &ratios[..count],

@@ -1,4 +1,5 @@
--- Laws of the front of a record as it is read: what each outcome leaves to be said of a number, of the rate, of the count, and of both.
+-- Laws of the front of a record as it is read: what each outcome leaves to be said of a number, of the rate, of the side, of the count, and of
+-- all three.
 use mathlib.Core.Path.{_≡_, refl, sym, ap, _∙_, subst}
 use mathlib.Core.Bool.{true, false, not}
 use mathlib.Core.List.{List, [], _∷_, _++_}
@@ -12,17 +13,19 @@ use Rattle.bits.specs.Digits.{numberOf}
 use Rattle.bits.proofs.Digits.{pow-above}
 use Rattle.limits.specs.Points.{maxPoints}
 use Rattle.limits.specs.Rates.{isRate}
+use Rattle.limits.specs.Sides.{isSide}
 use Rattle.refusals.specs.declared.Refusal.{Refusal}
 use Rattle.refusals.specs.Tests.{Test, test, firstOf, noRefusal}
 use Rattle.refusals.proofs.Tests.{first-here, first-skip, first-clear, first-end, first-append-none, first-append-some}
 use Rattle.record_format.specs.Fields.{bodyAt, nextAt, fieldTests}
-use Rattle.record_format.specs.Runs.{rateTag, countTag, rateSize, countSize}
-use Rattle.record_format.specs.Reading.{rateAt, countAt, rateIn, countIn, otherRate, rateTests, countTests, frontTests}
-use Rattle.record_format.proofs.Reading.{refusal, field-clear}
+use Rattle.record_format.specs.Runs.{rateTag, sideTag, countTag, rateSize, sideSize, countSize}
+use Rattle.record_format.specs.Reading.{rateAt, sideAt, hasSide, countAt, rateIn, countIn, otherRate, rateTests, sideTests, countTests, frontTests}
+use Rattle.record_format.proofs.Reading.{refusal, field-clear, side-numbered}
+use Rattle.record_format.proofs.Sides.{absent-count, absent-side, absent-tests, present-count, present-side, present-tests}
 use Rattle.record_codec.specs.declared.field.Field.{Field}
 use Rattle.record_codec.specs.declared.front.Number.{Number}
 use Rattle.record_codec.specs.declared.front.Front.{Front}
-use Rattle.record_codec.specs.Fields.{longestField, PartRead, FieldRead, NumberRead, FrontRead}
+use Rattle.record_codec.specs.Fields.{longestField, PartRead, FieldRead, NumberRead, SideRead, FrontRead}
 use Rattle.record_codec.proofs.Fields.{part-refused, part-first, part-then, part-both, field-numbered, number-is}
 
 -- ---- a number
@@ -95,6 +98,56 @@ module _ (e : ℕ) (s : List ℕ) (f : Number) (h : NumberRead rateSize (fieldTe
           contents-good s rateTag rateSize rateAt (rate-contents (rateIn s)) f h clear
           (as-read ∙ first-skip _ _ (ap not listed) ∙ first-skip _ _ b ∙ first-end)
 
+-- ---- the side, at the offset p, if there is one
+
+-- there is none
+pub side-absent : (s : List ℕ) (p : ℕ) → p ≡ sideAt s → p ≤ length s → hasSide s ≡ false → SideRead s (record { refusal = noRefusal; value = 0; end = p })
+side-absent s p at inside e = record {
+  refuses = sym (ap firstOf (absent-tests s e) ∙ first-end);
+  value = λ _. sym (absent-side s e);
+  small = lit< tt;
+  next = λ _. at ∙ sym (absent-count s e);
+  inside = λ _. omega (arith, absent-count s e);
+  near = λ _. omega (arith, absent-count s e);
+}
+
+-- the test of a side n at the offset q
+abbrev side-contents : ℕ → ℕ → List Test
+side-contents q n = test (not (isSide n)) 20 q ∷ []
+
+module _ (s : List ℕ) (p : ℕ) (at : p ≡ sideAt s) (present : hasSide s ≡ true) (f : Number) (h : NumberRead sideSize (fieldTests s (sideTag ∷ []) (some sideSize) p) s p f) where
+  abbrev found : List Test
+  found = side-contents p (numberOf 256 (bodyAt s p))
+
+  -- its field and its contents, as they are read
+  as-side : (r : Number) → NumberRead sideSize (fieldTests s (sideTag ∷ []) (some sideSize) p ++ found) s p r → SideRead s r
+  as-side r k =
+      let past : nextAt s p ≡ countAt s = ap (nextAt s) at ∙ sym (present-count s present) in
+      record {
+        refuses =
+            k .part .refuses
+            ∙ ap (λ (q : ℕ). firstOf (fieldTests s (sideTag ∷ []) (some sideSize) q ++ side-contents q (numberOf 256 (bodyAt s q)))) at
+            ∙ sym (ap firstOf (present-tests s present));
+        value = λ z. k .value z ∙ ap (λ (q : ℕ). numberOf 256 (bodyAt s q)) at ∙ sym (present-side s present);
+        small = k .small;
+        next = λ z. k .part .next z ∙ past;
+        inside = λ z. omega (arith, k .part .inside z, past);
+        near = λ z. omega (arith, k .part .near z, past, at);
+      }
+
+  pub side-first : (f .refusal .number ≡ 0 → ⊥) → SideRead s f
+  side-first d = as-side f (contents-first s sideTag sideSize p found f h d)
+
+  module _ (clear : f .refusal .number ≡ 0) where
+    sided : firstOf found ≡ firstOf (side-contents p (f .value))
+    sided = ap (λ (n : ℕ). firstOf (side-contents p n)) (sym (h .value clear))
+
+    pub side-other : (r : Number) → r ≡ record { refusal = refusal 20 p; value = 0; end = 0 } → isSide (f .value) ≡ false → SideRead s r
+    side-other r q b = as-side r (contents-refused s sideTag sideSize p found f h clear r 20 q (λ z. omega arith) (sym (sided ∙ first-here _ _ (ap not b))))
+
+    pub side-good : isSide (f .value) ≡ true → SideRead s f
+    side-good b = as-side f (contents-good s sideTag sideSize p found f h clear (sided ∙ first-skip _ _ (ap not b) ∙ first-end))
+
 -- ---- the count, at the offset p
 
 -- the test of a count c at the offset q
@@ -122,56 +175,77 @@ module _ (s : List ℕ) (p : ℕ) (at : p ≡ countAt s) (f : Number) (h : Numbe
     pub count-good : f .value ≤ maxPoints → NumberRead countSize (countTests s) s p f
     count-good l = moved f (contents-good s countTag countSize p _ f h clear (counted ∙ first-skip _ _ (le-ltb _ _ l) ∙ first-end))
 
--- ---- both
+-- ---- all three
 
 -- of a refused front nothing else is said
-front-none : (e : ℕ) (s : List ℕ) (g : Refusal) → (g .number ≡ 0 → ⊥) → g ≡ firstOf (frontTests e s) → FrontRead e s (record { refusal = g; rate = 0; count = 0; place = 0; end = 0 })
-front-none e s g d q = record {
-  refuses = q;
-  rate = λ z. absurd (d z);
-  count = λ z. absurd (d z);
-  few = λ z. absurd (d z);
-  place = λ z. absurd (d z);
-  next = λ z. absurd (d z);
-  inside = λ z. absurd (d z);
-  near = λ z. absurd (d z);
-}
+abbrev noFront : Refusal → Front
+noFront g = record { refusal = g; rate = 0; side = 0; count = 0; place = 0; end = 0 }
+
+front-none : (e : ℕ) (s : List ℕ) (r : Front) (g : Refusal) → r ≡ noFront g → (g .number ≡ 0 → ⊥) → g ≡ firstOf (frontTests e s) → FrontRead e s r
+front-none e s r g i d q =
+    subst (FrontRead e s) (sym i)
+    (record {
+      refuses = q;
+      rate = λ z. absurd (d z);
+      side = λ z. absurd (d z);
+      count = λ z. absurd (d z);
+      few = λ z. absurd (d z);
+      place = λ z. absurd (d z);
+      next = λ z. absurd (d z);
+      inside = λ z. absurd (d z);
+      near = λ z. absurd (d z);
+    })
+
+-- a refusal by its number
+abbrev numbers : {f g : Refusal} → f ≡ g → f .number ≡ g .number
+numbers q = ap (λ (x : Refusal). x .number) q
 
 module _ (e : ℕ) (s : List ℕ) (f : Number) (h : NumberRead rateSize (rateTests e s) s rateAt f) where
-  pub front-rate : (r : Front) → r ≡ record { refusal = f .refusal; rate = 0; count = 0; place = 0; end = 0 } → (f .refusal .number ≡ 0 → ⊥) → FrontRead e s r
+  pub front-rate : (r : Front) → r ≡ noFront (f .refusal) → (f .refusal .number ≡ 0 → ⊥) → FrontRead e s r
   front-rate r q d =
-      subst (FrontRead e s) (sym q)
-      (front-none e s (f .refusal) d (h .part .refuses ∙ sym (first-append-some (rateTests e s) (countTests s) (λ z. d (ap (λ (g : Refusal). g .number) (h .part .refuses) ∙ z)))))
+      front-none e s r (f .refusal) q d
+      (h .part .refuses ∙ sym (first-append-some (rateTests e s) (sideTests s ++ countTests s) (λ z. d (numbers (h .part .refuses) ∙ z))))
 
-  module _ (clear : f .refusal .number ≡ 0) (g : Number) (k : NumberRead countSize (countTests s) s (f .end) g) where
-    past-rate : firstOf (frontTests e s) ≡ firstOf (countTests s)
-    past-rate = first-append-none (rateTests e s) (countTests s) refl (sym (ap (λ (x : Refusal). x .number) (h .part .refuses)) ∙ clear)
+  module _ (clear : f .refusal .number ≡ 0) (d : Number) (i : SideRead s d) where
+    past-rate : firstOf (frontTests e s) ≡ firstOf (sideTests s ++ countTests s)
+    past-rate = first-append-none (rateTests e s) (sideTests s ++ countTests s) refl (sym (numbers (h .part .refuses)) ∙ clear)
 
-    pub front-count : (r : Front) → r ≡ record { refusal = g .refusal; rate = 0; count = 0; place = 0; end = 0 } → (g .refusal .number ≡ 0 → ⊥) → FrontRead e s r
-    front-count r q d = subst (FrontRead e s) (sym q) (front-none e s (g .refusal) d (k .part .refuses ∙ sym past-rate))
+    pub front-side : (r : Front) → r ≡ noFront (d .refusal) → (d .refusal .number ≡ 0 → ⊥) → FrontRead e s r
+    front-side r q n =
+        front-none e s r (d .refusal) q n
+        (i .refuses ∙ sym (past-rate ∙ first-append-some (sideTests s) (countTests s) (λ z. n (numbers (i .refuses) ∙ z))))
 
-    few-in : g .refusal .number ≡ 0 → countIn s ≤ maxPoints
-    few-in z =
-        let c = field-clear s (countTag ∷ []) (some countSize) (countAt s) (count-contents (countAt s) (countIn s)) (sym (ap (λ (x : Refusal). x .number) (k .part .refuses)) ∙ z) in
-        ltb-false maxPoints (countIn s) (first-clear _ _ (lit< tt) (c .1) .0)
+    module _ (sided : d .refusal .number ≡ 0) (g : Number) (k : NumberRead countSize (countTests s) s (d .end) g) where
+      past-side : firstOf (frontTests e s) ≡ firstOf (countTests s)
+      past-side = past-rate ∙ first-append-none (sideTests s) (countTests s) (side-numbered s) (sym (numbers (i .refuses)) ∙ sided)
 
-    pub front-found : g .refusal .number ≡ 0 → FrontRead e s (record { refusal = g .refusal; rate = f .value; count = g .value; place = f .end; end = g .end })
-    front-found z =
-        let at : f .end ≡ countAt s = h .part .next clear in
-        let counted : g .value ≡ countIn s = k .value z ∙ ap (λ (q : ℕ). numberOf 256 (bodyAt s q)) at in
-        let next : nextAt s (f .end) ≡ nextAt s (countAt s) = ap (nextAt s) at in
-        record {
-          refuses = k .part .refuses ∙ sym past-rate;
-          rate = λ _. h .value clear;
-          count = λ _. counted;
-          few = few-in;
-          place = λ _. at;
-          next = λ _. k .part .next z ∙ next;
-          inside = λ _. subst (λ (q : ℕ). q ≤ length s) next (k .part .inside z);
-          near = λ _. omega (arith, h .part .near clear, k .part .near z, next, at);
-        }
+      pub front-count : (r : Front) → r ≡ noFront (g .refusal) → (g .refusal .number ≡ 0 → ⊥) → FrontRead e s r
+      front-count r q n = front-none e s r (g .refusal) q n (k .part .refuses ∙ sym past-side)
+
+      few-in : g .refusal .number ≡ 0 → countIn s ≤ maxPoints
+      few-in z =
+          let c = field-clear s (countTag ∷ []) (some countSize) (countAt s) (count-contents (countAt s) (countIn s)) (sym (numbers (k .part .refuses)) ∙ z) in
+          ltb-false maxPoints (countIn s) (first-clear _ _ (lit< tt) (c .1) .0)
+
+      pub front-found : g .refusal .number ≡ 0
+          → FrontRead e s (record { refusal = g .refusal; rate = f .value; side = d .value; count = g .value; place = d .end; end = g .end })
+      front-found z =
+          let at : d .end ≡ countAt s = i .next sided in
+          let counted : g .value ≡ countIn s = k .value z ∙ ap (λ (q : ℕ). numberOf 256 (bodyAt s q)) at in
+          let next : nextAt s (d .end) ≡ nextAt s (countAt s) = ap (nextAt s) at in
+          record {
+            refuses = k .part .refuses ∙ sym past-side;
+            rate = λ _. h .value clear;
+            side = λ _. i .value sided;
+            count = λ _. counted;
+            few = few-in;
+            place = λ _. at;
+            next = λ _. k .part .next z ∙ next;
+            inside = λ _. subst (λ (q : ℕ). q ≤ length s) next (k .part .inside z);
+            near = λ _. omega (arith, h .part .near clear, i .near sided, k .part .near z, next, at);
+          }
 
 -- the count's field begins before it ends
-pub place-near : {e : ℕ} {s : List ℕ} {f : Front} → FrontRead e s f → f .refusal .number ≡ 0 → f .place ≤ 2 * longestField
+pub place-near : {e : ℕ} {s : List ℕ} {f : Front} → FrontRead e s f → f .refusal .number ≡ 0 → f .place ≤ 3 * longestField
 unfolding nextAt
 place-near h z = omega (arith, h .place z, h .near z)

@@ -14,7 +14,7 @@ use Rattle.position_format.specs.Positions.{readPositions}
 use Rattle.record_format.specs.Fields.{bodyAt, nextAt}
 use Rattle.record_format.specs.declared.ReadAnswer.{ReadAnswer}
 use Rattle.record_format.specs.Reading.{Answer, refusalAnswer, recordAnswer, readWith, readTests, lacksRoom, ratiosAt, endAt, positionsIn, ratiosIn, listOf, frontTests, roomTests, positionsTests, ratiosTests}
-use Rattle.record_format.proofs.Reading.{refusal, room-enough, answer-refused, answer-good}
+use Rattle.record_format.proofs.Reading.{refusal, room-enough, front-numbered, answer-refused, answer-good}
 use Rattle.record_codec.specs.declared.front.Front.{Front}
 use Rattle.record_codec.specs.declared.coding.Coding.the-variants.{Positions, Ratios}
 use Rattle.record_codec.specs.declared.coding.Part.{Part}
@@ -30,7 +30,7 @@ refusal-as f ts us vs ws a b =
     ap₂
     (λ (m n : ℕ).
     record {
-      answer = record { number = f .number; place = f .place; rate = 0; count = 0; used = 0 };
+      answer = record { number = f .number; place = f .place; rate = 0; side = 0; count = 0; used = 0 };
       positions = replicate m 0;
       ratios = replicate n 0;
     })
@@ -59,7 +59,7 @@ module _ (openly : Bool) (e : ℕ) (s ts vs : List ℕ) where
 
     module _ (clear : f .refusal .number ≡ 0) where
       past-front : firstOf tests ≡ firstOf (roomTests s (length ts) (length vs) ++ (positionsTests s ++ ratiosTests (ratiosBy openly) s))
-      past-front = first-append-none (frontTests e s) _ refl (sym (ap (λ (g : Refusal). g .number) (h .refuses)) ∙ clear)
+      past-front = first-append-none (frontTests e s) _ (front-numbered e s) (sym (ap (λ (g : Refusal). g .number) (h .refuses)) ∙ clear)
 
       room-test : firstOf (roomTests s (length ts) (length vs) ++ (positionsTests s ++ ratiosTests (ratiosBy openly) s))
           ≡ firstOf (test (lacksRoom (length ts) (length vs) (f .count)) 16 (f .place) ∷ (positionsTests s ++ ratiosTests (ratiosBy openly) s))
@@ -118,10 +118,11 @@ module _ (openly : Bool) (e : ℕ) (s ts vs : List ℕ) where
               read-ratios d l m = refuses (k .refusal) (ratios-part .refuses ∙ sym past-positions) d us ws l m
 
               module _ (whole : k .refusal .number ≡ 0) where
-                pub read-found : Answered answer (record { number = 0; place = 0; rate = f .rate; count = f .count; used = k .end }) us ws
+                pub read-found : Answered answer (record { number = 0; place = 0; rate = f .rate; side = f .side; count = f .count; used = k .end }) us ws
                 unfolding readWith
                 read-found =
                     let a = h .rate clear in
+                    let d = h .side clear in
                     let b = h .count clear in
                     let c : k .end ≡ endAt s = j .part .next whole ∙ ap (nextAt s) ratios-at in
                     let p : us ≡ over (listOf (positionsIn s)) ts =

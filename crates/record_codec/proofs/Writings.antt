@@ -1,7 +1,7 @@
--- Laws of a record as it is written: a head, a field, and one field after another, put at the front of an output.
+-- Laws of a record as it is written: a head, a field, and fields after others, put at the front of an output.
 use mathlib.Core.Path.{_≡_, refl, sym, ap, ap₂, _∙_, subst}
 use mathlib.Core.List.{List, [], _∷_, _++_, append-assoc}
-use Prim.Native.Nat.{ℕ, suc, _+_, _-_, _≤_, _<_}
+use Prim.Native.Nat.{ℕ, zero, suc, _+_, _-_, _≤_, _<_}
 use native.Mathlib.Omega.{arith}
 use lib.ListN.{length, take, drop, set, length-append, length-drop}
 use lib.Seq.{take-at, drop-at, drop-drop, length-take-le}
@@ -13,7 +13,13 @@ use Rattle.outputs.proofs.Parts.{rest-is, put-rest}
 use Rattle.outputs.specs.declared.Wrote.{Wrote}
 use Rattle.outputs.specs.declared.Wrote.the-variants.{Done, NoRoom}
 use Rattle.record_format.specs.Fields.{Field, fieldOf, headSize, fieldBytes, laid}
-use Rattle.record_format.proofs.Fields.{length-field, laid-append, laid-one}
+use Rattle.position_format.specs.Rows.{rows}
+use Rattle.position_format.specs.Positions.{codedPositions}
+use Rattle.ratio_format.specs.Bodies.{codedRatios}
+use Rattle.record_format.specs.Runs.{Run, sideTag, positionsTag, ratiosTag, sideSize, sideFields, fieldsOf}
+use Rattle.record_format.proofs.Fields.{length-field, length-laid, laid-append, laid-one}
+use Rattle.record_format.proofs.Runs.{rateField}
+use Rattle.record_codec.specs.Fronts.{frontFields}
 
 -- ---- a head, and a field of a number
 
@@ -41,12 +47,17 @@ module _ (o p q : List ℕ) (tag n x : ℕ) (h : p ≡ tag ∷ (bytesOf 2 n ++ d
       ∙ ap₂ (λ (k m : ℕ). tag ∷ (bytesOf 2 k ++ (bytesOf n x ++ drop m o))) (sym l) (sym f)
       ∙ sym (append-assoc (tag ∷ bytesOf 2 (length (bytesOf n x))) (bytesOf n x) (drop (length (fieldBytes (fieldOf tag (bytesOf n x)))) o))
 
--- how much room a field of a number takes
-pub number-none : (o : List ℕ) (tag n x : ℕ) → length o < n + headSize → length o < length (fieldBytes (fieldOf tag (bytesOf n x)))
-number-none o tag n x h = omega (arith, length-field (fieldOf tag (bytesOf n x)), length-digits 256 n x)
+-- one field, laid
+one-laid : (f : Field) (o p : List ℕ) (w : Wrote) → Placed (fieldBytes f) w o p → Placed (laid (f ∷ [])) w o p
+one-laid f o p w put = subst (λ (l : List ℕ). Placed l w o p) (sym (laid-one f)) put
 
-pub number-done : (o q : List ℕ) (tag n x : ℕ) → n + headSize ≤ length o → q ≡ over (fieldBytes (fieldOf tag (bytesOf n x))) o → Placed (fieldBytes (fieldOf tag (bytesOf n x))) (Done (n + headSize)) o q
+-- how much room a field of a number takes
+pub number-none : (o : List ℕ) (tag n x : ℕ) → length o < n + headSize → length o < length (laid (fieldOf tag (bytesOf n x) ∷ []))
+number-none o tag n x h = omega (arith, length-laid (fieldOf tag (bytesOf n x) ∷ []), length-digits 256 n x)
+
+pub number-done : (o q : List ℕ) (tag n x : ℕ) → n + headSize ≤ length o → q ≡ over (fieldBytes (fieldOf tag (bytesOf n x))) o → Placed (laid (fieldOf tag (bytesOf n x) ∷ [])) (Done (n + headSize)) o q
 number-done o q tag n x h e =
+    one-laid (fieldOf tag (bytesOf n x)) o q (Done (n + headSize))
     (omega (arith, length-field (fieldOf tag (bytesOf n x)), length-digits 256 n x), omega (arith, length-field (fieldOf tag (bytesOf n x)), length-digits 256 n x), e)
 
 -- ---- one part after another
@@ -56,10 +67,10 @@ module _ (tag : ℕ) (body o q : List ℕ) (w : Wrote) (h : headSize ≤ length 
   past-head : Placed body w (drop headSize o) q
   past-head = subst (λ (l : List ℕ). Placed body w l q) (rest-is headSize o) put
 
-  pub field-none : w ≡ NoRoom → length o < length (fieldBytes (fieldOf tag body))
+  pub field-none : w ≡ NoRoom → length o < length (laid (fieldOf tag body ∷ []))
   field-none e =
       let g : Placed body NoRoom (drop headSize o) q = subst (λ (x : Wrote). Placed body x (drop headSize o) q) e past-head in
-      omega (arith, length-drop headSize o, length-field (fieldOf tag body))
+      omega (arith, length-drop headSize o, length-laid (fieldOf tag body ∷ []))
 
   module _ (n : ℕ) (e : w ≡ Done n) where
     body-done : Placed body (Done n) (drop headSize o) q
@@ -68,10 +79,11 @@ module _ (tag : ℕ) (body o q : List ℕ) (w : Wrote) (h : headSize ≤ length 
     pub field-fits : n + headSize ≤ length o
     field-fits = omega (arith, body-done .0, body-done .1, length-drop headSize o)
 
-    pub field-done : (r : List ℕ) (t : ℕ) → t ≡ tag → r ≡ t ∷ (bytesOf 2 n ++ drop headSize (putMid headSize (length o - headSize) o q)) → Placed (fieldBytes (fieldOf tag body)) (Done (n + headSize)) o r
+    pub field-done : (r : List ℕ) (t : ℕ) → t ≡ tag → r ≡ t ∷ (bytesOf 2 n ++ drop headSize (putMid headSize (length o - headSize) o q)) → Placed (laid (fieldOf tag body ∷ [])) (Done (n + headSize)) o r
     unfolding fieldBytes
     field-done r t tagged g =
-        let f : headSize + length body ≡ length (fieldBytes (fieldOf tag body)) = sym (length-field (fieldOf tag body)) in (
+        let f : headSize + length body ≡ length (fieldBytes (fieldOf tag body)) = sym (length-field (fieldOf tag body)) in
+        one-laid (fieldOf tag body) o r (Done (n + headSize)) (
           omega (arith, body-done .0, f),
           omega (arith, field-fits, body-done .0, f),
           g
@@ -82,20 +94,18 @@ module _ (tag : ℕ) (body o q : List ℕ) (w : Wrote) (h : headSize ≤ length 
               ∙ sym (append-assoc (tag ∷ bytesOf 2 (length body)) body (drop (length (fieldBytes (fieldOf tag body))) o)),
         )
 
--- ---- fields, and then one field more in the rest, by what its writer answers
+-- ---- fields, and then more fields in the rest, by what their writer answers
 
--- the first field
-pub first-done : (f : Field) (o p : List ℕ) (w : Wrote) (n : ℕ) → Placed (fieldBytes f) w o p → w ≡ Done n → Placed (laid (f ∷ [])) (Done n) o p
-first-done f o p w n put e = subst (λ (l : List ℕ). Placed l (Done n) o p) (sym (laid-one f)) (subst (λ (x : Wrote). Placed (fieldBytes f) x o p) e put)
+-- too long for the first is too long for all
+pub first-none : (fs gs all : List Field) → all ≡ fs ++ gs → (o p : List ℕ) (w : Wrote) → Placed (laid fs) w o p → w ≡ NoRoom → length o < length (laid all)
+first-none fs gs all is o p w put e =
+    let h : Placed (laid fs) NoRoom o p = subst (λ (x : Wrote). Placed (laid fs) x o p) e put in
+    omega (arith, ap length (ap laid is ∙ laid-append fs gs), length-append (laid fs) (laid gs))
 
--- too long for a beginning is too long for all
-pub first-none : (f : Field) (gs : List Field) (o p : List ℕ) (w : Wrote) → Placed (fieldBytes f) w o p → w ≡ NoRoom → length o < length (laid (f ∷ gs))
-unfolding laid
-first-none f gs o p w put e =
-    let h : Placed (fieldBytes f) NoRoom o p = subst (λ (x : Wrote). Placed (fieldBytes f) x o p) e put in
-    omega (arith, length-append (fieldBytes f) (laid gs))
+pub first-done : (fs : List Field) (o p : List ℕ) (w : Wrote) (n : ℕ) → Placed (laid fs) w o p → w ≡ Done n → Placed (laid fs) (Done n) o p
+first-done fs o p w n put e = subst (λ (x : Wrote). Placed (laid fs) x o p) e put
 
-module _ (fs : List Field) (f : Field) (o p : List ℕ) (n : ℕ) (done : Placed (laid fs) (Done n) o p) where
+module _ (fs gs : List Field) (o p : List ℕ) (n : ℕ) (done : Placed (laid fs) (Done n) o p) where
   -- an output keeps its length
   same : length p ≡ length o
   same = ap length (done .2) ∙ length-append (laid fs) (drop (length (laid fs)) o) ∙ omega (arith, length-drop (length (laid fs)) o, done .1)
@@ -107,39 +117,57 @@ module _ (fs : List Field) (f : Field) (o p : List ℕ) (n : ℕ) (done : Placed
   rest-now =
       rest-is n p ∙ ap (drop n) (done .2) ∙ drop-at (laid fs) (drop (length (laid fs)) o) n (sym (done .0)) ∙ ap (λ (k : ℕ). drop k o) (sym (done .0))
 
-  module _ (q : List ℕ) (w : Wrote) (put : Placed (fieldBytes f) w (take (length p - n) (drop n p)) q) where
-    in-rest : Placed (fieldBytes f) w (drop n o) q
-    in-rest = subst (λ (l : List ℕ). Placed (fieldBytes f) w l q) rest-now put
+  module _ (q : List ℕ) (w : Wrote) (put : Placed (laid gs) w (take (length p - n) (drop n p)) q) where
+    in-rest : Placed (laid gs) w (drop n o) q
+    in-rest = subst (λ (l : List ℕ). Placed (laid gs) w l q) rest-now put
 
-    pub more-none : (gs : List Field) → w ≡ NoRoom → length o < length (laid (fs ++ (f ∷ gs)))
-    more-none gs e =
-        let h : Placed (fieldBytes f) NoRoom (drop n o) q = subst (λ (x : Wrote). Placed (fieldBytes f) x (drop n o) q) e in-rest in
-        let l : length (laid (fs ++ (f ∷ gs))) ≡ length (laid fs) + (length (fieldBytes f) + length (laid gs)) =
-        ap length (laid-append fs (f ∷ gs) ∙ ap (λ (x : List ℕ). laid fs ++ x) (laid-append (f ∷ []) gs ∙ ap (λ (x : List ℕ). x ++ laid gs) (laid-one f)))
-        ∙ length-append (laid fs) (fieldBytes f ++ laid gs) ∙ ap (λ (k : ℕ). length (laid fs) + k) (length-append (fieldBytes f) (laid gs)) in
+    pub more-none : (hs all : List Field) → all ≡ fs ++ (gs ++ hs) → w ≡ NoRoom → length o < length (laid all)
+    more-none hs all is e =
+        let h : Placed (laid gs) NoRoom (drop n o) q = subst (λ (x : Wrote). Placed (laid gs) x (drop n o) q) e in-rest in
+        let l : length (laid all) ≡ length (laid fs) + (length (laid gs) + length (laid hs)) =
+        ap (λ (x : List Field). length (laid x)) is
+        ∙ ap length (laid-append fs (gs ++ hs) ∙ ap (λ (x : List ℕ). laid fs ++ x) (laid-append gs hs))
+        ∙ length-append (laid fs) (laid gs ++ laid hs) ∙ ap (λ (k : ℕ). length (laid fs) + k) (length-append (laid gs) (laid hs)) in
         omega (arith, length-drop n o, done .0, room-left, same)
 
     module _ (m : ℕ) (e : w ≡ Done m) where
-      then-done : Placed (fieldBytes f) (Done m) (drop n o) q
-      then-done = subst (λ (x : Wrote). Placed (fieldBytes f) x (drop n o) q) e in-rest
+      then-done : Placed (laid gs) (Done m) (drop n o) q
+      then-done = subst (λ (x : Wrote). Placed (laid gs) x (drop n o) q) e in-rest
 
       pub more-fits : n + m ≤ length o
       more-fits = omega (arith, then-done .0, then-done .1, length-drop n o, room-left, same)
 
-      pub more-done : Placed (laid (fs ++ (f ∷ []))) (Done (n + m)) o (putMid n (length p - n) p q)
-      more-done =
-          let bytes : laid (fs ++ (f ∷ [])) ≡ laid fs ++ fieldBytes f = laid-append fs (f ∷ []) ∙ ap (λ (x : List ℕ). laid fs ++ x) (laid-one f) in
-          let h : n + length (fieldBytes f) ≡ length (laid fs ++ fieldBytes f) = omega (arith, length-append (laid fs) (fieldBytes f), done .0) in
+      pub more-done : (all : List Field) → all ≡ fs ++ gs → Placed (laid all) (Done (n + m)) o (putMid n (length p - n) p q)
+      more-done all is =
+          let bytes : laid all ≡ laid fs ++ laid gs = ap laid is ∙ laid-append fs gs in
+          let h : n + length (laid gs) ≡ length (laid fs ++ laid gs) = omega (arith, length-append (laid fs) (laid gs), done .0) in
           let long = ap length bytes in (
             omega (arith, then-done .0, h, long),
             omega (arith, more-fits, then-done .0, h, long),
             put-rest n p q
                 ∙ ap₂ (λ (a b : List ℕ). a ++ b) (ap (take n) (done .2) ∙ take-at (laid fs) (drop (length (laid fs)) o) n (sym (done .0)))
-                (then-done .2 ∙ ap (λ (l : List ℕ). fieldBytes f ++ l) (drop-drop (length (fieldBytes f)) n o))
-                ∙ sym (append-assoc (laid fs) (fieldBytes f) (drop (n + length (fieldBytes f)) o))
-                ∙ ap (λ (k : ℕ). (laid fs ++ fieldBytes f) ++ drop k o) h
+                (then-done .2 ∙ ap (λ (l : List ℕ). laid gs ++ l) (drop-drop (length (laid gs)) n o))
+                ∙ sym (append-assoc (laid fs) (laid gs) (drop (n + length (laid gs)) o))
+                ∙ ap (λ (k : ℕ). (laid fs ++ laid gs) ++ drop k o) h
                 ∙ ap (λ (l : List ℕ). over l o) (sym bytes),
           )
+
+-- ---- the fields of a record, in the order in which they are put
+
+-- no side takes no byte
+pub side-none : (o : List ℕ) → Placed (laid (sideFields 0)) (Done 0) o o
+unfolding laid
+side-none o = (refl, omega arith, refl)
+
+-- any other is one field
+pub side-one : (n : ℕ) → (n ≡ 0 → ⊥) → sideFields n ≡ fieldOf sideTag (bytesOf sideSize n) ∷ []
+side-one zero d = absurd (d refl)
+side-one (suc n) d = refl
+
+-- past the front stand the positions and the ratios
+pub front-then : (r : Run) → let ps = fieldOf positionsTag (codedPositions rows (r .positions)) in let vs = fieldOf ratiosTag (codedRatios (r .ratios)) in
+    fieldsOf r ≡ frontFields (r .rate) (r .side) (length (r .positions)) ++ (ps ∷ vs ∷ [])
+front-then r = ap (λ (l : List Field). rateField r ∷ l) (sym (append-assoc (sideFields (r .side)) _ _))
 
 -- ---- what an answer of a writer says
 

@@ -5,7 +5,8 @@
 --   PartRead ..         a part of a record, read from the offset p on: its refusal, or the offset past its last field
 --   FieldRead ..        the same of one field, with the start of its body
 --   NumberRead ..       the same of a field that holds a number, with the number
---   FrontRead e s f     rate and count: their refusal, or both numbers, the place of the count, and the offset past them
+--   SideRead s f        the same of the side's field, which may be missing: then the side is 0, and the count's stands in its place
+--   FrontRead e s f     rate, side and count: their refusal, or all three, the place of the count, and the offset past them
 --   tagOf, numberFor, codedBy, readBy   of a coding: its field's tag, the number of the refusal of a body that is none, the body of
 --                       numbers, and what a body holds; ratiosBy: the same of ratios, openly or strictly
 --   CodedRead ..        a field of coded numbers: its refusal, or the offset past it, and its numbers at the front of the output
@@ -27,8 +28,8 @@ use Rattle.position_format.specs.Rows.{rows}
 use Rattle.position_format.specs.Positions.{codedPositions, readPositions, validPositions}
 use Rattle.ratio_format.specs.Bodies.{codedRatios, openRatios, strictRatios}
 use Rattle.record_format.specs.Fields.{headSize, maxBody, bodyAt, nextAt}
-use Rattle.record_format.specs.Runs.{positionsTag, ratiosTag}
-use Rattle.record_format.specs.Reading.{Answer, listOf, countAt, positionsAt, rateIn, countIn, frontTests, codedTests}
+use Rattle.record_format.specs.Runs.{positionsTag, ratiosTag, sideSize}
+use Rattle.record_format.specs.Reading.{Answer, listOf, sideAt, countAt, positionsAt, rateIn, sideIn, countIn, sideTests, frontTests, codedTests}
 use Rattle.record_format.specs.declared.ReadAnswer.{ReadAnswer}
 use Rattle.record_codec.specs.declared.field.Field.{Field}
 use Rattle.record_codec.specs.declared.field.Length.{Length}
@@ -77,16 +78,26 @@ pub record NumberRead (n : ℕ) (tests : List Test) (s : List ℕ) (p : ℕ) (f 
   pub value : f .refusal .number ≡ 0 → f .value ≡ numberOf 256 (bodyAt s p)
   pub small : f .value < 256 ^ n
 
--- rate and count, and where each stands
+-- the side, and where the count's field stands
+pub record SideRead (s : List ℕ) (f : Number) : Type 0 where
+  pub refuses : f .refusal ≡ firstOf (sideTests s)
+  pub value : f .refusal .number ≡ 0 → f .value ≡ sideIn s
+  pub small : f .value < 256 ^ sideSize
+  pub next : f .refusal .number ≡ 0 → f .end ≡ countAt s
+  pub inside : f .refusal .number ≡ 0 → countAt s ≤ length s
+  pub near : f .refusal .number ≡ 0 → countAt s ≤ sideAt s + longestField
+
+-- rate, side and count, and where the positions' field stands
 pub record FrontRead (e : ℕ) (s : List ℕ) (f : Front) : Type 0 where
   pub refuses : f .refusal ≡ firstOf (frontTests e s)
   pub rate : f .refusal .number ≡ 0 → f .rate ≡ rateIn s
+  pub side : f .refusal .number ≡ 0 → f .side ≡ sideIn s
   pub count : f .refusal .number ≡ 0 → f .count ≡ countIn s
   pub few : f .refusal .number ≡ 0 → countIn s ≤ maxPoints
   pub place : f .refusal .number ≡ 0 → f .place ≡ countAt s
   pub next : f .refusal .number ≡ 0 → f .end ≡ positionsAt s
   pub inside : f .refusal .number ≡ 0 → positionsAt s ≤ length s
-  pub near : f .refusal .number ≡ 0 → positionsAt s ≤ 2 * longestField
+  pub near : f .refusal .number ≡ 0 → positionsAt s ≤ 3 * longestField
 
 -- ---- fields of coded numbers
 

@@ -1,13 +1,15 @@
-// The front of a record: the fields of the rate and of the count, with their tests. Reading it needs no output.
+// The front of a record: the fields of the rate, of the side, which may be missing, and of the count, with their tests. Reading it needs no
+// output.
 ghost use mathlib.Core.Path.{_≡_};
 ghost use mathlib.Core.List.{[], _∷_};
 ghost use mathlib.Core.Option.{some};
 ghost use Prim.Native.Nat.{_≤_};
 ghost use lib.ListN.{length};
-ghost use Rattle.record_format.specs.Fields.{fieldTests};
-ghost use Rattle.record_format.specs.Runs.{rateSize, countSize};
-ghost use Rattle.record_format.specs.Reading.{otherRate, rateAt, rateTests, countTests, countAt};
-ghost use Rattle.record_codec.specs.Fields.{farthest, NumberRead, FrontRead};
+ghost use lib.Dec.{eqb};
+ghost use Rattle.record_format.specs.Fields.{tagAt, fieldTests};
+ghost use Rattle.record_format.specs.Runs.{sideTag, rateSize, countSize};
+ghost use Rattle.record_format.specs.Reading.{otherRate, rateAt, sideAt, rateTests, countTests, countAt};
+ghost use Rattle.record_codec.specs.Fields.{farthest, NumberRead, SideRead, FrontRead};
 use super::field::Length;
 use super::field::read_field;
 use record_format::COUNT_SIZE;
@@ -15,6 +17,8 @@ use record_format::COUNT_TAG;
 use record_format::RATE_AT;
 use record_format::RATE_SIZE;
 use record_format::RATE_TAG;
+use record_format::SIDE_SIZE;
+use record_format::SIDE_TAG;
 use refusals::Refusal;
 
 // A field that holds a number: its refusal, or the number and the offset past it.
@@ -24,10 +28,11 @@ pub struct Number {
     pub end: usize,
 }
 
-// Rate and count: their refusal, or both, the offset of the count's field, and the offset past it.
+// Rate, side and count: their refusal, or all three, the offset of the count's field, and the offset past it.
 pub struct Front {
     pub refusal: Refusal,
     pub rate: u32,
+    pub side: u32,
     pub count: usize,
     pub place: usize,
     pub end: usize,
@@ -99,7 +104,41 @@ fn read_rate(expected: u32, input: &[u8]) -> Number
     found
 }
 
-// The count, at the offset past the rate: 15.
+// Whether the field at an offset is that of a side: its tag tells.
+fn has_side(input: &[u8], at: usize) -> bool
+    ensures { λ r. ⌜ r ≡ eqb (tagAt (now (input .entry)) at) sideTag ⌝ }
+{
+    at < input.len() && input[at] == SIDE_TAG
+}
+
+// The side, at the offset past the rate: 20. Where another field stands there it is 0, and ends where it begins.
+fn read_side(input: &[u8], at: usize) -> Number
+    requires { ⌜ (at ≡ sideAt (now input)) × (at ≤ length (now input)) × (at ≤ farthest) ⌝ }
+    ensures { λ r. ⌜ SideRead (now (input .entry)) r ⌝ }
+{
+    if !has_side(input, at) {
+        return Number {
+            refusal: Refusal {
+                number: 0,
+                place: 0,
+            },
+            value: 0,
+            end: at,
+        };
+    }
+    let found = read_number(input, at, SIDE_TAG, SIDE_SIZE);
+    let refusal = found.refusal;
+    let number = refusal.number;
+    if number != 0 {
+        return found;
+    }
+    if !limits::is_side(found.value as u32) {
+        return no_number(20, at);
+    }
+    found
+}
+
+// The count, at the offset past the side: 15.
 fn read_count(input: &[u8], at: usize) -> Number
     requires { ⌜ (at ≡ countAt (now input)) × (at ≤ length (now input)) × (at ≤ farthest) ⌝ }
     ensures { λ r. ⌜ NumberRead countSize (countTests (now (input .entry))) (now (input .entry)) at r ⌝ }
@@ -116,20 +155,21 @@ fn read_count(input: &[u8], at: usize) -> Number
     found
 }
 
-// No front: a refusal of the rate or of the count.
+// No front: a refusal of the rate, of the side or of the count.
 fn no_front(refusal: Refusal) -> Front
-    ensures { λ r. ⌜ r ≡ record { refusal = refusal; rate = 0; count = 0; place = 0; end = 0 } ⌝ }
+    ensures { λ r. ⌜ r ≡ record { refusal = refusal; rate = 0; side = 0; count = 0; place = 0; end = 0 } ⌝ }
 {
     Front {
         refusal,
         rate: 0,
+        side: 0,
         count: 0,
         place: 0,
         end: 0,
     }
 }
 
-// The rate and the count of a record, and where they end.
+// The rate, the side and the count of a record, and where they end.
 pub(crate) fn read_front(expected: u32, input: &[u8]) -> Front
     ensures { λ r. ⌜ FrontRead expected (now (input .entry)) r ⌝ }
 {
@@ -139,7 +179,13 @@ pub(crate) fn read_front(expected: u32, input: &[u8]) -> Front
     if rate_number != 0 {
         return no_front(rate_refused);
     }
-    let place = rate.end;
+    let side = read_side(input, rate.end);
+    let side_refused = side.refusal;
+    let side_number = side_refused.number;
+    if side_number != 0 {
+        return no_front(side_refused);
+    }
+    let place = side.end;
     let count = read_count(input, place);
     let count_refused = count.refusal;
     let count_number = count_refused.number;
@@ -149,6 +195,7 @@ pub(crate) fn read_front(expected: u32, input: &[u8]) -> Front
     Front {
         refusal: count_refused,
         rate: rate.value as u32,
+        side: side.value as u32,
         count: count.value as usize,
         place,
         end: count.end,

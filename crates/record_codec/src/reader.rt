@@ -18,6 +18,7 @@ fn refuse_read(refusal: Refusal, positions: &mut [u64], ratios: &mut [u64]) -> R
         number: refusal.number,
         place: refusal.place,
         rate: 0,
+        side: 0,
         count: 0,
         used: 0,
     }
@@ -73,6 +74,7 @@ fn read_record(
         number: 0,
         place: 0,
         rate: front.rate,
+        side: front.side,
         count: count as u32,
         used: values.end as u64,
     }

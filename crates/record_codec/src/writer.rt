@@ -1,5 +1,5 @@
 // Writing: the record of a run, field by field, each straight into the rest of the caller's output.
-ghost use mathlib.Core.List.{_∷_, _++_};
+ghost use mathlib.Core.List.{[], _∷_, _++_};
 ghost use mathlib.Core.Path.{_≡_};
 ghost use mathlib.Core.Bool.{true};
 ghost use Prim.Native.Nat.{_≤_};
@@ -10,10 +10,11 @@ ghost use Rattle.outputs.specs.Outputs.{Placed, zeros};
 ghost use Rattle.position_format.specs.Positions.{validPositions};
 ghost use Rattle.position_format.specs.Rows.{rows};
 ghost use Rattle.refusals.specs.Tests.{firstOf};
-ghost use Rattle.record_format.specs.Fields.{fieldOf, headSize, fieldBytes};
-ghost use Rattle.record_format.specs.Runs.{run, recordOf};
+ghost use Rattle.record_format.specs.Fields.{fieldOf, headSize, laid};
+ghost use Rattle.record_format.specs.Runs.{run, sideFields, recordOf};
 ghost use Rattle.record_format.specs.Writing.{runTests, writeAnswer, writeOutput};
 ghost use Rattle.record_codec.specs.Fields.{tagOf, codedBy, Codable};
+ghost use Rattle.record_codec.specs.Fronts.{frontFields};
 use super::coding::Coding;
 use super::coding::put_body;
 use super::coding::tag_of;
@@ -23,6 +24,8 @@ use record_format::COUNT_TAG;
 use record_format::HEAD_SIZE;
 use record_format::RATE_SIZE;
 use record_format::RATE_TAG;
+use record_format::SIDE_SIZE;
+use record_format::SIDE_TAG;
 use record_format::WriteAnswer;
 use refusals::Refusal;
 
@@ -38,7 +41,7 @@ fn put_head(out: &mut [u8], tag: u8, n: usize)
 // A field that holds a number in n bytes, at the front of the output.
 fn put_number(out: &mut [u8], tag: u8, n: usize, x: u64) -> Wrote
     requires { ⌜ n ≤ 8 ⌝ }
-    ensures { λ r. ⌜ Placed (fieldBytes (fieldOf tag (bytesOf n x))) r (now (out .entry)) (now (out .exit)) ⌝ }
+    ensures { λ r. ⌜ Placed (laid (fieldOf tag (bytesOf n x) ∷ [])) r (now (out .entry)) (now (out .exit)) ⌝ }
 {
     if out.len() < n + HEAD_SIZE {
         return Wrote::NoRoom;
@@ -51,7 +54,7 @@ fn put_number(out: &mut [u8], tag: u8, n: usize, x: u64) -> Wrote
 // A field of coded numbers, at the front of the output: the body past the head, and then the head.
 fn put_coded(coding: Coding, numbers: &[u64], out: &mut [u8]) -> Wrote
     requires { ⌜ Codable coding (now numbers) ⌝ }
-    ensures { λ r. ⌜ Placed (fieldBytes (fieldOf (tagOf coding) (codedBy coding (now (numbers .entry))))) r (now (out .entry)) (now (out .exit)) ⌝ }
+    ensures { λ r. ⌜ Placed (laid (fieldOf (tagOf coding) (codedBy coding (now (numbers .entry))) ∷ [])) r (now (out .entry)) (now (out .exit)) ⌝ }
 {
     if out.len() < HEAD_SIZE {
         return Wrote::NoRoom;
@@ -63,28 +66,51 @@ fn put_coded(coding: Coding, numbers: &[u64], out: &mut [u8]) -> Wrote
     Wrote::Done(n + HEAD_SIZE)
 }
 
-// The record of a run whose tests 1 to 5 do not apply.
-fn put_record(rate: u32, positions: &[u64], ratios: &[u64], out: &mut [u8]) -> Wrote
-    requires { ⌜ (validPositions rows (now positions) ≡ true) × (length (now positions) ≤ maxPoints) × (length (now ratios) ≤ maxPoints) ⌝ }
-    ensures { λ r. ⌜ Placed (recordOf (run rate (now (positions .entry)) (now (ratios .entry)))) r (now (out .entry)) (now (out .exit)) ⌝ }
+// The field of a side, at the front of the output: nothing for side 0.
+fn put_side(side: u32, out: &mut [u8]) -> Wrote
+    ensures { λ r. ⌜ Placed (laid (sideFields side)) r (now (out .entry)) (now (out .exit)) ⌝ }
+{
+    if side == 0 {
+        return Wrote::Done(0);
+    }
+    put_number(out, SIDE_TAG, SIDE_SIZE, side as u64)
+}
+
+// The fields of the rate, of the side and of the count, at the front of the output.
+fn put_front(rate: u32, side: u32, count: usize, out: &mut [u8]) -> Wrote
+    ensures { λ r. ⌜ Placed (laid (frontFields rate side count)) r (now (out .entry)) (now (out .exit)) ⌝ }
 {
     let Wrote::Done(rate_end) = put_number(out, RATE_TAG, RATE_SIZE, rate as u64) else {
         return Wrote::NoRoom;
     };
+    let Wrote::Done(side_size) = put_side(side, &mut out[rate_end..]) else {
+        return Wrote::NoRoom;
+    };
+    let side_end = rate_end + side_size;
     let Wrote::Done(count_size) = put_number(
-        &mut out[rate_end..],
+        &mut out[side_end..],
         COUNT_TAG,
         COUNT_SIZE,
-        positions.len() as u64,
+        count as u64,
     ) else {
         return Wrote::NoRoom;
     };
-    let count_end = rate_end + count_size;
-    let Wrote::Done(positions_size) = put_coded(Coding::Positions, positions, &mut out[count_end..])
+    Wrote::Done(side_end + count_size)
+}
+
+// The record of a run that no test but 6 applies to.
+fn put_record(rate: u32, side: u32, positions: &[u64], ratios: &[u64], out: &mut [u8]) -> Wrote
+    requires { ⌜ (validPositions rows (now positions) ≡ true) × (length (now positions) ≤ maxPoints) × (length (now ratios) ≤ maxPoints) ⌝ }
+    ensures { λ r. ⌜ Placed (recordOf (run rate side (now (positions .entry)) (now (ratios .entry)))) r (now (out .entry)) (now (out .exit)) ⌝ }
+{
+    let Wrote::Done(front_end) = put_front(rate, side, positions.len(), out) else {
+        return Wrote::NoRoom;
+    };
+    let Wrote::Done(positions_size) = put_coded(Coding::Positions, positions, &mut out[front_end..])
     else {
         return Wrote::NoRoom;
     };
-    let positions_end = count_end + positions_size;
+    let positions_end = front_end + positions_size;
     let Wrote::Done(ratios_size) = put_coded(Coding::Ratios, ratios, &mut out[positions_end..])
     else {
         return Wrote::NoRoom;
@@ -92,13 +118,19 @@ fn put_record(rate: u32, positions: &[u64], ratios: &[u64], out: &mut [u8]) -> W
     Wrote::Done(positions_end + ratios_size)
 }
 
-// The refusal of a run by tests 1 to 5, in this order, each over the whole run.
-fn check_run(rate: u32, positions: &[u64], ratios: &[u64]) -> Refusal
-    ensures { λ r. ⌜ r ≡ firstOf (runTests (run rate (now (positions .entry)) (now (ratios .entry)))) ⌝ }
+// The refusal of a run by tests 1, 21 and 2 to 5, in this order, each over the whole run.
+fn check_run(rate: u32, side: u32, positions: &[u64], ratios: &[u64]) -> Refusal
+    ensures { λ r. ⌜ r ≡ firstOf (runTests (run rate side (now (positions .entry)) (now (ratios .entry)))) ⌝ }
 {
     if !limits::is_rate(rate) {
         return Refusal {
             number: 1,
+            place: 0,
+        };
+    }
+    if limits::MAX_SIDE < side {
+        return Refusal {
+            number: 21,
             place: 0,
         };
     }
@@ -146,17 +178,17 @@ fn refuse_write(refusal: Refusal, out: &mut [u8]) -> WriteAnswer
     }
 }
 
-// Writes the record of a run at the front of the output: tests 1 to 6 in this order.
-pub fn write(rate: u32, positions: &[u64], ratios: &[u64], out: &mut [u8]) -> WriteAnswer
-    ensures { λ r. ⌜ (r ≡ writeAnswer (run rate (now (positions .entry)) (now (ratios .entry))) (now (out .entry)))
-        × (now (out .exit) ≡ writeOutput (run rate (now (positions .entry)) (now (ratios .entry))) (now (out .entry))) ⌝ }
+// Writes the record of a run at the front of the output: tests 1, 21 and 2 to 6 in this order. Side 0 stands for none.
+pub fn write(rate: u32, side: u32, positions: &[u64], ratios: &[u64], out: &mut [u8]) -> WriteAnswer
+    ensures { λ r. ⌜ (r ≡ writeAnswer (run rate side (now (positions .entry)) (now (ratios .entry))) (now (out .entry)))
+        × (now (out .exit) ≡ writeOutput (run rate side (now (positions .entry)) (now (ratios .entry))) (now (out .entry))) ⌝ }
 {
-    let refusal = check_run(rate, positions, ratios);
+    let refusal = check_run(rate, side, positions, ratios);
     let number = refusal.number;
     if number != 0 {
         return refuse_write(refusal, out);
     }
-    let Wrote::Done(n) = put_record(rate, positions, ratios, out) else {
+    let Wrote::Done(n) = put_record(rate, side, positions, ratios, out) else {
         return refuse_write(
             Refusal {
                 number: 6,

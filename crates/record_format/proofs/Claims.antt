@@ -3,11 +3,11 @@ use mathlib.Core.Path.{_≡_, refl, sym, ap, ap₂, _∙_}
 use mathlib.Core.Bool.{Bool, true, false, not, cond}
 use mathlib.Core.List.{List, [], _∷_, _++_, append-nil}
 use mathlib.Core.Logic.{_⊎_, inl, inr}
-use Prim.Native.Nat.{ℕ, _≤_}
+use Prim.Native.Nat.{ℕ, zero, suc, _≤_}
 use native.Mathlib.Omega.{arith}
 use borrow.Author.Tests.{eqb-true, eq-eqb, le-ltb, not-false}
 use lib.Dec.{eqb, lit<, lit≤}
-use lib.ListN.{length}
+use lib.ListN.{length, drop}
 use Rattle.lists.specs.Below.{Below}
 use Rattle.lists.specs.Compare.{both}
 use Rattle.bits.specs.Digits.{bytesOf, numberOf}
@@ -25,12 +25,13 @@ use Rattle.ratio_format.proofs.ReadFrom.{open-coded}
 use Rattle.ratio_format.proofs.Shortest.{shortest}
 use Rattle.ratio_format.proofs.Strict.{strict-coded}
 use Rattle.record_format.specs.Fields.{Field, fieldBytes, laid}
-use Rattle.record_format.specs.Runs.{Run, run, rateSize, countSize, ratiosTag, fieldsOf, recordOf}
+use Rattle.record_format.specs.Runs.{Run, run, rateSize, countSize, ratiosTag, sideFields, fieldsOf, recordOf}
 use Rattle.record_format.specs.Reading.{Answer, readStrict, readOpen, listOf, otherRate}
 use Rattle.record_format.specs.Claims.{Accepted, AllAccepted, joined, ownTests, ownAnswer, runAnswer, ReadsBack, ReadsOnly, AcceptsExactly, OpenAgrees, PrefixFree, ListsApart, TrailingBytes, Shortest, NineEach, Demand3}
-use Rattle.record_format.proofs.Fields.{fieldIn, laid-same}
+use Rattle.record_format.proofs.Fields.{fieldIn, closed, laid-same}
 use Rattle.record_format.proofs.Reading.{room-enough, answer-clear, answer-good}
-use Rattle.record_format.proofs.Runs.{rateIndex, countIndex, positionsIndex, ratiosIndex, fields-small}
+use Rattle.record_format.proofs.Runs.{rateField, pointFields, countIndex, positionsIndex, ratiosIndex, fields-small}
+use Rattle.record_format.proofs.Sides.{sides-same}
 use Rattle.record_format.proofs.ReadsBack.{read-record}
 use Rattle.record_format.proofs.ReadsOnly.{accepted-begins}
 use Rattle.record_format.proofs.Followed.{followed}
@@ -123,8 +124,8 @@ isLast : ℕ → Bool
 isLast tag = eqb tag ratiosTag
 
 -- a run is its parts
-same-run : (r q : Run) → r .rate ≡ q .rate → r .positions ≡ q .positions → r .ratios ≡ q .ratios → r ≡ q
-same-run r q a b c = ap (λ (x : ℕ). run x (r .positions) (r .ratios)) a ∙ ap₂ (λ (x y : List ℕ). run (q .rate) x y) b c
+same-run : (r q : Run) → r .rate ≡ q .rate → r .side ≡ q .side → r .positions ≡ q .positions → r .ratios ≡ q .ratios → r ≡ q
+same-run r q a d b c = ap₂ (λ (x y : ℕ). run x y (r .positions) (r .ratios)) a d ∙ ap₂ (λ (x y : List ℕ). run (q .rate) (q .side) x y) b c
 
 -- the body of one of the fields
 abbrev body-of : ℕ → List Field → List ℕ
@@ -135,25 +136,36 @@ same-fields : (r q : Run) → Accepted r → Accepted q → fieldsOf r ≡ field
 same-fields r q a b e =
     let f = accepted-fits r (a .passes) in
     let g = accepted-fits q (b .passes) in
-    let rates : bytesOf rateSize (r .rate) ≡ bytesOf rateSize (q .rate) = ap (body-of rateIndex) e in
-    let counts : bytesOf countSize (length (r .positions)) ≡ bytesOf countSize (length (q .positions)) = ap (body-of countIndex) e in
-    let bodies : codedPositions rows (r .positions) ≡ codedPositions rows (q .positions) = ap (body-of positionsIndex) e in
-    let codes : codedRatios (r .ratios) ≡ codedRatios (q .ratios) = ap (body-of ratiosIndex) e in
+    let rates : bytesOf rateSize (r .rate) ≡ bytesOf rateSize (q .rate) = ap (body-of 0) e in
+    let d = sides-same (r .side) (q .side) (f .sided) (g .sided) _ _ _ _ refl refl (ap (drop 1) e) in
+    let counts : bytesOf countSize (length (r .positions)) ≡ bytesOf countSize (length (q .positions)) = ap (body-of countIndex) (d .1) in
+    let bodies : codedPositions rows (r .positions) ≡ codedPositions rows (q .positions) = ap (body-of positionsIndex) (d .1) in
+    let codes : codedRatios (r .ratios) ≡ codedRatios (q .ratios) = ap (body-of ratiosIndex) (d .1) in
     let n : length (r .positions) ≡ length (q .positions) =
     sym (number-digits-lt (lit< tt) countSize (omega (arith, f .few))) ∙ ap (numberOf 256) counts ∙ number-digits-lt (lit< tt) countSize (omega (arith, g .few)) in
     same-run r q
     (sym (number-digits-lt (lit< tt) rateSize (omega (arith, rate-high (r .rate) (f .listed)))) ∙ ap (numberOf 256) rates
     ∙ number-digits-lt (lit< tt) rateSize (omega (arith, rate-high (q .rate) (g .listed))))
+    (d .0)
     (ap listOf
     (sym (read-coded rows rows-good (r .positions) (f .valid)) ∙ ap₂ (readPositions rows) n bodies ∙ read-coded rows rows-good (q .positions) (g .valid)))
     (ap listOf
     (sym (strict-coded (r .ratios) (a .words)) ∙ ap₂ strictRatios (f .paired ∙ n ∙ sym (g .paired)) codes ∙ strict-coded (q .ratios) (b .words)))
 
+-- a record's fields end with that of the ratios, with a side and without
+fields-closed : (r : Run) → closed isLast (fieldsOf r) ≡ true
+unfolding isLast
+fields-closed r = go (r .side)
+  where
+    go : (n : ℕ) → closed isLast (rateField r ∷ (sideFields n ++ pointFields r)) ≡ true
+    go zero = refl
+    go (suc n) = refl
+
 -- bytes that begin with the records of two runs: the runs are the same, and so is what follows
 pub unique : (r q : Run) → Accepted r → Accepted q → (x y : List ℕ) → recordOf r ++ x ≡ recordOf q ++ y → (r ≡ q) × (x ≡ y)
-unfolding recordOf isLast
+unfolding recordOf
 unique r q a b x y e =
-    let h = laid-same isLast (fieldsOf r) (fieldsOf q) (fields-small r (accepted-fits r (a .passes))) (fields-small q (accepted-fits q (b .passes))) refl refl x y e in
+    let h = laid-same isLast (fieldsOf r) (fieldsOf q) (fields-small r (accepted-fits r (a .passes))) (fields-small q (accepted-fits q (b .passes))) (fields-closed r) (fields-closed q) x y e in
     (same-fields r q a b (h .0), h .1)
 
 pub prefix-free : PrefixFree

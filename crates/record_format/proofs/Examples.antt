@@ -1,4 +1,4 @@
--- The run of document 01's listing: its record, and that it is accepted.
+-- The run of document 01's listing, and the same on a side: their records, and that they are accepted.
 use mathlib.Core.Path.{_≡_, refl}
 use lib.Dec.{lit<}
 use Rattle.lists.specs.Below.{Below}
@@ -14,7 +14,7 @@ use Rattle.ratio_format.specs.Choice.{find, best, ratioForm}
 use Rattle.ratio_format.specs.Forms.{written, coded}
 use Rattle.ratio_format.specs.Bodies.{codedFrom}
 use Rattle.record_format.specs.Claims.{Accepted}
-use Rattle.record_format.specs.Examples.{listedRun, listedBytes}
+use Rattle.record_format.specs.Examples.{listedRun, listedBytes, sidedRun, sidedBytes}
 use Rattle.record_format.specs.Fields.{fieldBytes, laid}
 use Rattle.record_format.specs.Runs.{recordOf}
 use Rattle.record_format.specs.Writing.{accepts}
@@ -23,6 +23,14 @@ pub listed-record : recordOf listedRun ≡ listedBytes
 unfolding digitsOf numberOf eights pack rows code stepsFrom stepBits positionBits codedPositions find best ratioForm written coded codedFrom fieldBytes laid recordOf
 listed-record = refl
 
+pub sided-record : recordOf sidedRun ≡ sidedBytes
+unfolding digitsOf numberOf eights pack rows code stepsFrom stepBits positionBits codedPositions find best ratioForm written coded codedFrom fieldBytes laid recordOf
+sided-record = refl
+
 pub listed-accepted : Accepted listedRun
 unfolding Below accepts firstOf isRate rates member firstIndex steps stepsFrom rows inTable
 listed-accepted = record { words = (lit< tt, (lit< tt, (lit< tt, tt))); passes = refl }
+
+pub sided-accepted : Accepted sidedRun
+unfolding Below accepts firstOf isRate rates member firstIndex steps stepsFrom rows inTable
+sided-accepted = record { words = (lit< tt, (lit< tt, (lit< tt, tt))); passes = refl }

@@ -167,6 +167,20 @@ stand-past s p [] h = omega arith
 stand-past s p (f ∷ fs) h =
     stand-past s (nextAt s p) fs (h .1) ∙ omega (arith, h .0 .next, length-append (fieldBytes f) (laid fs))
 
+-- some fields, and then others
+
+pub small-append : (fs gs : List Field) → Small fs → Small gs → Small (fs ++ gs)
+small-append [] gs a b = b
+small-append (f ∷ fs) gs a b = (a .0, small-append fs gs (a .1) b)
+
+pub stand-append : (s : List ℕ) (p : ℕ) (fs gs : List Field) → StandAll s p (fs ++ gs) → StandAll s p fs × StandAll s (pastAll s p fs) gs
+stand-append s p [] gs h = (tt, h)
+stand-append s p (f ∷ fs) gs h = let r = stand-append s (nextAt s p) fs gs (h .1) in ((h .0, r .0), r .1)
+
+pub past-append : (s : List ℕ) (p : ℕ) (fs gs : List Field) → pastAll s p (fs ++ gs) ≡ pastAll s (pastAll s p fs) gs
+past-append s p [] gs = refl
+past-append s p (f ∷ fs) gs = past-append s (nextAt s p) fs gs
+
 -- ---- bytes are laid of one list of fields only
 
 -- what stands after equal beginnings
@@ -286,9 +300,13 @@ follow-laid s p (f ∷ fs) h =
     h .0 ∙ ap (λ (l : List ℕ). fieldBytes f ++ l) (follow-laid s (nextAt s p) fs (h .1))
     ∙ sym (append-assoc (fieldBytes f) (laid fs) (drop (pastAll s (nextAt s p) fs) s))
 
+pub follow-append : (s : List ℕ) (p : ℕ) (fs gs : List Field) → Follow s p fs → Follow s (pastAll s p fs) gs → Follow s p (fs ++ gs)
+follow-append s p [] gs a b = b
+follow-append s p (f ∷ fs) gs a b = (a .0, follow-append s (nextAt s p) fs gs (a .1) b)
+
 -- ---- bytes after a field change nothing in it
 
-next-later : (s : List ℕ) (p : ℕ) → p ≤ nextAt s p
+pub next-later : (s : List ℕ) (p : ℕ) → p ≤ nextAt s p
 unfolding nextAt
 next-later s p = omega arith
 

@@ -1,106 +1,156 @@
 -- Bytes after as many whole fields as a record has change nothing in a reading, whatever the fields hold.
-use mathlib.Core.Path.{_≡_, ap, ap₂, _∙_}
-use mathlib.Core.Bool.{not}
+use mathlib.Core.Path.{_≡_, refl, ap, ap₂, _∙_, subst}
+use mathlib.Core.Bool.{Bool, true, false, not, cond}
 use mathlib.Core.List.{List, [], _∷_, _++_}
 use mathlib.Core.Option.{Option, none, some}
 use Prim.Native.Nat.{ℕ, _≤_, _<_}
 use native.Mathlib.Omega.{arith}
-use lib.Dec.{ltb, lit<, lit≤}
+use lib.Dec.{ltb, eqb, lit<, lit≤}
 use lib.ListN.{length}
 use Rattle.bits.specs.Digits.{numberOf}
 use Rattle.limits.specs.Points.{maxPoints}
 use Rattle.limits.specs.Rates.{isRate}
+use Rattle.limits.specs.Sides.{isSide}
 use Rattle.refusals.specs.Tests.{Test, test}
 use Rattle.position_format.specs.Rows.{rows}
 use Rattle.position_format.specs.Positions.{readPositions}
-use Rattle.record_format.specs.Fields.{bodyAt, nextAt, fieldTests}
-use Rattle.record_format.specs.Runs.{rateTag, countTag, positionsTag, ratiosTag, rateSize, countSize}
-use Rattle.record_format.specs.Reading.{Answer, recordAnswer, answerBy, readTests, readWith, rateAt, countAt, endAt, rateIn, countIn, positionsIn, ratiosIn, missing, otherRate, lacksRoom, codedTests, rateTests, countTests, roomTests, positionsTests, ratiosTests}
+use Rattle.record_format.specs.Fields.{tagAt, bodyAt, nextAt, fieldTests}
+use Rattle.record_format.specs.Runs.{rateTag, sideTag, countTag, positionsTag, ratiosTag, rateSize, sideSize, countSize}
+use Rattle.record_format.specs.Reading.{Answer, recordAnswer, answerBy, readTests, readWith, rateAt, sideAt, hasSide, countAt, endAt, rateIn, sideIn, countIn, positionsIn, ratiosIn, missing, otherRate, lacksRoom, codedTests, rateTests, sideTests, countTests, roomTests, positionsTests, ratiosTests}
 use Rattle.record_format.specs.Claims.{Followed}
-use Rattle.record_format.proofs.Fields.{fieldAt, body-same, field-whole, field-at-same}
+use Rattle.record_format.proofs.Fields.{fieldAt, tag-same, next-same, head-within, body-same, next-later, field-whole, field-at-same}
 use Rattle.record_format.proofs.Reading.{field-tests-same}
-use Rattle.record_format.proofs.Runs.{rateIndex, countIndex, positionsIndex, ratiosIndex, fieldCount}
+use Rattle.record_format.proofs.Runs.{countIndex, positionsIndex, ratiosIndex, pointFieldCount}
+use Rattle.record_format.proofs.Sides.{absent-count, present-count}
 
--- the fields of a record, each by its index i, in s and in s followed by more
+-- a field at the offset p, whole in s, and at the same offset q where s is followed by more
+module _ (s rest : List ℕ) (p q : ℕ) (at : q ≡ p) (whole : nextAt s p ≤ length s) where
+  next-at : nextAt (s ++ rest) q ≡ nextAt s p
+  next-at = ap (nextAt (s ++ rest)) at ∙ next-same s rest p (head-within s rest p whole)
+
+  tag-at : tagAt (s ++ rest) q ≡ tagAt s p
+  tag-at = ap (tagAt (s ++ rest)) at ∙ tag-same s rest p (head-within s rest p whole)
+
+  body-at : bodyAt (s ++ rest) q ≡ bodyAt s p
+  body-at = ap (bodyAt (s ++ rest)) at ∙ body-same s rest p whole
+
+  tests-at : (tags : List ℕ) (n : Option ℕ) → fieldTests (s ++ rest) tags n q ≡ fieldTests s tags n p
+  tests-at tags n = ap (fieldTests (s ++ rest) tags n) at ∙ field-tests-same s rest p whole tags n
+
+  -- of coded numbers, where the reading of the body is the same
+  coded-at : (tags : List ℕ) (j k : List ℕ → Option (List ℕ)) (x : ℕ) → j ≡ k → codedTests (s ++ rest) tags j x q ≡ codedTests s tags k x p
+  coded-at tags j k x e =
+      ap₂ (λ (l : List Test) (o : Option (List ℕ)). l ++ (test (missing o) x q ∷ [])) (tests-at tags none) (ap₂ (λ (f : List ℕ → Option (List ℕ)) (b : List ℕ). f b) e body-at)
+      ∙ ap (λ (y : ℕ). fieldTests s tags none p ++ (test (missing (k (bodyAt s p))) x y ∷ [])) at
+
+-- the fields of a record: each is whole in s, and stands at the same offset where s is followed by more
 module _ (s rest : List ℕ) (framed : endAt s ≤ length s) where
-  at-same : (i : ℕ) → i ≤ fieldCount → fieldAt (s ++ rest) rateAt i ≡ fieldAt s rateAt i
-  at-same = field-at-same s rest rateAt fieldCount framed
+  count-whole : nextAt s (countAt s) ≤ length s
+  count-whole = field-whole s (countAt s) pointFieldCount framed countIndex (lit< tt)
 
-  module _ (i : ℕ) (h : i < fieldCount) where
-    abbrev p : ℕ
-    p = fieldAt s rateAt i
+  -- the side's, or else the count's, which stands in its place
+  side-whole : nextAt s (sideAt s) ≤ length s
+  side-whole = go (hasSide s) refl
+    where
+      go : (b : Bool) → hasSide s ≡ b → nextAt s (sideAt s) ≤ length s
+      go true e = omega (arith, present-count s e, next-later s (countAt s), count-whole)
+      go false e = subst (λ (p : ℕ). nextAt s p ≤ length s) (absent-count s e) count-whole
 
-    abbrev q : ℕ
-    q = fieldAt (s ++ rest) rateAt i
+  rate-whole : nextAt s rateAt ≤ length s
+  rate-whole = omega (arith, next-later s (sideAt s), side-whole)
 
-    at : q ≡ p
-    at = at-same i (omega arith)
+  side-at : sideAt (s ++ rest) ≡ sideAt s
+  side-at = next-at s rest rateAt rateAt refl rate-whole
 
-    whole : nextAt s p ≤ length s
-    whole = field-whole s rateAt fieldCount framed i h
+  has-side : hasSide (s ++ rest) ≡ hasSide s
+  has-side = ap (λ (t : ℕ). eqb t sideTag) (tag-at s rest (sideAt s) (sideAt (s ++ rest)) side-at side-whole)
 
-    body-at : bodyAt (s ++ rest) q ≡ bodyAt s p
-    body-at = ap (bodyAt (s ++ rest)) at ∙ body-same s rest p whole
+  count-at : countAt (s ++ rest) ≡ countAt s
+  unfolding countAt
+  count-at =
+      ap₂ (λ (b : Bool) (p : ℕ). cond b (nextAt (s ++ rest) p) p) has-side side-at
+      ∙ ap (λ (p : ℕ). cond (hasSide s) p (sideAt s)) (next-at s rest (sideAt s) (sideAt s) refl side-whole)
 
-    tests-at : (tags : List ℕ) (n : Option ℕ) → fieldTests (s ++ rest) tags n q ≡ fieldTests s tags n p
-    tests-at tags n = ap (fieldTests (s ++ rest) tags n) at ∙ field-tests-same s rest p whole tags n
+  -- those past it, by their index i
+  later-at : (i : ℕ) → i ≤ pointFieldCount → fieldAt (s ++ rest) (countAt (s ++ rest)) i ≡ fieldAt s (countAt s) i
+  later-at i h = ap (λ (p : ℕ). fieldAt (s ++ rest) p i) count-at ∙ field-at-same s rest (countAt s) pointFieldCount framed i h
 
-    -- of coded numbers, where the reading of the body is the same
-    coded-at : (tags : List ℕ) (j k : List ℕ → Option (List ℕ)) (x : ℕ) → j ≡ k → codedTests (s ++ rest) tags j x q ≡ codedTests s tags k x p
-    coded-at tags j k x e =
-        ap₂ (λ (l : List Test) (o : Option (List ℕ)). l ++ (test (missing o) x q ∷ [])) (tests-at tags none) (ap₂ (λ (f : List ℕ → Option (List ℕ)) (b : List ℕ). f b) e body-at)
-        ∙ ap (λ (y : ℕ). fieldTests s tags none p ++ (test (missing (k (bodyAt s p))) x y ∷ [])) at
+  later-whole : (i : ℕ) → i < pointFieldCount → nextAt s (fieldAt s (countAt s) i) ≤ length s
+  later-whole = field-whole s (countAt s) pointFieldCount framed
+
+  module _ (i : ℕ) (h : i < pointFieldCount) where
+    later-body : bodyAt (s ++ rest) (fieldAt (s ++ rest) (countAt (s ++ rest)) i) ≡ bodyAt s (fieldAt s (countAt s) i)
+    later-body = body-at s rest _ _ (later-at i (omega arith)) (later-whole i h)
+
+    later-tests : (tags : List ℕ) (n : Option ℕ)
+        → fieldTests (s ++ rest) tags n (fieldAt (s ++ rest) (countAt (s ++ rest)) i) ≡ fieldTests s tags n (fieldAt s (countAt s) i)
+    later-tests = tests-at s rest _ _ (later-at i (omega arith)) (later-whole i h)
+
+    later-coded : (tags : List ℕ) (j k : List ℕ → Option (List ℕ)) (x : ℕ) → j ≡ k
+        → codedTests (s ++ rest) tags j x (fieldAt (s ++ rest) (countAt (s ++ rest)) i) ≡ codedTests s tags k x (fieldAt s (countAt s) i)
+    later-coded = coded-at s rest _ _ (later-at i (omega arith)) (later-whole i h)
 
 module _ (k : ℕ → List ℕ → Option (List ℕ)) (e : ℕ) (s rest ts vs : List ℕ) (framed : endAt s ≤ length s) where
-  count-at : countAt (s ++ rest) ≡ countAt s
-  count-at = at-same s rest framed countIndex (lit≤ tt)
-
   end-at : endAt (s ++ rest) ≡ endAt s
-  end-at = at-same s rest framed fieldCount (lit≤ tt)
+  end-at = later-at s rest framed pointFieldCount (lit≤ tt)
 
   rate-in : rateIn (s ++ rest) ≡ rateIn s
-  rate-in = ap (numberOf 256) (body-at s rest framed rateIndex (lit< tt))
+  rate-in = ap (numberOf 256) (body-at s rest rateAt rateAt refl (rate-whole s rest framed))
+
+  side-in : sideIn (s ++ rest) ≡ sideIn s
+  unfolding sideIn
+  side-in =
+      ap₂ (λ (b : Bool) (l : List ℕ). cond b (numberOf 256 l) 0) (has-side s rest framed)
+      (body-at s rest (sideAt s) (sideAt (s ++ rest)) (side-at s rest framed) (side-whole s rest framed))
 
   count-in : countIn (s ++ rest) ≡ countIn s
-  count-in = ap (numberOf 256) (body-at s rest framed countIndex (lit< tt))
+  count-in = ap (numberOf 256) (later-body s rest framed countIndex (lit< tt))
 
   positions-in : positionsIn (s ++ rest) ≡ positionsIn s
-  positions-in = ap₂ (readPositions rows) count-in (body-at s rest framed positionsIndex (lit< tt))
+  positions-in = ap₂ (readPositions rows) count-in (later-body s rest framed positionsIndex (lit< tt))
 
   ratios-in : ratiosIn k (s ++ rest) ≡ ratiosIn k s
-  ratios-in = ap₂ k count-in (body-at s rest framed ratiosIndex (lit< tt))
+  ratios-in = ap₂ k count-in (later-body s rest framed ratiosIndex (lit< tt))
 
   rate-tests : rateTests e (s ++ rest) ≡ rateTests e s
   rate-tests =
       ap₂ (λ (l : List Test) (r : ℕ). l ++ (test (not (isRate r)) 13 rateAt ∷ test (otherRate e r) 14 rateAt ∷ []))
-      (tests-at s rest framed rateIndex (lit< tt) (rateTag ∷ []) (some rateSize)) rate-in
+      (tests-at s rest rateAt rateAt refl (rate-whole s rest framed) (rateTag ∷ []) (some rateSize)) rate-in
+
+  side-tests : sideTests (s ++ rest) ≡ sideTests s
+  side-tests =
+      ap₂ (λ (b : Bool) (l : List Test). cond b (l ++ (test (not (isSide (sideIn (s ++ rest)))) 20 (sideAt (s ++ rest)) ∷ [])) []) (has-side s rest framed)
+      (tests-at s rest (sideAt s) (sideAt (s ++ rest)) (side-at s rest framed) (side-whole s rest framed) (sideTag ∷ []) (some sideSize))
+      ∙ ap₂ (λ (n p : ℕ). cond (hasSide s) (fieldTests s (sideTag ∷ []) (some sideSize) (sideAt s) ++ (test (not (isSide n)) 20 p ∷ [])) [])
+      side-in (side-at s rest framed)
 
   count-tests : countTests (s ++ rest) ≡ countTests s
   count-tests =
-      ap₂ (λ (l : List Test) (t : Test). l ++ (t ∷ [])) (tests-at s rest framed countIndex (lit< tt) (countTag ∷ []) (some countSize))
-      (ap₂ (λ (c p : ℕ). test (ltb maxPoints c) 15 p) count-in count-at)
+      ap₂ (λ (l : List Test) (t : Test). l ++ (t ∷ [])) (later-tests s rest framed countIndex (lit< tt) (countTag ∷ []) (some countSize))
+      (ap₂ (λ (c p : ℕ). test (ltb maxPoints c) 15 p) count-in (count-at s rest framed))
 
   room-tests : roomTests (s ++ rest) (length ts) (length vs) ≡ roomTests s (length ts) (length vs)
-  room-tests = ap₂ (λ (c p : ℕ). test (lacksRoom (length ts) (length vs) c) 16 p ∷ []) count-in count-at
+  room-tests = ap₂ (λ (c p : ℕ). test (lacksRoom (length ts) (length vs) c) 16 p ∷ []) count-in (count-at s rest framed)
 
   positions-tests : positionsTests (s ++ rest) ≡ positionsTests s
   positions-tests =
-      coded-at s rest framed positionsIndex (lit< tt) (positionsTag ∷ [])
+      later-coded s rest framed positionsIndex (lit< tt) (positionsTag ∷ [])
       (readPositions rows (countIn (s ++ rest))) (readPositions rows (countIn s)) 17 (ap (readPositions rows) count-in)
 
   ratios-tests : ratiosTests k (s ++ rest) ≡ ratiosTests k s
   ratios-tests =
-      coded-at s rest framed ratiosIndex (lit< tt) (ratiosTag ∷ []) (k (countIn (s ++ rest))) (k (countIn s)) 18 (ap k count-in)
+      later-coded s rest framed ratiosIndex (lit< tt) (ratiosTag ∷ []) (k (countIn (s ++ rest))) (k (countIn s)) 18 (ap k count-in)
 
   tests-same : readTests k e (s ++ rest) (length ts) (length vs) ≡ readTests k e s (length ts) (length vs)
   tests-same =
       ap₂ (λ (a b : List Test). a ++ b)
-      (ap₂ (λ (a b : List Test). a ++ b) rate-tests count-tests)
+      (ap₂ (λ (a b : List Test). a ++ b) rate-tests (ap₂ (λ (a b : List Test). a ++ b) side-tests count-tests))
       (ap₂ (λ (a b : List Test). a ++ b) room-tests (ap₂ (λ (a b : List Test). a ++ b) positions-tests ratios-tests))
 
   answer-same : recordAnswer k (s ++ rest) ts vs ≡ recordAnswer k s ts vs
   answer-same =
       let a = rate-in in
+      let g = side-in in
       let b = count-in in
       let c = end-at in
       let d = positions-in in

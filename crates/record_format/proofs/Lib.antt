@@ -2,10 +2,12 @@ pub mod Fields
 pub mod Reading
 pub mod Writing
 pub mod Runs
+pub mod Sides
 pub mod ReadsBack
 pub mod ReadsOnly
 pub mod Followed
 pub mod Claims
+pub mod FourFields
 pub mod Longest
 pub mod Sizes
 pub mod Examples

@@ -1,4 +1,4 @@
--- The longest run: it is accepted, each of its steps takes 36 bits, and each of its ratios nine bytes.
+-- The longest run on each side: it is accepted, each of its steps takes 36 bits, and each of its ratios nine bytes.
 use mathlib.Core.Bool.{Bool, true, false, not}
 use mathlib.Core.List.{List, _∷_}
 use mathlib.Core.Path.{_≡_, refl, sym, ap, _∙_}
@@ -13,6 +13,7 @@ use Rattle.bits.specs.Digits.{digitsOf}
 use Rattle.lists.specs.Lists.{member, firstIndex}
 use Rattle.limits.specs.Rates.{rates, isRate}
 use Rattle.limits.specs.Points.{maxPoints, maxPosition, tooHigh}
+use Rattle.limits.specs.Sides.{maxSide}
 use Rattle.position_format.specs.Rows.{Row, rows, neg, inTable, code}
 use Rattle.position_format.specs.Steps.{stepOf, stepsFrom, steps, outside}
 use Rattle.position_format.specs.Positions.{stepBits, positionBits, codedPositions, validPositions}
@@ -105,9 +106,9 @@ held-step : (i : ℕ) → inTable rows (stepAfter swing i) ≡ true
 unfolding rows inTable
 held-step = swing-step (λ z. inTable rows z ≡ true) refl refl
 
-pub longest-positions : length (codedPositions rows (longest .positions)) ≡ 18439
+pub longest-positions : (d : ℕ) → length (codedPositions rows (longest d .positions)) ≡ 18439
 unfolding longest
-longest-positions = omega (arith, length-coded rows (firstValues swing maxPoints), positions-bits rows swing 4094 36 wide-step)
+longest-positions d = omega (arith, length-coded rows (firstValues swing maxPoints), positions-bits rows swing 4094 36 wide-step)
 
 -- ---- its ratios
 
@@ -124,14 +125,14 @@ two-ends i j h g =
     let n : j % 128 < 128 = omega arith in
     (λ e. other (sym (top-end (i % 128) m) ∙ e ∙ top-end (j % 128) n), λ e. other (sym (low-end (i % 128) m) ∙ e ∙ low-end (j % 128) n))
 
-longest-words : Below (2 ^ 64) (longest .ratios)
+longest-words : (d : ℕ) → Below (2 ^ 64) (longest d .ratios)
 unfolding longest
-longest-words = values-below (2 ^ 64) twoEnds maxPoints (λ i. omega arith)
+longest-words d = values-below (2 ^ 64) twoEnds maxPoints (λ i. omega arith)
 
-pub longest-ratios : length (codedRatios (longest .ratios)) ≡ 36864
+pub longest-ratios : (d : ℕ) → length (codedRatios (longest d .ratios)) ≡ 36864
 unfolding longest
-longest-ratios =
-    all-nine windowSize (firstValues twoEnds maxPoints) longest-words
+longest-ratios d =
+    all-nine windowSize (firstValues twoEnds maxPoints) (longest-words d)
     (λ i j h g k.
     let n : length (firstValues twoEnds maxPoints) ≡ maxPoints = length-values twoEnds maxPoints in
     rw (values-at twoEnds maxPoints 0 i (omega arith), values-at twoEnds maxPoints 0 j (omega arith)) (two-ends i j g k))
@@ -139,14 +140,15 @@ longest-ratios =
 
 -- ---- the run
 
-pub longest-fits : Fitting longest
+pub longest-fits : (d : ℕ) → d ≤ maxSide → Fitting (longest d)
 unfolding longest isRate rates member
-longest-fits = record {
+longest-fits d h = record {
   listed = refl;
+  sided = h;
   paired = length-values twoEnds maxPoints ∙ sym (length-values swing maxPoints);
   few = omega (arith, length-values swing maxPoints);
   valid = positions-valid rows swing 4094 (λ i. omega arith) held-step;
 }
 
-pub longest-accepted : Accepted longest
-longest-accepted = record { words = longest-words; passes = fitting-accepted longest longest-fits }
+pub longest-accepted : (d : ℕ) → d ≤ maxSide → Accepted (longest d)
+longest-accepted d h = record { words = longest-words d; passes = fitting-accepted (longest d) (longest-fits d h) }

@@ -2,7 +2,7 @@
 -- change nothing.
 use mathlib.Core.Path.{_≡_, refl, sym, ap, ap₂, _∙_, subst}
 use mathlib.Core.Bool.{Bool, true, false, not, cond, false≢true}
-use mathlib.Core.List.{List, [], _∷_, _++_}
+use mathlib.Core.List.{List, [], _∷_, _++_, append-assoc}
 use mathlib.Core.Option.{Option, none, some}
 use Prim.Native.Nat.{ℕ, zero, suc, _+_, _≤_, _<_}
 use native.Mathlib.Omega.{arith}
@@ -13,11 +13,13 @@ use Rattle.lists.specs.Below.{Below}
 use Rattle.lists.specs.Lists.{member}
 use Rattle.bits.specs.Digits.{bytesOf, digitsOf, numberOf}
 use Rattle.bits.proofs.Digits.{digits-number}
+use Rattle.limits.specs.Sides.{isSide}
 use Rattle.refusals.specs.declared.Refusal.{Refusal}
 use Rattle.refusals.specs.Tests.{Test, test, firstOf, refused}
-use Rattle.refusals.proofs.Tests.{first-here, first-skip, first-clear, first-end}
+use Rattle.refusals.proofs.Tests.{numbered, first-here, first-skip, first-clear, first-end}
 use Rattle.record_format.specs.Fields.{Field, fieldOf, headSize, fieldBytes, tagAt, lengthAt, bodyAt, nextAt, lengthTests, fieldTests}
-use Rattle.record_format.specs.Reading.{Answer, refusalAnswer, answerBy, missing, lacksRoom}
+use Rattle.record_format.specs.Reading.{Answer, refusalAnswer, answerBy, missing, sideAt, hasSide, sideIn, lacksRoom, rateTests, sideTests, countTests, frontTests, roomTests, positionsTests, ratiosTests, readTests}
+use Rattle.record_format.specs.Runs.{sideTag, sideSize}
 use Rattle.record_format.proofs.Fields.{FieldStands, length-body, field-here, below-body, tag-same, length-same, next-same, head-within}
 
 -- a refusal by its number and place
@@ -162,6 +164,34 @@ module _ (s rest : List ℕ) (p : ℕ) (whole : nextAt s p ≤ length s) where
       lengths : (m : Option ℕ) → lengthTests (s ++ rest) m p ≡ lengthTests s m p
       lengths none = refl
       lengths (some k) = ap (λ (l : ℕ). test (not (eqb l k)) 12 p ∷ []) (length-same s rest p (head-within s rest p whole))
+
+-- ---- the tests of reading
+
+-- field after field
+pub tests-flat : (k : ℕ → List ℕ → Option (List ℕ)) (e : ℕ) (s : List ℕ) (m n : ℕ)
+    → readTests k e s m n ≡ rateTests e s ++ (sideTests s ++ (countTests s ++ (roomTests s m n ++ (positionsTests s ++ ratiosTests k s))))
+tests-flat k e s m n =
+    let from-room = roomTests s m n ++ (positionsTests s ++ ratiosTests k s) in
+    ap (λ (l : List Test). rateTests e s ++ l) (append-assoc (sideTests s) (countTests s) from-room)
+
+-- no test of the side, nor of the front, has the number of a success
+
+abbrev side-of : List ℕ → Bool → List Test
+side-of s b = cond b (fieldTests s (sideTag ∷ []) (some sideSize) (sideAt s) ++ (test (not (isSide (sideIn s))) 20 (sideAt s) ∷ [])) []
+
+pub side-numbered : (s : List ℕ) → numbered (sideTests s) ≡ true
+side-numbered s = go (hasSide s)
+  where
+    go : (b : Bool) → numbered (side-of s b) ≡ true
+    go true = refl
+    go false = refl
+
+pub front-numbered : (e : ℕ) (s : List ℕ) → numbered (frontTests e s) ≡ true
+front-numbered e s = go (hasSide s)
+  where
+    go : (b : Bool) → numbered (rateTests e s ++ (side-of s b ++ countTests s)) ≡ true
+    go true = refl
+    go false = refl
 
 -- ---- the answer by the tests
 

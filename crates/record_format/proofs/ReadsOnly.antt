@@ -18,16 +18,19 @@ use Rattle.position_format.proofs.Positions.{read-only}
 use Rattle.ratio_format.specs.Bodies.{strictRatios}
 use Rattle.ratio_format.proofs.Strict.{strict-only-body, strict-below}
 use Rattle.record_format.specs.Fields.{bodyAt}
-use Rattle.record_format.specs.Runs.{Run, run, rateTag, countTag, positionsTag, ratiosTag, rateSize, countSize, fieldsOf, recordOf}
-use Rattle.record_format.specs.Reading.{recordAnswer, readTests, readStrict, readWith, rateAt, countAt, positionsAt, ratiosAt, endAt, rateIn, countIn, positionsIn, ratiosIn, missing, otherRate, countTests, roomTests, positionsTests, ratiosTests}
-use Rattle.record_format.proofs.Fields.{Follow, follow-laid}
-use Rattle.record_format.proofs.Reading.{FieldSound, field-clear, sound-follows, sound-below, sound-number, missing-some, answer-clear}
+use Rattle.record_format.specs.Runs.{Run, run, rateTag, countTag, positionsTag, ratiosTag, rateSize, countSize, sideFields, fieldsOf, recordOf}
+use Rattle.record_format.specs.Reading.{recordAnswer, readTests, readStrict, readWith, rateAt, sideAt, countAt, positionsAt, ratiosAt, rateIn, sideIn, countIn, positionsIn, ratiosIn, missing, otherRate, sideTests, countTests, roomTests, positionsTests, ratiosTests}
+use Rattle.record_format.proofs.Fields.{Follow, pastAll, follow-laid, follow-append}
+use Rattle.record_format.proofs.Reading.{FieldSound, field-clear, sound-follows, sound-below, sound-number, missing-some, tests-flat, answer-clear}
+use Rattle.record_format.proofs.Runs.{pointFields}
+use Rattle.record_format.proofs.Sides.{SideSound, side-clear, side-follows}
 use Rattle.record_format.proofs.Writing.{Fitting}
 
 -- what the tests of reading say of bytes to which none applies
 record Read (s : List ℕ) : Type 0 where
   rate : FieldSound s (rateTag ∷ []) (some rateSize) rateAt
   listed : isRate (rateIn s) ≡ true
+  side : SideSound s
   count : FieldSound s (countTag ∷ []) (some countSize) (countAt s)
   few : countIn s ≤ maxPoints
   positions : FieldSound s (positionsTag ∷ []) none (positionsAt s)
@@ -40,10 +43,13 @@ passed e s m n clear =
     let from-ratios = ratiosTests strictRatios s in
     let from-positions = positionsTests s ++ from-ratios in
     let from-room = roomTests s m n ++ from-positions in
-    let a = field-clear s (rateTag ∷ []) (some rateSize) rateAt (test (not (isRate (rateIn s))) 13 rateAt ∷ test (otherRate e (rateIn s)) 14 rateAt ∷ (countTests s ++ from-room)) clear in
+    let from-side = sideTests s ++ (countTests s ++ from-room) in
+    let flat = sym (ap (λ l. firstOf l .number) (tests-flat strictRatios e s m n)) ∙ clear in
+    let a = field-clear s (rateTag ∷ []) (some rateSize) rateAt (test (not (isRate (rateIn s))) 13 rateAt ∷ test (otherRate e (rateIn s)) 14 rateAt ∷ from-side) flat in
     let a13 = first-clear _ _ (lit< tt) (a .1) in
     let a14 = first-clear _ _ (lit< tt) (a13 .1) in
-    let b = field-clear s (countTag ∷ []) (some countSize) (countAt s) (test (ltb maxPoints (countIn s)) 15 (countAt s) ∷ from-room) (a14 .1) in
+    let d20 = side-clear s (countTests s ++ from-room) (a14 .1) in
+    let b = field-clear s (countTag ∷ []) (some countSize) (countAt s) (test (ltb maxPoints (countIn s)) 15 (countAt s) ∷ from-room) (d20 .1) in
     let b15 = first-clear _ _ (lit< tt) (b .1) in
     let b16 = first-clear _ _ (lit< tt) (b15 .1) in
     let c = field-clear s (positionsTag ∷ []) none (positionsAt s) (test (missing (positionsIn s)) 17 (positionsAt s) ∷ from-ratios) (b16 .1) in
@@ -53,6 +59,7 @@ passed e s m n clear =
     record {
       rate = a .0;
       listed = not-false _ (a13 .0);
+      side = d20 .0;
       count = b .0;
       few = ltb-false _ _ (b15 .0);
       positions = c .0;
@@ -76,27 +83,30 @@ begins s bytes h =
     let vs = h .values .0 in
     let p = read-only rows (countIn s) (bodyAt s (positionsAt s)) ts (h .points .1) in
     let q = strict-only-body (countIn s) (bodyAt s (ratiosAt s)) vs (h .values .1) in
-    let r = run (rateIn s) ts vs in
+    let d = side-follows s bytes (h .side) in
+    let r = run (rateIn s) (sideIn s) ts vs in
+    let later : Follow s (countAt s) (pointFields r) = (
+      sound-follows bytes (h .count) _ (sound-number bytes (h .count) ∙ ap (bytesOf countSize) (sym (p .2))),
+      (
+        sound-follows bytes (h .positions) _ (p .0),
+        (sound-follows bytes (h .ratios) _ (q .0), tt),
+      ),
+    ) in
     let follow : Follow s rateAt (fieldsOf r) = (
       sound-follows bytes (h .rate) _ (sound-number bytes (h .rate)),
-      (
-        sound-follows bytes (h .count) _ (sound-number bytes (h .count) ∙ ap (bytesOf countSize) (sym (p .2))),
-        (
-          sound-follows bytes (h .positions) _ (p .0),
-          (sound-follows bytes (h .ratios) _ (q .0), tt),
-        ),
-      ),
+      follow-append s (sideAt s) (sideFields (sideIn s)) (pointFields r) (d .follows) (subst (λ (p : ℕ). Follow s p (pointFields r)) (sym (d .past)) later),
     ) in
     record {
       own = r;
       fits = record {
         listed = h .listed;
+        sided = d .sided;
         paired = q .1 ∙ sym (p .2);
         few = subst (λ (k : ℕ). k ≤ maxPoints) (sym (p .2)) (h .few);
         valid = p .1;
       };
       ratios = strict-below (countIn s) (bodyAt s (ratiosAt s)) vs (sound-below bytes (h .ratios)) (h .values .1);
-      rest = drop (endAt s) s;
+      rest = drop (pastAll s rateAt (fieldsOf r)) s;
       splits = follow-laid s rateAt (fieldsOf r) follow;
     }
 

@@ -1,9 +1,10 @@
 -- Laws of a run's record: which field is which, how long the bodies of its fields are, and how long it is.
-use mathlib.Core.List.{[]}
-use mathlib.Core.Path.{_≡_, _∙_}
-use Prim.Native.Nat.{ℕ, _+_, _≤_}
+use mathlib.Core.List.{List, [], _∷_, _++_}
+use mathlib.Core.Path.{_≡_, ap, _∙_}
+use Prim.Native.Nat.{ℕ, zero, suc, _+_, _≤_}
 use native.Mathlib.Omega.{arith}
-use lib.ListN.{length}
+use lib.ListN.{length, length-append}
+use Rattle.bits.specs.Digits.{bytesOf}
 use Rattle.bits.proofs.Digits.{length-digits}
 use Rattle.position_format.specs.Rows.{rows}
 use Rattle.position_format.specs.Positions.{codedPositions}
@@ -11,27 +12,47 @@ use Rattle.position_format.proofs.Sizes.{rows-size}
 use Rattle.ratio_format.specs.Windows.{windowSize}
 use Rattle.ratio_format.specs.Bodies.{codedRatios}
 use Rattle.ratio_format.proofs.Bodies.{nine-bytes}
-use Rattle.record_format.specs.Runs.{Run, rateSize, countSize, fieldsOf, recordOf}
+use Rattle.record_format.specs.Fields.{Field, fieldOf, laid}
+use Rattle.record_format.specs.Runs.{Run, rateTag, countTag, positionsTag, ratiosTag, rateSize, sideSize, countSize, sideFields, sideLength, fieldsOf, recordOf}
 use Rattle.record_format.specs.Sizes.{minRecord}
-use Rattle.record_format.proofs.Fields.{Small, length-laid}
+use Rattle.record_format.proofs.Fields.{Small, length-laid, laid-append, small-append}
 use Rattle.record_format.proofs.Writing.{Fitting}
 
--- ---- its fields, by what they hold: their indices in the list, and how many there are
+-- ---- its fields: the rate's, the side's if there is one, and those past it
 
-abbrev pub rateIndex : ℕ
-rateIndex = 0
+abbrev pub rateField : Run → Field
+rateField r = fieldOf rateTag (bytesOf rateSize (r .rate))
+
+abbrev pub pointFields : Run → List Field
+pointFields r =
+    fieldOf countTag (bytesOf countSize (length (r .positions)))
+    ∷ fieldOf positionsTag (codedPositions rows (r .positions))
+    ∷ fieldOf ratiosTag (codedRatios (r .ratios))
+    ∷ []
+
+-- the last ones by what they hold: their indices, and how many there are
 
 abbrev pub countIndex : ℕ
-countIndex = 1
+countIndex = 0
 
 abbrev pub positionsIndex : ℕ
-positionsIndex = 2
+positionsIndex = 1
 
 abbrev pub ratiosIndex : ℕ
-ratiosIndex = 3
+ratiosIndex = 2
 
-abbrev pub fieldCount : ℕ
-fieldCount = 4
+abbrev pub pointFieldCount : ℕ
+pointFieldCount = 3
+
+-- ---- the side's field
+
+pub length-side : (n : ℕ) → length (laid (sideFields n)) ≡ sideLength n
+length-side zero = length-laid []
+length-side (suc n) = length-laid (sideFields (suc n)) ∙ omega (arith, length-digits 256 sideSize (suc n))
+
+side-small : (n : ℕ) → Small (sideFields n)
+side-small zero = tt
+side-small (suc n) = (omega (arith, length-digits 256 sideSize (suc n)), tt)
 
 -- ---- its length
 
@@ -43,9 +64,16 @@ module _ (r : Run) (fit : Fitting r) where
   ratios-size = omega (arith, nine-bytes windowSize [] (r .ratios), fit .paired, fit .few)
 
   pub fields-small : Small (fieldsOf r)
-  fields-small =
-      (omega (arith, length-digits 256 rateSize (r .rate)), (omega (arith, length-digits 256 countSize (length (r .positions))), (omega (arith, positions-size), (omega (arith, ratios-size), tt))))
+  fields-small = (
+    omega (arith, length-digits 256 rateSize (r .rate)),
+    small-append (sideFields (r .side)) (pointFields r) (side-small (r .side))
+        (omega (arith, length-digits 256 countSize (length (r .positions))), (omega (arith, positions-size), (omega (arith, ratios-size), tt))),
+  )
 
-  pub length-record : length (recordOf r) ≡ minRecord + length (codedPositions rows (r .positions)) + length (codedRatios (r .ratios))
-  unfolding recordOf
-  length-record = length-laid (fieldsOf r) ∙ omega (arith, length-digits 256 rateSize (r .rate), length-digits 256 countSize (length (r .positions)))
+pub length-record : (r : Run) → length (recordOf r) ≡ minRecord + sideLength (r .side) + length (codedPositions rows (r .positions)) + length (codedRatios (r .ratios))
+unfolding recordOf
+length-record r =
+    ap length (laid-append (rateField r ∷ sideFields (r .side)) (pointFields r))
+    ∙ length-append (laid (rateField r ∷ sideFields (r .side))) (laid (pointFields r))
+    ∙ omega
+    (arith, ap length (laid-append (rateField r ∷ []) (sideFields (r .side))), length-append (laid (rateField r ∷ [])) (laid (sideFields (r .side))), length-laid (rateField r ∷ []), length-side (r .side), length-laid (pointFields r), length-digits 256 rateSize (r .rate), length-digits 256 countSize (length (r .positions)))

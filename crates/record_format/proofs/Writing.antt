@@ -13,6 +13,7 @@ use Rattle.refusals.specs.declared.Refusal.{Refusal}
 use Rattle.lists.specs.Lists.{firstIndex}
 use Rattle.limits.specs.Rates.{isRate}
 use Rattle.limits.specs.Points.{maxPoints, tooHigh, firstHigh}
+use Rattle.limits.specs.Sides.{maxSide}
 use Rattle.refusals.specs.Tests.{firstOf, test}
 use Rattle.lists.proofs.Lists.{first-le}
 use Rattle.refusals.proofs.Tests.{first-clear, first-skip, first-end, first-here, first-append-none, first-append-some}
@@ -32,11 +33,12 @@ use Rattle.record_format.proofs.Reading.{refusal}
 -- the run's parts in their ranges
 pub record Fitting (r : Run) : Type 0 where
   pub listed : isRate (r .rate) ≡ true
+  pub sided : r .side ≤ maxSide
   pub paired : length (r .ratios) ≡ length (r .positions)
   pub few : length (r .positions) ≤ maxPoints
   pub valid : validPositions rows (r .positions) ≡ true
 
--- the writer's tests 1 to 5 refuse nothing exactly where it accepts
+-- the writer's tests of the run refuse nothing exactly where it accepts
 accepts-clear : (r : Run) → accepts r ≡ true → firstOf (runTests r) .number ≡ 0
 unfolding accepts
 accepts-clear r e = let n = firstOf (runTests r) .number in eqb-true n 0 (not-false (eqb n 0) (not-true (not (eqb n 0)) e))
@@ -50,7 +52,8 @@ module _ (r : Run) where
   unfolding validPositions
   accepted-fits e =
       let c1 = first-clear _ _ (lit< tt) (accepts-clear r e) in
-      let c2 = first-clear _ _ (lit< tt) (c1 .1) in
+      let c21 = first-clear _ _ (lit< tt) (c1 .1) in
+      let c2 = first-clear _ _ (lit< tt) (c21 .1) in
       let c3 = first-clear _ _ (lit< tt) (c2 .1) in
       let c4 = first-clear _ _ (lit< tt) (c3 .1) in
       let c5 = first-clear _ _ (lit< tt) (c4 .1) in
@@ -59,6 +62,7 @@ module _ (r : Run) where
       omega (arith, ltb-false (firstOutside rows (r .positions)) (length (r .positions)) (c5 .0), first-le (outside rows) (steps (r .positions)), length-steps (r .positions)) in
       record {
         listed = not-false _ (c1 .0);
+        sided = ltb-false _ _ (c21 .0);
         paired = eqb-true _ _ (not-false _ (c2 .0));
         few = ltb-false _ _ (c3 .0);
         valid = rw (eq-eqb _ _ high, eq-eqb _ _ out);
@@ -77,45 +81,53 @@ module _ (r : Run) where
       ap (λ (n : ℕ). not (not (eqb n 0)))
       (ap (λ (x : Refusal). x .number)
       (first-skip _ _ (ap not (f .listed))
+      ∙ first-skip _ _ (le-ltb _ _ (f .sided))
       ∙ first-skip _ _ (ap not (eq-eqb _ _ (f .paired)))
       ∙ first-skip _ _ (le-ltb _ _ (f .few))
       ∙ first-skip _ _ (le-ltb _ _ low)
       ∙ first-skip _ _ (le-ltb _ _ near)
       ∙ first-end))
 
--- ---- tests 1 to 5
+-- ---- the tests of the run
 
 module _ (r : Run) where
   pub run-unlisted : isRate (r .rate) ≡ false → refusal 1 0 ≡ firstOf (runTests r)
   run-unlisted e = sym (first-here _ _ (ap not e))
 
   module _ (listed : isRate (r .rate) ≡ true) where
-    pub run-unpaired : (length (r .ratios) ≡ length (r .positions) → ⊥) → refusal 2 0 ≡ firstOf (runTests r)
-    run-unpaired d = sym (first-skip _ _ (ap not listed) ∙ first-here _ _ (ap not (ne-eqb _ _ d)))
+    pub run-side : maxSide < r .side → refusal 21 0 ≡ firstOf (runTests r)
+    run-side h = sym (first-skip _ _ (ap not listed) ∙ first-here _ _ (lt-ltb _ _ h))
 
-    module _ (paired : length (r .ratios) ≡ length (r .positions)) where
-      past-paired : firstOf (runTests r) ≡ firstOf (drop 2 (runTests r))
-      past-paired = first-skip _ _ (ap not listed) ∙ first-skip _ _ (ap not (eq-eqb _ _ paired))
+    module _ (sided : r .side ≤ maxSide) where
+      past-side : firstOf (runTests r) ≡ firstOf (drop 2 (runTests r))
+      past-side = first-skip _ _ (ap not listed) ∙ first-skip _ _ (le-ltb _ _ sided)
 
-      pub run-many : maxPoints < length (r .positions) → refusal 3 0 ≡ firstOf (runTests r)
-      run-many h = sym (past-paired ∙ first-here _ _ (lt-ltb _ _ h))
+      pub run-unpaired : (length (r .ratios) ≡ length (r .positions) → ⊥) → refusal 2 0 ≡ firstOf (runTests r)
+      run-unpaired d = sym (past-side ∙ first-here _ _ (ap not (ne-eqb _ _ d)))
 
-      module _ (few : length (r .positions) ≤ maxPoints) where
-        past-few : firstOf (runTests r) ≡ firstOf (drop 3 (runTests r))
-        past-few = past-paired ∙ first-skip _ _ (le-ltb _ _ few)
+      module _ (paired : length (r .ratios) ≡ length (r .positions)) where
+        past-paired : firstOf (runTests r) ≡ firstOf (drop 3 (runTests r))
+        past-paired = past-side ∙ first-skip _ _ (ap not (eq-eqb _ _ paired))
 
-        pub run-high : firstHigh (r .positions) < length (r .positions) → refusal 4 (firstHigh (r .positions)) ≡ firstOf (runTests r)
-        run-high h = sym (past-few ∙ first-here _ _ (lt-ltb _ _ h))
+        pub run-many : maxPoints < length (r .positions) → refusal 3 0 ≡ firstOf (runTests r)
+        run-many h = sym (past-paired ∙ first-here _ _ (lt-ltb _ _ h))
 
-        module _ (low : length (r .positions) ≤ firstHigh (r .positions)) where
-          past-low : firstOf (runTests r) ≡ firstOf (drop 4 (runTests r))
-          past-low = past-few ∙ first-skip _ _ (le-ltb _ _ low)
+        module _ (few : length (r .positions) ≤ maxPoints) where
+          past-few : firstOf (runTests r) ≡ firstOf (drop 4 (runTests r))
+          past-few = past-paired ∙ first-skip _ _ (le-ltb _ _ few)
 
-          pub run-far : firstOutside rows (r .positions) < length (r .positions) → refusal 5 (firstOutside rows (r .positions)) ≡ firstOf (runTests r)
-          run-far h = sym (past-low ∙ first-here _ _ (lt-ltb _ _ h))
+          pub run-high : firstHigh (r .positions) < length (r .positions) → refusal 4 (firstHigh (r .positions)) ≡ firstOf (runTests r)
+          run-high h = sym (past-few ∙ first-here _ _ (lt-ltb _ _ h))
 
-          pub run-accepted : length (r .positions) ≤ firstOutside rows (r .positions) → refusal 0 0 ≡ firstOf (runTests r)
-          run-accepted h = sym (past-low ∙ first-skip _ _ (le-ltb _ _ h) ∙ first-end)
+          module _ (low : length (r .positions) ≤ firstHigh (r .positions)) where
+            past-low : firstOf (runTests r) ≡ firstOf (drop 5 (runTests r))
+            past-low = past-few ∙ first-skip _ _ (le-ltb _ _ low)
+
+            pub run-far : firstOutside rows (r .positions) < length (r .positions) → refusal 5 (firstOutside rows (r .positions)) ≡ firstOf (runTests r)
+            run-far h = sym (past-low ∙ first-here _ _ (lt-ltb _ _ h))
+
+            pub run-accepted : length (r .positions) ≤ firstOutside rows (r .positions) → refusal 0 0 ≡ firstOf (runTests r)
+            run-accepted h = sym (past-low ∙ first-skip _ _ (le-ltb _ _ h) ∙ first-end)
 
 -- ---- the whole answer
 

@@ -1,11 +1,11 @@
--- The demands on records as statements about the definitions, in the terms of document 01, "What demand 3 compares". Followed is proved in
--- proofs/Followed, each other in proofs/Claims; the calls are tied to them by their contracts.
+-- The demands on records as statements about the definitions, in the terms of document 01, "What demand 3 compares", for runs with a side
+-- (document 02, No. 2). Followed is proved in proofs/Followed, each other in proofs/Claims; the calls are tied to them by their contracts.
 --   Accepted r          r is a run that the writer accepts, in the standard term valid: its ratios have 64 bits, and no test of writing but 6
 --                       applies. AllAccepted rs: every run of a list is
 --   Bytes s             s is a string of bytes
 --   Beginning a b       the string a is a beginning of b, in the standard term a prefix: b is a and then any bytes, or none
 --   joined rs           the records of the runs rs, joined in their order: their concatenation
---   countPlace          the offset of the count's field in every record that is written: what countAt finds there
+--   countPlace r        the offset of the count's field in the record of r: what countAt finds there
 --   ownTests r e m n    the tests that can apply to the record of r; ownAnswer r ts vs: the answer where none does
 --   runAnswer r e ts vs what reading the record of r answers
 --   ReadsBack           both readings give back the run of a record, or 14 or 16
@@ -29,7 +29,7 @@ use Rattle.refusals.specs.Tests.{Test, test, firstOf, refused}
 use Rattle.outputs.specs.Outputs.{over}
 use Rattle.ratio_format.specs.Bodies.{codedRatios, openRatios}
 use Rattle.record_format.specs.Fields.{headSize}
-use Rattle.record_format.specs.Runs.{Run, rateSize, recordOf}
+use Rattle.record_format.specs.Runs.{Run, rateSize, sideLength, recordOf}
 use Rattle.record_format.specs.Writing.{accepts}
 use Rattle.record_format.specs.Reading.{Answer, refusalAnswer, endAt, otherRate, lacksRoom, rateAt, readWith, readStrict, readOpen}
 
@@ -56,21 +56,21 @@ unfoldable pub joined : List Run → List ℕ
 joined [] = []
 joined (r ∷ rs) = recordOf r ++ joined rs
 
--- where the count's field stands in the record of a run: past the rate's
-abbrev pub countPlace : ℕ
-countPlace = headSize + rateSize
+-- where the count's field stands in the record of a run: past the rate's, and past the side's if there is one
+abbrev pub countPlace : Run → ℕ
+countPlace r = headSize + rateSize + sideLength (r .side)
 
 -- the tests that can apply to the record of an accepted run
 abbrev pub ownTests : Run → ℕ → ℕ → ℕ → List Test
 ownTests r e m n =
     test (otherRate e (r .rate)) 14 rateAt
-    ∷ test (lacksRoom m n (length (r .positions))) 16 countPlace
+    ∷ test (lacksRoom m n (length (r .positions))) 16 (countPlace r)
     ∷ []
 
 -- a success: the run, its count and its record's length, each position and each ratio
 abbrev pub ownAnswer : Run → List ℕ → List ℕ → Answer
 ownAnswer r ts vs = record {
-  answer = record { number = 0; place = 0; rate = r .rate; count = length (r .positions); used = length (recordOf r) };
+  answer = record { number = 0; place = 0; rate = r .rate; side = r .side; count = length (r .positions); used = length (recordOf r) };
   positions = over (r .positions) ts;
   ratios = over (r .ratios) vs;
 }
@@ -103,7 +103,7 @@ AcceptsExactly = (e : ℕ) (s ts vs : List ℕ) → Bytes s
 abbrev pub OpenAgrees : Type 0
 OpenAgrees = (e : ℕ) (s ts vs : List ℕ) → Bytes s → readStrict e s ts vs .answer .number ≡ 0 → readOpen e s ts vs ≡ readStrict e s ts vs
 
--- demand 3: of two runs that differ, neither record is a beginning of the other
+-- demand 3: of two runs that differ, in rate, side, positions or ratios, neither record is a beginning of the other
 abbrev pub PrefixFree : Type 0
 PrefixFree = (r q : Run) → Accepted r → Accepted q → (r ≡ q → ⊥)
     → (Beginning (recordOf r) (recordOf q) → ⊥) × (Beginning (recordOf q) (recordOf r) → ⊥)

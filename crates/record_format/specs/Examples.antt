@@ -1,13 +1,14 @@
--- Document 01, "Bytes to compare": the rows marked P, as one table, proved from the definitions by one statement.
+-- Document 01, "Bytes to compare": the rows marked P, and the listing's run on a side, as one table, proved from the definitions by one
+-- statement.
 --   Subject, codeOf        what is shown, and its code
 --   Example, example       such a subject, and what document 01 gives for it
---   listedRun, listedBytes the run of the listing, and its 46 bytes
+--   listedRun, listedBytes the run of the listing, and its 46 bytes; sidedRun, sidedBytes: the same run on side 4, and its 50 bytes
 --   examples               the rows; examples-hold: each is as it is given
 use mathlib.Core.Path.{_≡_, refl}
 use mathlib.Core.List.{List, [], _∷_, _++_, map}
 use Prim.Native.Nat.{ℕ}
 use lib.IntN.{ℤ, pos}
-use lib.ListN.{replicate}
+use lib.ListN.{replicate, drop}
 use Rattle.bits.specs.Digits.{digitsOf, bytesOf, numberOf}
 use Rattle.bits.specs.Packing.{eights, pack}
 use Rattle.position_format.specs.Rows.{rows, neg, code}
@@ -45,7 +46,7 @@ example s l = record { subject = s; expected = l }
 
 -- the run of the listing
 abbrev pub listedRun : Run
-listedRun = run 96000 (0 ∷ 960 ∷ 1920 ∷ []) (replicate 3 0x3FE0000000000000)
+listedRun = run 96000 0 (0 ∷ 960 ∷ 1920 ∷ []) (replicate 3 0x3FE0000000000000)
 
 -- and its 46 bytes
 abbrev pub listedBytes : List ℕ
@@ -55,7 +56,18 @@ listedBytes =
     ∷ 0x03 ∷ 0x00 ∷ 0x11 ∷ (replicate 14 0 ++ (0x03 ∷ 0xC0 ∷ 0x00
     ∷ 0x04 ∷ 0x00 ∷ 0x0B ∷ 0xFF ∷ 0x3F ∷ 0xE0 ∷ (replicate 6 0 ++ (0x00 ∷ 0x00 ∷ []))))
 
--- the rows marked P
+-- the run on side 4
+abbrev pub sidedRun : Run
+sidedRun = run 96000 4 (0 ∷ 960 ∷ 1920 ∷ []) (replicate 3 0x3FE0000000000000)
+
+-- and its 50 bytes: a field between rate and count, and all else as it was
+abbrev pub sidedBytes : List ℕ
+sidedBytes =
+    0x01 ∷ 0x00 ∷ 0x04 ∷ 0x00 ∷ 0x01 ∷ 0x77 ∷ 0x00
+    ∷ 0x06 ∷ 0x00 ∷ 0x01 ∷ 0x04
+    ∷ drop 7 listedBytes
+
+-- the rows marked P, and the run on side 4
 pub examples : List Example
 examples =
     example (step (pos 0)) (0 ∷ [])
@@ -75,6 +87,7 @@ examples =
     ∷ example (ratios (1 ∷ 2 ∷ 3 ∷ []))
     (0xFF ∷ (replicate 7 0 ++ (0x01 ∷ 0x80 ∷ 0x01 ∷ 0x03 ∷ 0x80 ∷ 0x01 ∷ 0x01 ∷ [])))
     ∷ example (whole listedRun) listedBytes
+    ∷ example (whole sidedRun) sidedBytes
     ∷ []
 
 -- each row's code, computed from the definitions, is the one that is given

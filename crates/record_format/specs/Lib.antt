@@ -3,5 +3,6 @@ pub mod Runs
 pub mod Writing
 pub mod Reading
 pub mod Claims
+pub mod FourFields
 pub mod Examples
 pub mod Sizes

@@ -1,19 +1,20 @@
--- Document 01, "The record" and "Numbers that come back": reading a record, strictly and openly.
---   rateAt, countAt s, positionsAt s, ratiosAt s   the offset of each field, by what it holds
+-- Document 01, "The record" and "Numbers that come back", with the side of document 02, No. 2: reading a record, strictly and openly.
+--   rateAt, sideAt s, countAt s, positionsAt s, ratiosAt s   the offset of each field, by what it holds
+--   hasSide s              a side's field stands past the rate's
 --   endAt s                the offset past the record
---   rateIn, countIn        the numbers in the fields of the rate and of the count
+--   rateIn, sideIn, countIn   the numbers in the fields of the rate, of the side (0 where it has none) and of the count
 --   positionsIn s          the positions that the positions' field is the coding of, or nothing
 --   ratiosIn k s           the ratios that the reading k of the ratios' field gives, or nothing
 --   missing, listOf        whether there is no list, and the list, if there is one
 --   otherRate e r          another rate is expected than r
---   rateTests, countTests  the tests of their fields; frontTests e s: of both, with the expected rate e (0 for none)
+--   rateTests, sideTests, countTests   the tests of their fields; frontTests e s: of all three, with the expected rate e (0 for none)
 --   lacksRoom m n c        an output lacks room for c numbers, in the standard term capacity; roomTests s m n: the test of it
 --   codedTests s tags k x p  the tests of a field of coded numbers at p, whose body the reading k takes, or else the number x
 --   positionsTests, ratiosTests   those of the positions' field and of the ratios'
 --   readTests k e s m n    the tests of reading in their order, with the reading k of the ratios' field
 --   Answer                 what a reading returns, and both outputs, the caller's buffers, afterwards
 --   refusalAnswer, recordAnswer, answerBy   that of a refusal, of a record, and by a list of tests
---   readWith k e s ts vs   the whole answer, with outputs ts and vs: number, place, rate, count, bytes used, and both outputs afterwards
+--   readWith k e s ts vs   the whole answer, with outputs ts and vs: number, place, rate, side, count, bytes used, and both outputs afterwards
 --   readStrict, readOpen   the two readings of a record
 -- Strict and open reading, in standard terms canonical and lenient decoding, differ in the reading of the ratios' field only: strictRatios
 -- or openRatios.
@@ -28,14 +29,15 @@ use Rattle.bits.specs.Digits.{numberOf}
 use Rattle.refusals.specs.declared.Refusal.{Refusal}
 use Rattle.limits.specs.Rates.{isRate}
 use Rattle.limits.specs.Points.{maxPoints}
+use Rattle.limits.specs.Sides.{isSide}
 use Rattle.refusals.specs.Tests.{Test, test, firstOf, refused}
 use Rattle.outputs.specs.Outputs.{zeros, over}
 use Rattle.position_format.specs.Rows.{rows}
 use Rattle.position_format.specs.Positions.{readPositions}
 use Rattle.record_format.specs.declared.ReadAnswer.{ReadAnswer}
 use Rattle.ratio_format.specs.Bodies.{openRatios, strictRatios}
-use Rattle.record_format.specs.Fields.{bodyAt, nextAt, fieldTests}
-use Rattle.record_format.specs.Runs.{rateTag, countTag, positionsTag, ratiosTag, rateSize, countSize}
+use Rattle.record_format.specs.Fields.{tagAt, bodyAt, nextAt, fieldTests}
+use Rattle.record_format.specs.Runs.{rateTag, sideTag, countTag, positionsTag, ratiosTag, rateSize, sideSize, countSize}
 
 -- ---- where the fields stand, and what they hold
 
@@ -43,9 +45,17 @@ use Rattle.record_format.specs.Runs.{rateTag, countTag, positionsTag, ra
 abbrev pub rateAt : ℕ
 rateAt = 0
 
--- the count's past it
-abbrev pub countAt : List ℕ → ℕ
-countAt s = nextAt s rateAt
+-- the side's past it, if there is one
+abbrev pub sideAt : List ℕ → ℕ
+sideAt s = nextAt s rateAt
+
+-- the tag that stands there tells
+abbrev pub hasSide : List ℕ → Bool
+hasSide s = eqb (tagAt s (sideAt s)) sideTag
+
+-- the count's past that, or else in its place
+unfoldable pub countAt : List ℕ → ℕ
+countAt s = cond (hasSide s) (nextAt s (sideAt s)) (sideAt s)
 
 -- the positions' past that
 abbrev pub positionsAt : List ℕ → ℕ
@@ -62,6 +72,10 @@ endAt s = nextAt s (ratiosAt s)
 -- the rate
 abbrev pub rateIn : List ℕ → ℕ
 rateIn s = numberOf 256 (bodyAt s rateAt)
+
+-- the side: 0 where there is no field of one
+unfoldable pub sideIn : List ℕ → ℕ
+sideIn s = cond (hasSide s) (numberOf 256 (bodyAt s (sideAt s))) 0
 
 -- the count
 abbrev pub countIn : List ℕ → ℕ
@@ -97,13 +111,20 @@ rateTests e s =
     fieldTests s (rateTag ∷ []) (some rateSize) rateAt
     ++ (test (not (isRate (rateIn s))) 13 rateAt ∷ test (otherRate e (rateIn s)) 14 rateAt ∷ [])
 
+-- the side's, if there is one: 20. A field there with another tag is taken for the count's, and so 11 where its tag is neither
+abbrev pub sideTests : List ℕ → List Test
+sideTests s =
+    cond (hasSide s)
+    (fieldTests s (sideTag ∷ []) (some sideSize) (sideAt s) ++ (test (not (isSide (sideIn s))) 20 (sideAt s) ∷ []))
+    []
+
 -- the count's: 15
 abbrev pub countTests : List ℕ → List Test
 countTests s = fieldTests s (countTag ∷ []) (some countSize) (countAt s) ++ (test (ltb maxPoints (countIn s)) 15 (countAt s) ∷ [])
 
--- rate and count
+-- rate, side and count
 abbrev pub frontTests : ℕ → List ℕ → List Test
-frontTests e s = rateTests e s ++ countTests s
+frontTests e s = rateTests e s ++ (sideTests s ++ countTests s)
 
 -- whether an output has room for fewer than c numbers, where one has room for m and the other for n
 abbrev pub lacksRoom : ℕ → ℕ → ℕ → Bool
@@ -140,7 +161,7 @@ pub record Answer : Type 0 where
 -- of a refusal: zeros beside its number and place, and outputs that are 0 from end to end
 abbrev pub refusalAnswer : Refusal → List ℕ → List ℕ → Answer
 refusalAnswer f ts vs = record {
-  answer = record { number = f .number; place = f .place; rate = 0; count = 0; used = 0 };
+  answer = record { number = f .number; place = f .place; rate = 0; side = 0; count = 0; used = 0 };
   positions = zeros ts;
   ratios = zeros vs;
 }
@@ -148,7 +169,7 @@ refusalAnswer f ts vs = record {
 -- of a record: its numbers, and its points at the front of the outputs
 abbrev pub recordAnswer : (ℕ → List ℕ → Option (List ℕ)) → List ℕ → List ℕ → List ℕ → Answer
 recordAnswer k s ts vs = record {
-  answer = record { number = 0; place = 0; rate = rateIn s; count = countIn s; used = endAt s };
+  answer = record { number = 0; place = 0; rate = rateIn s; side = sideIn s; count = countIn s; used = endAt s };
   positions = over (listOf (positionsIn s)) ts;
   ratios = over (listOf (ratiosIn k s)) vs;
 }

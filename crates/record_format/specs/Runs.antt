@@ -1,32 +1,39 @@
--- Document 01, "What a run record holds" and "The record".
---   Run, run       a rate, positions and ratios. The standard term is a time series; its points are its samples, a sample position and the
---                  ratio there, the 64 bits of an IEEE 754 double
+-- Document 01, "What a run record holds" and "The record", with the side of document 02, No. 2.
+--   Run, run       a rate, a side, positions and ratios. The standard term is a time series; its points are its samples, a sample position and
+--                  the ratio there, the 64 bits of an IEEE 754 double. The side is that of the disc, 0 for none
 --   rateTag .. ratiosTag   the tags of the fields, by what they hold
---   rateSize, countSize    how many bytes the rate and the count take
---   fieldsOf r     the fields of the record of the run r: rate, count, coded positions, coded ratios, each once, in this order
+--   rateSize, sideSize, countSize   how many bytes the rate, the side and the count take
+--   sideFields n   the field of the side n, an optional one: none for side 0; sideLength n: how many bytes it takes
+--   fieldsOf r     the fields of the record of the run r: rate, side unless it is 0, count, coded positions, coded ratios, each once, in this
+--                  order
 --   recordOf r     the record of the run r: its fields laid end to end
-use mathlib.Core.List.{List, [], _∷_}
-use Prim.Native.Nat.{ℕ}
+use mathlib.Core.List.{List, [], _∷_, _++_}
+use Prim.Native.Nat.{ℕ, zero, suc, _+_}
 use lib.ListN.{length}
 use Rattle.bits.specs.Digits.{bytesOf}
 use Rattle.position_format.specs.Rows.{rows}
 use Rattle.position_format.specs.Positions.{codedPositions}
 use Rattle.ratio_format.specs.Bodies.{codedRatios}
-use Rattle.record_format.specs.Fields.{Field, fieldOf, laid}
+use Rattle.record_format.specs.Fields.{Field, fieldOf, headSize, laid}
 
 -- what is written and read
 pub record Run : Type 0 where
   pub rate : ℕ
+  pub side : ℕ
   pub positions : List ℕ
   pub ratios : List ℕ
 
 -- a run by its parts
-abbrev pub run : ℕ → List ℕ → List ℕ → Run
-run rate positions ratios = record { rate = rate; positions = positions; ratios = ratios }
+abbrev pub run : ℕ → ℕ → List ℕ → List ℕ → Run
+run rate side positions ratios = record { rate = rate; side = side; positions = positions; ratios = ratios }
 
 -- the tag of the rate's field
 abbrev pub rateTag : ℕ
 rateTag = 1
+
+-- of the side's
+abbrev pub sideTag : ℕ
+sideTag = 6
 
 -- of the count's
 abbrev pub countTag : ℕ
@@ -44,18 +51,33 @@ ratiosTag = 4
 abbrev pub rateSize : ℕ
 rateSize = 4
 
+-- of a side
+abbrev pub sideSize : ℕ
+sideSize = 1
+
 -- and of a count
 abbrev pub countSize : ℕ
 countSize = 2
 
--- rate, count, coded positions, coded ratios
+-- no side, no field
+abbrev pub sideFields : ℕ → List Field
+sideFields zero = []
+sideFields (suc n) = fieldOf sideTag (bytesOf sideSize (suc n)) ∷ []
+
+-- no byte, or a head and a byte
+abbrev pub sideLength : ℕ → ℕ
+sideLength zero = 0
+sideLength (suc n) = headSize + sideSize
+
+-- rate, side, count, coded positions, coded ratios
 abbrev pub fieldsOf : Run → List Field
 fieldsOf r =
     fieldOf rateTag (bytesOf rateSize (r .rate))
-    ∷ fieldOf countTag (bytesOf countSize (length (r .positions)))
+    ∷ (sideFields (r .side)
+    ++ (fieldOf countTag (bytesOf countSize (length (r .positions)))
     ∷ fieldOf positionsTag (codedPositions rows (r .positions))
     ∷ fieldOf ratiosTag (codedRatios (r .ratios))
-    ∷ []
+    ∷ []))
 
 -- the fields, end to end
 unfoldable pub recordOf : Run → List ℕ

@@ -1,11 +1,13 @@
 -- Document 01, "Numbers that bound it": the sizes of a record and of its bodies, as statements. Each is proved in proofs/Sizes.
 --   minRecord, maxRecord   the fewest and the most bytes of a record
 --   maxPositionsBody, maxRatiosBody   the most bytes of the bodies of positions and of ratios
---   Within          an accepted run's record has 18 to 55,321 bytes, its positions' body at most 18,439 and its ratios' at most 36,864
---   NoPoints        the record of no points has 18 bytes, and at each rate of the list that run is accepted
+--   longestOn d     the most bytes of the record of a run on the side d: 55,321 for 0, four more for any other
+--   Within          an accepted run's record has 18 to 55,325 bytes, and 55,321 at most on side 0; its positions' body has at most 18,439 and
+--                   its ratios' at most 36,864
+--   NoPoints        the record of no points has 18 bytes, or 22 on a side, and at each rate of the list and on each side that run is accepted
 --   firstValues f n the values f 0, f 1, .., n of them; swing and twoEnds: those of the longest run's positions and ratios
---   longest         a run whose record has 55,321 bytes
---   Reached         it is accepted, and its record has that length
+--   longest d       a run on the side d whose record is as long as it can be
+--   Reached         on each side it is accepted, and its record has that length; on one of them it has 55,325 bytes
 use mathlib.Core.Bool.{true}
 use mathlib.Core.List.{List, [], _∷_}
 use mathlib.Core.Path.{_≡_}
@@ -13,10 +15,11 @@ use Prim.Native.Nat.{ℕ, zero, suc, _+_, _*_, _/_, _%_, _^_, _≤_}
 use lib.ListN.{length}
 use Rattle.limits.specs.Points.{maxPoints}
 use Rattle.limits.specs.Rates.{isRate}
+use Rattle.limits.specs.Sides.{maxSide}
 use Rattle.position_format.specs.Rows.{rows}
 use Rattle.position_format.specs.Positions.{codedPositions}
 use Rattle.ratio_format.specs.Bodies.{codedRatios}
-use Rattle.record_format.specs.Runs.{Run, run, recordOf}
+use Rattle.record_format.specs.Runs.{Run, run, sideLength, recordOf}
 use Rattle.record_format.specs.Claims.{Accepted}
 
 -- four heads, the rate and the count
@@ -32,20 +35,27 @@ abbrev pub maxRatiosBody : ℕ
 maxRatiosBody = 9 * maxPoints
 
 -- with the longest bodies
+abbrev pub longestOn : ℕ → ℕ
+longestOn d = minRecord + sideLength d + maxPositionsBody + maxRatiosBody
+
+-- and the field of a side
 abbrev pub maxRecord : ℕ
-maxRecord = minRecord + maxPositionsBody + maxRatiosBody
+maxRecord = longestOn maxSide
 
 -- the bounds, for every accepted run
 abbrev pub Within : Type 0
 Within = (r : Run) → Accepted r
     → (minRecord ≤ length (recordOf r))
     × (length (recordOf r) ≤ maxRecord)
+    × (length (recordOf r) ≤ longestOn (r .side))
     × (length (codedPositions rows (r .positions)) ≤ maxPositionsBody)
     × (length (codedRatios (r .ratios)) ≤ maxRatiosBody)
 
 -- no points: the lower bound is reached
 abbrev pub NoPoints : Type 0
-NoPoints = (rate : ℕ) → (length (recordOf (run rate [] [])) ≡ minRecord) × (isRate rate ≡ true → Accepted (run rate [] []))
+NoPoints = (rate side : ℕ)
+    → (length (recordOf (run rate side [] [])) ≡ minRecord + sideLength side)
+    × (isRate rate ≡ true → side ≤ maxSide → Accepted (run rate side [] []))
 
 -- n values of f, from f 0 on
 unfoldable pub firstValues : {A : Type 0} → (ℕ → A) → ℕ → List A
@@ -61,9 +71,10 @@ abbrev pub twoEnds : ℕ → ℕ
 twoEnds i = i % 128 * (2 ^ 56 + 1)
 
 -- as many points as a run can have, each as long as it can be
-unfoldable pub longest : Run
-longest = run 44100 (firstValues swing maxPoints) (firstValues twoEnds maxPoints)
+unfoldable pub longest : ℕ → Run
+longest d = run 44100 d (firstValues swing maxPoints) (firstValues twoEnds maxPoints)
 
--- the upper bound is reached
+-- the upper bounds are reached
 abbrev pub Reached : Type 0
-Reached = Accepted longest × (length (recordOf longest) ≡ maxRecord)
+Reached = ((d : ℕ) → d ≤ maxSide → Accepted (longest d) × (length (recordOf (longest d)) ≡ longestOn d))
+    × (length (recordOf (longest maxSide)) ≡ maxRecord)

@@ -1,5 +1,5 @@
--- Document 01, "Numbers that come back": writing a run.
---   runTests r       the tests of writing on the run alone, in their order: 1 to 5, each over the whole run
+-- Document 01, "Numbers that come back", with 21 of document 02, No. 2: writing a run.
+--   runTests r       the tests of writing on the run alone, in their order: 1, 21, 2 to 5, each over the whole run
 --   accepts r        none of them applies: the writer accepts the run
 --   writeTests r o   all tests, with 6, which asks for room for the whole record
 --   writeRefusal r o the refusal of writing, or none
@@ -13,6 +13,7 @@ use lib.ListN.{length}
 use Rattle.refusals.specs.declared.Refusal.{Refusal}
 use Rattle.limits.specs.Rates.{isRate}
 use Rattle.limits.specs.Points.{maxPoints, firstHigh}
+use Rattle.limits.specs.Sides.{maxSide}
 use Rattle.refusals.specs.Tests.{Test, test, firstOf, refused}
 use Rattle.outputs.specs.Outputs.{zeros, over}
 use Rattle.position_format.specs.Rows.{rows}
@@ -24,6 +25,7 @@ use Rattle.record_format.specs.Runs.{Run, recordOf}
 abbrev pub runTests : Run → List Test
 runTests r =
     test (not (isRate (r .rate))) 1 0
+    ∷ test (ltb maxSide (r .side)) 21 0
     ∷ test (not (eqb (length (r .ratios)) (length (r .positions)))) 2 0
     ∷ test (ltb maxPoints (length (r .positions))) 3 0
     ∷ test (ltb (firstHigh (r .positions)) (length (r .positions))) 4 (firstHigh (r .positions))

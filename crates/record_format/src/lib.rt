@@ -8,18 +8,22 @@ pub struct WriteAnswer {
     pub length: u64,
 }
 
-// The answer of reading: number and place of the refusal, or 0 and 0 with the rate, the count of points and the bytes used.
+// The answer of reading: number and place of the refusal, or 0 and 0 with the rate, the side (0 for none), the count of points and the bytes
+// used.
 #[repr(C)]
 pub struct ReadAnswer {
     pub number: u32,
     pub place: u32,
     pub rate: u32,
+    pub side: u32,
     pub count: u32,
     pub used: u64,
 }
 
 // The tags of the fields, by what they hold.
 pub const RATE_TAG: u8 = 1;
+
+pub const SIDE_TAG: u8 = 6;
 
 pub const COUNT_TAG: u8 = 2;
 
@@ -33,7 +37,9 @@ pub const RATE_AT: usize = 0;
 // The bytes before a field's body: its tag, and its length in two bytes.
 pub const HEAD_SIZE: usize = 3;
 
-// The bytes of a rate and of a count.
+// The bytes of a rate, of a side and of a count.
 pub const RATE_SIZE: usize = 4;
+
+pub const SIDE_SIZE: usize = 1;
 
 pub const COUNT_SIZE: usize = 2;

@@ -1,5 +1,5 @@
--- The lines of the points, one after the other: none, one more, and all.
-use mathlib.Core.Path.{_≡_, sym, ap, _∙_}
+-- Laws of lines: the side's, which may be missing, and those of the points, one after the other: none, one more, and all.
+use mathlib.Core.Path.{_≡_, refl, sym, ap, _∙_}
 use mathlib.Core.List.{List, [], _∷_, _++_, append-assoc, append-nil}
 use Prim.Native.Nat.{ℕ, zero, suc, _+_, _*_, _≤_, _<_}
 use native.Mathlib.Nat.{le-of-suc-le-suc}
@@ -7,9 +7,23 @@ use native.Mathlib.Numerals.{add-one}
 use native.Mathlib.Omega.{arith}
 use lib.ListN.{length, getD, take}
 use lib.Seq.{take-length}
-use Rattle.text.specs.Lines.{pointLine, pointLines}
+use Rattle.text.specs.Lines.{newline, sideWord, sideLine, pointLine, pointLines}
+use Rattle.text.specs.Numbers.{decimal}
 use Rattle.text.specs.PlacedAt.{PlacedAt}
-use Rattle.text.proofs.PlacedAt.{put-none, put-as, put-put}
+use Rattle.text.proofs.PlacedAt.{put-none, put-more, put-as, put-put}
+
+-- ---- the side's
+
+pub side-none : (n at : ℕ) (o : List ℕ) → n ≡ 0 → PlacedAt 26 (sideLine n) at at o o
+unfolding sideLine
+side-none n at o e = rw e (put-more (omega arith) (put-none at o))
+
+pub side-line : (n : ℕ) → (n ≡ 0 → ⊥) → {m at e : ℕ} {o p : List ℕ} → PlacedAt m (sideWord ++ (decimal n ++ newline)) at e o p → PlacedAt m (sideLine n) at e o p
+unfolding sideLine
+side-line zero d h = absurd (d refl)
+side-line (suc n) d h = h
+
+-- ---- those of the points
 
 lines-more : (ts vs : List ℕ) (i : ℕ) → i < length ts → i < length vs
     → pointLines (take i ts) (take i vs) ++ pointLine (getD ts i 0) (getD vs i 0) ≡ pointLines (take (suc i) ts) (take (suc i) vs)

@@ -1,12 +1,14 @@
--- Document 01, "Bytes to compare", the listing: its lines and its whole text. Single spaces; each line ends in one newline.
+-- Document 01, "Bytes to compare", the listing, with the side of document 02, No. 2: its lines and its whole text. Single spaces; each line
+-- ends in one newline.
 --   newline, space, rateWord .. atWord    the fixed parts of a line
 --   rateLine r, countLine n, spanLine z   `rate 96000`, `count 3`, `span 20`
+--   sideLine d                            `side 4`, and nothing for side 0
 --   pointLine t v                         `960 3fe0000000000000`: a position and the bits of its ratio
 --   refusedLine n p                       `refused 10 at 0`: a refusal's number and place
 --   pointLines ts vs                      the lines of the points
---   listing r z ts vs                     the text of a run of rate r and span z, with positions ts and ratios vs
+--   listing r d z ts vs                   the text of a run of rate r, side d and span z, with positions ts and ratios vs
 use mathlib.Core.List.{List, [], _∷_, _++_}
-use Prim.Native.Nat.{ℕ}
+use Prim.Native.Nat.{ℕ, zero, suc}
 use lib.IntN.{ℤ}
 use lib.ListN.{length}
 use Rattle.text.specs.Numbers.{decimal, hex16, signed}
@@ -22,6 +24,10 @@ space = 32 ∷ []
 -- "rate "
 abbrev pub rateWord : List ℕ
 rateWord = 114 ∷ 97 ∷ 116 ∷ 101 ∷ 32 ∷ []
+
+-- "side "
+abbrev pub sideWord : List ℕ
+sideWord = 115 ∷ 105 ∷ 100 ∷ 101 ∷ 32 ∷ []
 
 -- "count "
 abbrev pub countWord : List ℕ
@@ -42,6 +48,11 @@ atWord = 32 ∷ 97 ∷ 116 ∷ 32 ∷ []
 -- the line of the rate
 unfoldable pub rateLine : ℕ → List ℕ
 rateLine r = rateWord ++ (decimal r ++ newline)
+
+-- the line of the side, if there is one
+unfoldable pub sideLine : ℕ → List ℕ
+sideLine zero = []
+sideLine (suc n) = sideWord ++ (decimal (suc n) ++ newline)
 
 -- the line of the number of points
 unfoldable pub countLine : ℕ → List ℕ
@@ -65,6 +76,6 @@ pointLines [] vs = []
 pointLines (t ∷ ts) [] = []
 pointLines (t ∷ ts) (v ∷ vs) = pointLine t v ++ pointLines ts vs
 
--- rate, count, span, and the points
-unfoldable pub listing : ℕ → ℤ → List ℕ → List ℕ → List ℕ
-listing r z ts vs = rateLine r ++ (countLine (length ts) ++ (spanLine z ++ pointLines ts vs))
+-- rate, side, count, span, and the points
+unfoldable pub listing : ℕ → ℕ → ℤ → List ℕ → List ℕ → List ℕ
+listing r d z ts vs = rateLine r ++ (sideLine d ++ (countLine (length ts) ++ (spanLine z ++ pointLines ts vs)))

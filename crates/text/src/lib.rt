@@ -5,7 +5,7 @@ ghost use mathlib.Core.List.{_++_};
 ghost use Prim.Native.Nat.{_+_, _*_, _≤_};
 ghost use lib.IntN.{natAbs};
 ghost use lib.ListN.{length};
-ghost use Rattle.text.specs.Lines.{newline, rateLine, countLine, spanLine, pointLine, refusedLine, pointLines, listing};
+ghost use Rattle.text.specs.Lines.{newline, rateLine, sideLine, countLine, spanLine, pointLine, refusedLine, pointLines, listing};
 ghost use Rattle.text.specs.Numbers.{decimal, hex16, signed};
 ghost use Rattle.text.specs.PlacedAt.{PlacedAt};
 
@@ -83,6 +83,17 @@ fn put_rate(out: &mut [u8], at: usize, rate: u32) -> usize
     put_named(out, at, b"rate ", rate as u64)
 }
 
+// The line of the side, if there is one.
+fn put_side(out: &mut [u8], at: usize, side: u32) -> usize
+    requires { ⌜ at + 26 ≤ length (now out) ⌝ }
+    ensures { λ r. ⌜ PlacedAt 26 (sideLine side) at r (now (out .entry)) (now (out .exit)) ⌝ }
+{
+    if side == 0 {
+        return at;
+    }
+    put_named(out, at, b"side ", side as u64)
+}
+
 // The line of the count.
 fn put_count(out: &mut [u8], at: usize, count: u64) -> usize
     requires { ⌜ at + 27 ≤ length (now out) ⌝ }
@@ -137,12 +148,20 @@ fn put_points(out: &mut [u8], at: usize, positions: &[u64], ratios: &[u64]) -> u
 }
 
 // The text of a run.
-pub fn put_listing(out: &mut [u8], rate: u32, span: i64, positions: &[u64], ratios: &[u64]) -> usize
-    requires { ⌜ (length (now positions) ≡ length (now ratios)) × (80 + 38 * length (now positions) ≤ length (now out)) ⌝ }
-    ensures { λ r. ⌜ PlacedAt (80 + 38 * length (now (positions .entry))) (listing rate span (now (positions .entry)) (now (ratios .entry))) 0 r (now (out .entry)) (now (out .exit)) ⌝ }
+pub fn put_listing(
+    out: &mut [u8],
+    rate: u32,
+    side: u32,
+    span: i64,
+    positions: &[u64],
+    ratios: &[u64],
+) -> usize
+    requires { ⌜ (length (now positions) ≡ length (now ratios)) × (106 + 38 * length (now positions) ≤ length (now out)) ⌝ }
+    ensures { λ r. ⌜ PlacedAt (106 + 38 * length (now (positions .entry))) (listing rate side span (now (positions .entry)) (now (ratios .entry))) 0 r (now (out .entry)) (now (out .exit)) ⌝ }
 {
-    let count = put_rate(out, 0, rate);
-    let third = put_count(out, count, positions.len() as u64);
-    let points = put_span(out, third, span);
+    let second = put_rate(out, 0, rate);
+    let count = put_side(out, second, side);
+    let next = put_count(out, count, positions.len() as u64);
+    let points = put_span(out, next, span);
     put_points(out, points, positions, ratios)
 }

@@ -1,8 +1,9 @@
 -- `put_coded` meets its contract, by what `put_body` answers.
+use mathlib.Core.List.{[], _∷_}
 use native.Mathlib.Omega.{arith}
 use borrow.Author.Needs.{needs}
 use Rattle.record_format.specs.Fields.{fieldOf}
-use Rattle.record_format.proofs.Fields.{length-field}
+use Rattle.record_format.proofs.Fields.{length-laid}
 use Rattle.record_codec.specs.Fields.{tagOf, codedBy}
 use Rattle.record_codec.proofs.Writings.{field-none, field-fits, field-done}
 use Rattle.record_codec.proofs.writer.put_coded.Statement.{statement}
@@ -27,7 +28,7 @@ headed k = k .before .before .before .before
 returns : tie.Need-returns
 returns c =
     let a = c .before .before .before .args in
-    omega (arith, length-field (fieldOf (tagOf (a .coding)) (codedBy (a .coding) (a .numbers .now))), c .if1 .taken)
+    omega (arith, length-laid (fieldOf (tagOf (a .coding)) (codedBy (a .coding) (a .numbers .now)) ∷ []), c .if1 .taken)
 
 sub-put-body : tie.Need-sub-put-body
 sub-put-body c = search needs

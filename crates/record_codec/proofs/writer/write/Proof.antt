@@ -31,7 +31,7 @@ accepted k = k .before .before
 -- ---- the run, and that its tests refuse nothing
 
 abbrev given-run : tie.After-check-run → Run
-given-run k = run (entry k .args .rate) (entry k .args .positions .now) (entry k .args .ratios .now)
+given-run k = run (entry k .args .rate) (entry k .args .side) (entry k .args .positions .now) (entry k .args .ratios .now)
 
 clear : (k : tie.Else1) → firstOf (runTests (given-run (k .before))) .number ≡ 0
 clear k = sym (ap (λ (f : Refusal). f .number) (k .before .check-run .ensures)) ∙ k .if1 .left
@@ -89,7 +89,7 @@ returns-2 c =
     let o = entry (k .before) .args .out .now in
     let h = run-no-room r o (clear k) (short-of (recordOf r) o _ _ (p .put-record .ensures) (t .enum-told .given .1)) in
     let e = cleared .refuse-write2 .ensures in
-    (e .0 ∙ h .0, e .1 ∙ ap (λ (n : ℕ). replicate n 0) (p .put-record .kept .1 .1 .1 .0) ∙ h .1)
+    (e .0 ∙ h .0, e .1 ∙ ap (λ (n : ℕ). replicate n 0) (p .put-record .kept .1 .1 .1 .1 .0) ∙ h .1)
 
 same-length-3 : tie.Need-same-length-3
 same-length-3 c = search needs

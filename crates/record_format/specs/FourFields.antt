@@ -1,0 +1,60 @@
+-- Document 01, "The record": "Four fields in this order, each once". Records without a side are as they were before document 02, No. 2.
+--   fourFields r ts vs   the four fields of document 01, for the rate r, the positions ts and the ratios vs
+--   fourTests r ts vs    document 01's tests 1 to 5 of writing
+--   SameRecord           the record of the run on side 0 is these four fields, laid end to end
+--   SameTests            it is refused as document 01 says, and so accepted when it was
+--   ReadsAsZero          whatever follows it, both readings give back that run with side 0, or 14 or 16
+-- Each is proved in proofs/FourFields.
+use mathlib.Core.Bool.{not}
+use mathlib.Core.List.{List, [], _∷_, _++_}
+use mathlib.Core.Path.{_≡_}
+use Prim.Native.Nat.{ℕ, _^_}
+use lib.Dec.{ltb, eqb}
+use lib.ListN.{length}
+use Rattle.lists.specs.Below.{Below}
+use Rattle.bits.specs.Digits.{bytesOf}
+use Rattle.limits.specs.Rates.{isRate}
+use Rattle.limits.specs.Points.{maxPoints, firstHigh}
+use Rattle.refusals.specs.Tests.{Test, test, firstOf}
+use Rattle.position_format.specs.Rows.{rows}
+use Rattle.position_format.specs.Steps.{firstOutside}
+use Rattle.position_format.specs.Positions.{codedPositions}
+use Rattle.ratio_format.specs.Bodies.{codedRatios}
+use Rattle.record_format.specs.Fields.{Field, fieldOf, laid}
+use Rattle.record_format.specs.Runs.{run, recordOf}
+use Rattle.record_format.specs.Writing.{runTests}
+use Rattle.record_format.specs.Reading.{readStrict, readOpen}
+use Rattle.record_format.specs.Claims.{runAnswer}
+
+-- tag 1 the rate, 2 the count, 3 the coded positions, 4 the coded ratios
+abbrev pub fourFields : ℕ → List ℕ → List ℕ → List Field
+fourFields r ts vs =
+    fieldOf 1 (bytesOf 4 r)
+    ∷ fieldOf 2 (bytesOf 2 (length ts))
+    ∷ fieldOf 3 (codedPositions rows ts)
+    ∷ fieldOf 4 (codedRatios vs)
+    ∷ []
+
+-- "Writing tests 1 to 6 in order": all but 6
+abbrev pub fourTests : ℕ → List ℕ → List ℕ → List Test
+fourTests r ts vs =
+    test (not (isRate r)) 1 0
+    ∷ test (not (eqb (length vs) (length ts))) 2 0
+    ∷ test (ltb maxPoints (length ts)) 3 0
+    ∷ test (ltb (firstHigh ts) (length ts)) 4 (firstHigh ts)
+    ∷ test (ltb (firstOutside rows ts) (length ts)) 5 (firstOutside rows ts)
+    ∷ []
+
+-- the same bytes, for every rate, positions and ratios
+abbrev pub SameRecord : Type 0
+SameRecord = (r : ℕ) (ts vs : List ℕ) → recordOf (run r 0 ts vs) ≡ laid (fourFields r ts vs)
+
+-- the same refusal of the run
+abbrev pub SameTests : Type 0
+SameTests = (r : ℕ) (ts vs : List ℕ) → firstOf (runTests (run r 0 ts vs)) ≡ firstOf (fourTests r ts vs)
+
+-- and the same run back, on side 0
+abbrev pub ReadsAsZero : Type 0
+ReadsAsZero = (r : ℕ) (ts vs : List ℕ) → Below (2 ^ 64) vs → firstOf (fourTests r ts vs) .number ≡ 0 → (e : ℕ) (rest ps qs : List ℕ)
+    → (readStrict e (laid (fourFields r ts vs) ++ rest) ps qs ≡ runAnswer (run r 0 ts vs) e ps qs)
+    × (readOpen e (laid (fourFields r ts vs) ++ rest) ps qs ≡ runAnswer (run r 0 ts vs) e ps qs)

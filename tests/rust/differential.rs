@@ -29,7 +29,8 @@ struct Test {
     trace: bool,
     random: Random,
     cases: u64,
-    /// How often each call returned each number, and explain each reason, place and sum.
+    /// How often each call returned each number, reading each side and some numbers at each place,
+    /// and explain each reason, place and sum.
     numbers: BTreeMap<(&'static str, u32), u64>,
 }
 
@@ -116,7 +117,7 @@ impl Test {
         let open: [Read; 2] = [reference::read_open, library::read_open];
         for (call, both) in [("read_strict", strict), ("read_open", open)] {
             let memory = rooms.map(|room| self.random.memory::<u64>(room));
-            self.case(
+            let (reading, ..) = self.case(
                 call,
                 || {
                     let outputs = format!("rooms {rooms:?} memory {memory:x?}");
@@ -130,6 +131,17 @@ impl Test {
                 both,
                 |outcome| outcome.0.number,
             );
+            let mut seen = |what, number| *self.numbers.entry((what, number)).or_default() += 1;
+            match reading.number {
+                0 => seen("reading, side", reading.side),
+                11 => seen("reading, place of 11", reading.place),
+                12 => seen("reading, place of 12", reading.place),
+                15 => seen("reading, place of 15", reading.place),
+                16 => seen("reading, place of 16", reading.place),
+                17 => seen("reading, place of 17", reading.place),
+                20 => seen("reading, place of 20", reading.place),
+                _ => {}
+            }
         }
     }
 
@@ -785,12 +797,9 @@ impl Test {
             }
             let room = if breaks(6) { 17 } else { 60_000 };
             let written = self.write(rate, side, &positions, &ratios, room);
-            let first =
-                [1, 21, 2, 3, 4, 5, 6, 0][(broken as u32 | 1 << 7).trailing_zeros() as usize];
-            assert_eq!(
-                written.number, first,
-                "another order of the tests of writing"
-            );
+            let first = (0..7).find(|&test| breaks(test));
+            let wanted = first.map_or(0, |test| [1, 21, 2, 3, 4, 5, 6][test]);
+            assert_eq!(written.number, wanted, "another order of the tests");
         }
     }
 
@@ -836,7 +845,7 @@ impl Test {
         ];
         let sides = sides.map(|(tag, length, body)| (tag, length, body.to_vec()));
         for side in &sides {
-            // In every place, and a second one beside it; then cut at every byte up to the positions.
+            // In every place, and with a sound one beside it; then cut within the fields in front.
             for at in 0..=fields.0.len() {
                 let mut one = fields.clone();
                 one.0.insert(at, side.clone());
@@ -1065,14 +1074,23 @@ impl Test {
         self.explains();
     }
 
-    /// Prints how often each call returned each number, and explain each reason, places at the
-    /// window's ends, and each sum; each must have come up.
+    /// Prints how often each call returned each number, reading each side and the places that a
+    /// side moves, and explain each reason, places at the window's ends, and each sum; each must
+    /// have come up.
     fn report(&self) {
         let reading = &[0, 10, 11, 12, 13, 14, 15, 16, 17, 18, 20][..];
-        let calls: [(_, &[u32]); 14] = [
+        let sides: Vec<u32> = (0..=LAST_SIDE).collect();
+        let calls: [(_, &[u32]); 21] = [
             ("write", &[0, 1, 2, 3, 4, 5, 6, 21]),
             ("read_strict", reading),
             ("read_open", reading),
+            ("reading, side", &sides),
+            ("reading, place of 11", &[0, 7, 11, 12, 16]),
+            ("reading, place of 12", &[0, 7, 11]),
+            ("reading, place of 15", &[7, 11]),
+            ("reading, place of 16", &[7, 11]),
+            ("reading, place of 17", &[12, 16]),
+            ("reading, place of 20", &[7]),
             ("span", &[0, 1, 3, 4]),
             ("live_new", &[0]),
             ("live_add", &[0, 3, 6, 7]),

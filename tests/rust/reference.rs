@@ -1,6 +1,6 @@
-//! Document 01, and of document 02 the call explain (No. 1) and the side of the disc (No. 2), written
-//! out plainly: every call with its whole answer and outputs. It is meant to be compared with the
-//! documents line by line, not to be fast.
+//! Document 01, and of document 02 the call explain (No. 1) and the side of the disc (No. 2),
+//! written out plainly: every call with its whole answer and outputs. It is meant to be compared
+//! with the documents line by line, not to be fast.
 
 use crate::answers::WINDOW;
 use crate::answers::{Cursor, Explained, Kind, Live, Making, Reading, Span, Stepped, Written};

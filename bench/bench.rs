@@ -6,7 +6,8 @@
 //! Live addition and stepping are set beside straightforward ones that take and return their
 //! state by value; the straightforward step is a C function as the library's is, so that both
 //! are handed the state in the same way. Positions are timed in runs of one ratio throughout,
-//! which takes a byte and no search. At the end stand the targets that were not met.
+//! which takes a byte and no search. Runs have no side but in a table of their own. At the end
+//! stand the targets that were not met.
 //!
 //! Each sample of the library is timed between two of the straightforward implementation. A
 //! ratio says how many times as fast the library is as the mean of these two; printed are
@@ -25,7 +26,7 @@ use std::hint::black_box;
 const POINTS: usize = 4_096;
 const SHORT: usize = 8;
 const RATE: u32 = 96_000;
-const LONGEST_RECORD: usize = 55_321;
+const LONGEST_RECORD: usize = 55_325;
 const SAMPLES: usize = 21;
 /// How many seconds a sample of the straightforward implementation should take at least.
 const SAMPLE: f64 = 0.000_8;
@@ -44,6 +45,10 @@ const KINDS: [&str; 9] = [
 
 /// One ratio throughout: a kind of its own, to time the positions.
 const SAME: usize = 9;
+
+/// The kind with which runs of a side are timed.
+const SINES: usize = 3;
+const SIDE: u32 = 4;
 
 // Data
 
@@ -92,7 +97,7 @@ fn ratios(kind: usize) -> Vec<u64> {
                 let places = [100.0, 1_000.0, 10_000.0][random.below(3) as usize];
                 ((level * places).round() / places).to_bits()
             }
-            3 => (1.0 + 0.1 * angle.sin() + 0.01 * (7.3 * angle).sin()).to_bits(),
+            SINES => (1.0 + 0.1 * angle.sin() + 0.01 * (7.3 * angle).sin()).to_bits(),
             4 => random.bits(),
             5 => 0x3ff0 << 48 | random.bits() >> 16,
             6 => (random.below(2_000) as f64).to_bits(),
@@ -117,17 +122,20 @@ fn positions(regular: bool) -> Vec<u64> {
 }
 
 struct Run<'a> {
+    side: u32,
     positions: &'a [u64],
     ratios: &'a [u64],
     record: Vec<u8>,
 }
 
-fn runs<'a>(positions: &'a [u64], ratios: &'a [u64], length: usize) -> Vec<Run<'a>> {
+/// The runs of a side, so many points each.
+fn runs<'a>(side: u32, positions: &'a [u64], ratios: &'a [u64], length: usize) -> Vec<Run<'a>> {
     let run = |(positions, ratios)| {
         let mut record = vec![0; LONGEST_RECORD];
-        let written = plain::write(RATE, positions, ratios, &mut record);
+        let written = plain::write(RATE, side, positions, ratios, &mut record);
         record.truncate(written.length as usize);
         Run {
+            side,
             positions,
             ratios,
             record,
@@ -158,7 +166,7 @@ impl Output {
 
 /// One implementation's calls.
 struct Calls {
-    write: fn(u32, &[u64], &[u64], &mut [u8]) -> Written,
+    write: fn(u32, u32, &[u64], &[u64], &mut [u8]) -> Written,
     read_strict: fn(u32, &[u8], &mut [u64], &mut [u64]) -> Reading,
     read_open: fn(u32, &[u8], &mut [u64], &mut [u64]) -> Reading,
     live_new: fn() -> Live,
@@ -206,17 +214,19 @@ fn name(call: Call) -> &'static str {
     }
 }
 
-/// The body of field 4 of a record.
+/// The body of the ratios' field of a record.
 fn ratios_body(record: &[u8]) -> &[u8] {
-    let field = 15 + usize::from(u16::from_be_bytes([record[13], record[14]]));
-    &record[field + 3..]
+    let positions = if record[7] == 6 { 16 } else { 12 };
+    let length = u16::from_be_bytes([record[positions + 1], record[positions + 2]]);
+    &record[positions + 3 + usize::from(length) + 3..]
 }
 
 /// Does one call on a run, or one addition or step for each of its ratios.
 fn work(calls: &Calls, call: Call, run: &Run, out: &mut Output) {
     match call {
         Call::Write => {
-            let written = (calls.write)(RATE, run.positions, run.ratios, &mut out.bytes);
+            let (side, bytes) = (run.side, &mut out.bytes);
+            let written = (calls.write)(RATE, side, run.positions, run.ratios, bytes);
             assert_eq!(written.length, run.record.len() as u64);
         }
         Call::Strict | Call::Open => {
@@ -227,6 +237,7 @@ fn work(calls: &Calls, call: Call, run: &Run, out: &mut Output) {
             };
             let read = read(RATE, &run.record, &mut out.positions, &mut out.ratios);
             assert_eq!(read.used, run.record.len() as u64);
+            assert_eq!(read.side, run.side);
         }
         Call::Live => {
             let mut state = (calls.live_new)();
@@ -380,11 +391,11 @@ fn target(call: Call, length: usize, kind: usize, plain: f64) -> f64 {
     }
 }
 
-/// The columns' head of a table, for the positions that it has.
-fn head(steps: &[&str]) {
+/// The columns' head of a table, with a name for each group of columns.
+fn head(groups: &[impl AsRef<str>]) {
     print!("{:24}", "MB/s");
-    for steps in steps {
-        print!(" | {steps:9} copy   plain library   ratio");
+    for group in groups {
+        print!(" | {:9} copy   plain library   ratio", group.as_ref());
     }
     println!();
 }
@@ -427,7 +438,7 @@ fn table(call: Call, length: usize, samples: usize) -> Vec<String> {
             let what = format!("{} of {length} points, {name}, {steps}", self::name(call));
             all_ratios.push(cell(
                 call,
-                &runs(&positions, &ratios, length),
+                &runs(0, &positions, &ratios, length),
                 samples,
                 |cell| target(call, length, kind, cell.plain),
                 what.trim_end_matches(", "),
@@ -458,10 +469,35 @@ fn positions_table(samples: usize) -> Vec<String> {
             let positions = positions(steps == "regular");
             cell(
                 call,
-                &runs(&positions, &ratios, POINTS),
+                &runs(0, &positions, &ratios, POINTS),
                 samples,
                 |_| 1.0,
                 &format!("positions, {} of one ratio, {steps}", name(call)),
+                &mut missed,
+            );
+        }
+        println!();
+    }
+    missed
+}
+
+/// Prints how fast runs of a side are, and answers how each target that is not met was missed: they
+/// are those of runs without a side.
+fn sides_table(samples: usize) -> Vec<String> {
+    let mut missed = Vec::new();
+    println!("\nside {SIDE}, two sines, regular steps, by the number of points");
+    let lengths = [POINTS, SHORT];
+    head(&lengths.map(|length| length.to_string()));
+    let (positions, ratios) = (positions(true), ratios(SINES));
+    for call in [Call::Write, Call::Strict, Call::Open] {
+        print!("{:24}", name(call));
+        for length in lengths {
+            cell(
+                call,
+                &runs(SIDE, &positions, &ratios, length),
+                samples,
+                |cell| target(call, length, SINES, cell.plain),
+                &format!("side {SIDE}, {} of {length} points", name(call)),
                 &mut missed,
             );
         }
@@ -474,11 +510,11 @@ fn positions_table(samples: usize) -> Vec<String> {
 /// straightforward implementation.
 fn growth(samples: usize) {
     println!("\ntwo sines, irregular steps: ns a point by the number of points, library (plain)");
-    let (positions, ratios) = (positions(false), ratios(3));
+    let (positions, ratios) = (positions(false), ratios(SINES));
     for call in [Call::Write, Call::Strict, Call::Open] {
         print!("{:24}", name(call));
         for length in [256, 1_024, POINTS] {
-            let cell = measure(call, &runs(&positions, &ratios, length), samples);
+            let cell = measure(call, &runs(0, &positions, &ratios, length), samples);
             let (library, plain) = (8_000.0 / cell.library, 8_000.0 / cell.plain);
             print!(" | {length:5}: {library:6.1} ({plain:6.1})");
         }
@@ -510,6 +546,7 @@ fn main() {
         }
     }
     missed.extend(positions_table(samples));
+    missed.extend(sides_table(samples));
     growth(samples);
     println!("\ntargets not met: {}", missed.len());
     for line in missed {

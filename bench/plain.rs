@@ -7,6 +7,7 @@ use crate::answers::WINDOW;
 use crate::answers::{Cursor, Live, Making, Reading, Stepped, Written};
 
 const RATES: [u32; 6] = [44_100, 48_000, 88_200, 96_000, 176_400, 192_000];
+const LAST_SIDE: u32 = 26;
 const MOST_POINTS: usize = 4_096;
 const LAST_POSITION: u64 = (1 << 62) - 1;
 const STEPS: std::ops::RangeInclusive<i64> = -(1 << 31) + 1..=1 << 31;
@@ -211,12 +212,16 @@ fn take_positions(body: &[u8], positions: &mut [u64]) -> Option<()> {
 
 fn try_write(
     rate: u32,
+    side: u32,
     positions: &[u64],
     ratios: &[u64],
     out: &mut [u8],
 ) -> Result<usize, Refusal> {
     if !RATES.contains(&rate) {
         return Err((1, 0));
+    }
+    if side > LAST_SIDE {
+        return Err((21, 0));
     }
     if positions.len() != ratios.len() {
         return Err((2, 0));
@@ -227,17 +232,22 @@ fn try_write(
     if let Some(index) = positions.iter().position(|&t| t > LAST_POSITION) {
         return Err((4, index));
     }
-    let (head, rest) = out.split_at_mut(out.len().min(15));
+    let count_at = if side == 0 { 7 } else { 11 };
+    let (head, rest) = out.split_at_mut(out.len().min(count_at + 8));
     let length = put_positions(positions, rest).map_err(|index| (5, index))?;
     if rest.len() < length + 3 {
         return Err((6, 0));
     }
     head[..3].copy_from_slice(&[1, 0, 4]);
     head[3..7].copy_from_slice(&rate.to_be_bytes());
-    head[7..10].copy_from_slice(&[2, 0, 2]);
-    head[10..12].copy_from_slice(&(positions.len() as u16).to_be_bytes());
-    head[12] = 3;
-    head[13..].copy_from_slice(&(length as u16).to_be_bytes());
+    let (front, head) = head.split_at_mut(count_at);
+    if side != 0 {
+        front[7..].copy_from_slice(&[6, 0, 1, side as u8]);
+    }
+    head[..3].copy_from_slice(&[2, 0, 2]);
+    head[3..5].copy_from_slice(&(positions.len() as u16).to_be_bytes());
+    head[5] = 3;
+    head[6..].copy_from_slice(&(length as u16).to_be_bytes());
     let (head, body) = rest[length..].split_at_mut(3);
     let mut at = 0;
     for (n, &ratio) in ratios.iter().enumerate() {
@@ -246,12 +256,12 @@ fn try_write(
     }
     head[0] = 4;
     head[1..].copy_from_slice(&(at as u16).to_be_bytes());
-    Ok(15 + length + 3 + at)
+    Ok(count_at + 8 + length + 3 + at)
 }
 
 #[inline(never)]
-pub fn write(rate: u32, positions: &[u64], ratios: &[u64], out: &mut [u8]) -> Written {
-    match try_write(rate, positions, ratios, out) {
+pub fn write(rate: u32, side: u32, positions: &[u64], ratios: &[u64], out: &mut [u8]) -> Written {
+    match try_write(rate, side, positions, ratios, out) {
         Ok(length) => written(0, 0, length),
         Err((number, place)) => {
             out.fill(0);
@@ -290,7 +300,7 @@ fn try_read(
     positions: &mut [u64],
     ratios: &mut [u64],
     strict: bool,
-) -> Result<(u32, usize, usize), Refusal> {
+) -> Result<(u32, u8, usize, usize), Refusal> {
     let rate = u32::from_be_bytes(body(record, 0, 1, Some(4))?.try_into().unwrap());
     if !RATES.contains(&rate) {
         return Err((13, 0));
@@ -298,17 +308,26 @@ fn try_read(
     if expected != 0 && expected != rate {
         return Err((14, 0));
     }
-    let count = u16::from_be_bytes(body(record, 7, 2, Some(2))?.try_into().unwrap());
+    let (mut side, mut count_at) = (0, 7);
+    if record.get(7) == Some(&6) {
+        side = body(record, 7, 6, Some(1))?[0];
+        if side == 0 || u32::from(side) > LAST_SIDE {
+            return Err((20, 7));
+        }
+        count_at = 11;
+    }
+    let count = u16::from_be_bytes(body(record, count_at, 2, Some(2))?.try_into().unwrap());
     let count = usize::from(count);
     if count > MOST_POINTS {
-        return Err((15, 7));
+        return Err((15, count_at));
     }
     if count > positions.len() || count > ratios.len() {
-        return Err((16, 7));
+        return Err((16, count_at));
     }
-    let coded = body(record, 12, 3, None)?;
-    take_positions(coded, &mut positions[..count]).ok_or((17, 12))?;
-    let field = 15 + coded.len();
+    let field = count_at + 5;
+    let coded = body(record, field, 3, None)?;
+    take_positions(coded, &mut positions[..count]).ok_or((17, field))?;
+    let field = field + 3 + coded.len();
     let coded = body(record, field, 4, None)?;
     let mut at = 0;
     for n in 0..count {
@@ -320,7 +339,7 @@ fn try_read(
     if at != coded.len() {
         return Err((18, field));
     }
-    Ok((rate, count, field + 3 + at))
+    Ok((rate, side, count, field + 3 + at))
 }
 
 #[inline(always)]
@@ -331,19 +350,20 @@ fn read(
     ratios: &mut [u64],
     strict: bool,
 ) -> Reading {
-    let (number, place, rate, count, used) =
+    let (number, place, rate, side, count, used) =
         match try_read(expected, record, positions, ratios, strict) {
-            Ok((rate, count, used)) => (0, 0, rate, count, used),
+            Ok((rate, side, count, used)) => (0, 0, rate, side, count, used),
             Err((number, place)) => {
                 positions.fill(0);
                 ratios.fill(0);
-                (number, place, 0, 0, 0)
+                (number, place, 0, 0, 0, 0)
             }
         };
     Reading {
         number,
         place: place as u32,
         rate,
+        side: u32::from(side),
         count: count as u32,
         used: used as u64,
     }

@@ -1,10 +1,12 @@
 /* farigolenc: run records and live coding of ratios, as docs/FORMAT.md says.
  *
- * A run is a rate, a list of positions (0 to 2^62 - 1) and as many ratios, at
- * most 4096 of each. A ratio is the 64 bits of an IEEE 754 double; all calls
- * work on the bits, so that 0 and -0 differ and every not-a-number is kept.
- * Rates are 44100, 48000, 88200, 96000, 176400 and 192000. A record that is
- * written has 18 to 55321 bytes.
+ * A run is a rate, a side of the disc (1 to 26, or 0 for none), a list of
+ * positions (0 to 2^62 - 1) and as many ratios, at most 4096 of each. A ratio is
+ * the 64 bits of an IEEE 754 double; all calls work on the bits, so that 0 and -0
+ * differ and every not-a-number is kept. Rates are 44100, 48000, 88200, 96000,
+ * 176400 and 192000. A record that is written has 18 to 55325 bytes. Its fields
+ * are the rate's, where the side is not 0 the side's, the count's, the positions'
+ * and the ratios'.
  *
  * Answers begin with a number, 0 for success or the number of a refusal, and a
  * place, 0 on success:
@@ -20,15 +22,18 @@
  *    8   stepping: all given, body used up                     0
  *   10   bytes end inside a field                              field
  *   11   wrong tag                                             field
- *   12   field 1 not 4 long, or field 2 not 2                  field
+ *   12   a rate not 4 long, a count not 2, or a side not 1     field
  *   13   rate in the record not in the list                    field
  *   14   a rate was expected (not 0) and differs               field
  *   15   count above 4096                                      field, or 0 in
  *                                                              making a reader
  *   16   an output has room for fewer than count numbers       field
- *   17   field 3 is not the coding of count positions          field
- *   18   field 4 is not the coding (or open form) of count     field, or 0 in
- *        ratios                                                stepping
+ *   17   the positions' field is not the coding of count       field
+ *        positions
+ *   18   the ratios' field is not the coding (or open form)    field, or 0 in
+ *        of count ratios                                       stepping
+ *   20   side in the record not 1 to 26                        field
+ *   21   side above 26                                         0
  *   22   an index not below the number of ratios               0
  *
  * Indices count from 0; the step at index n is
@@ -58,8 +63,8 @@
  * back to 0, when something that stands here changes or goes, so that a program
  * must be looked at and compiled again; the minor grows by one when something is
  * added. Records have no version. */
-#define FARIGOLENC_VERSION_MAJOR 1
-#define FARIGOLENC_VERSION_MINOR 1
+#define FARIGOLENC_VERSION_MAJOR 2
+#define FARIGOLENC_VERSION_MINOR 0
 
 #include <stddef.h>
 #include <stdint.h>
@@ -68,21 +73,24 @@
 extern "C" {
 #endif
 
-/* Largest number of points, ratios in a window, bytes in a record that
- * farigolenc_write writes, and bytes that farigolenc_live_add writes. */
+/* Largest side, and largest number of points, ratios in a window, bytes in a
+ * record that farigolenc_write writes, and bytes that farigolenc_live_add
+ * writes. */
+#define FARIGOLENC_SIDES 26
 #define FARIGOLENC_POINTS 4096
 #define FARIGOLENC_WINDOW 127
-#define FARIGOLENC_RECORD 55321
+#define FARIGOLENC_RECORD 55325
 #define FARIGOLENC_RATIO_FORM 9
 
-/* Writes the record of a run. Tests 1 to 6 in order. */
+/* Writes the record of a run; with side 0 it has no field for the side. Tests 1,
+ * 21, then 2 to 6 in order. */
 typedef struct {
     uint32_t number, place;
     uint64_t length; /* bytes written */
 } farigolenc_write_answer;
 
 farigolenc_write_answer farigolenc_write(
-    uint32_t rate,
+    uint32_t rate, uint32_t side,
     const uint64_t *positions, size_t positions_length,
     const uint64_t *ratios, size_t ratios_length,
     uint8_t *out, size_t out_length);
@@ -90,11 +98,14 @@ farigolenc_write_answer farigolenc_write(
 /* Reads the record at the start of `record`; bytes after it are not looked at.
  * `expected` is the rate that the record must have, or 0 for any. Strict
  * reading accepts only what farigolenc_write writes; open reading accepts any
- * open form in field 4. Takes the fields in order, and in each tests 10 (head),
- * 11, 12, 10 (body), then 13 and 14, 15 and 16, 17, or 18. */
+ * open form in the ratios' field. Takes the fields in order, and in each tests
+ * 10 (head), 11, 12, 10 (body), then its contents: 13 and 14 of the rate, 20 of
+ * the side, 15 and 16 of the count, 17 of the positions, 18 of the ratios. */
 typedef struct {
     uint32_t number, place;
-    uint32_t rate, count;
+    uint32_t rate;
+    uint32_t side; /* 0 where the record has no field for it */
+    uint32_t count;
     uint64_t used; /* bytes of the record */
 } farigolenc_read_answer;
 
@@ -135,15 +146,15 @@ farigolenc_live farigolenc_live_new(void);
 
 /* Writes the bytes of one more ratio (1 to 9) and adds it to the window: with
  * room the cell at `fill` takes it, else all cells move down by one and the last
- * takes it. The bytes of successive additions, joined, are the body of field 4.
- * Tests 7, 3 (where 4096 were seen) and 6. */
+ * takes it. The bytes of successive additions, joined, are the body of the
+ * ratios' field. Tests 7, 3 (where 4096 were seen) and 6. */
 farigolenc_write_answer farigolenc_live_add(
     farigolenc_live *state,
     uint64_t ratio,
     uint8_t *out, size_t out_length);
 
-/* The state of stepping through the body of a field 4, with the window as in
- * farigolenc_live. A state is bad, and refused by 7, if `fill` is not the
+/* The state of stepping through the body of a ratios' field, with the window as
+ * in farigolenc_live. A state is bad, and refused by 7, if `fill` is not the
  * smaller of 127 and `seen`, `seen` is above `count`, `count` is above 4096, or
  * `place` is past the body. */
 typedef struct {

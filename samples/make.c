@@ -1,5 +1,5 @@
-/* Writes the sample records: a steady take, a drifting one, and the drifting
- * one cut short. Usage: make DIRECTORY */
+/* Writes the sample records: a steady take, a drifting one, the drifting one cut
+ * short, and one of a side of the disc. Usage: make DIRECTORY */
 #include "farigolenc.h"
 
 #include <stdio.h>
@@ -8,6 +8,8 @@
 #define STEADY 24
 #define DRIFTING 40
 #define CUT 100
+#define SIDED 12
+#define SIDE 4
 
 static int store(const char *directory, const char *name, const uint8_t *bytes, size_t length)
 {
@@ -34,7 +36,7 @@ int main(int count, char **words)
 {
     uint64_t positions[DRIFTING], ratios[DRIFTING];
     uint8_t out[FARIGOLENC_RECORD];
-    farigolenc_write_answer steady, drifting;
+    farigolenc_write_answer steady, drifting, sided;
     int i;
 
     if (count != 2) {
@@ -46,7 +48,7 @@ int main(int count, char **words)
         positions[i] = (uint64_t)i * 960;
         ratios[i] = bits(0.5);
     }
-    steady = farigolenc_write(96000, positions, STEADY, ratios, STEADY, out, sizeof out);
+    steady = farigolenc_write(96000, 0, positions, STEADY, ratios, STEADY, out, sizeof out);
     if (steady.number != 0 || store(words[1], "steady", out, steady.length)) {
         return 1;
     }
@@ -56,9 +58,19 @@ int main(int count, char **words)
         positions[i] = (uint64_t)(100000 + i * 480 + (i * i * 7) % 13 - i / 3);
         ratios[i] = bits(1.0 + (double)((i * i * 5) % 29 - 14) / 4096.0);
     }
-    drifting = farigolenc_write(48000, positions, DRIFTING, ratios, DRIFTING, out, sizeof out);
+    drifting = farigolenc_write(48000, 0, positions, DRIFTING, ratios, DRIFTING, out, sizeof out);
     if (drifting.number != 0 || store(words[1], "drifting", out, drifting.length)) {
         return 1;
     }
-    return store(words[1], "cut", out, CUT);
+    if (store(words[1], "cut", out, CUT)) {
+        return 1;
+    }
+
+    /* The beginning of side 4: every 10 ms at 44.1 kHz, with a ratio that settles at 1. */
+    for (i = 0; i < SIDED; i++) {
+        positions[i] = (uint64_t)i * 441;
+        ratios[i] = bits(1.0 + (i < 8 ? (double)(8 - i) / 1024.0 : 0.0));
+    }
+    sided = farigolenc_write(44100, SIDE, positions, SIDED, ratios, SIDED, out, sizeof out);
+    return sided.number != 0 || store(words[1], "sided", out, sided.length);
 }

@@ -1,6 +1,6 @@
 /* Calls every function of farigolenc.h from C99: writes a run, reads it, adds its
- * ratios live, steps through them, explains each, and tries kinds, spans, reasons
- * and refusals.
+ * ratios live, steps through them, explains each, and tries sides, kinds, spans,
+ * reasons and refusals.
  * Prints "ok" and returns 0, or says what differs and returns 1. */
 
 #include "farigolenc.h"
@@ -9,12 +9,20 @@
 #include <string.h>
 
 #define POINTS 300
+#define SIDE 3
 #define ROOM (POINTS + 5)
 #define DIRT 0xA5
 
 /* The states have no padding. */
 typedef char live_is_packed[sizeof(farigolenc_live) == 129 * 8 ? 1 : -1];
 typedef char cursor_is_packed[sizeof(farigolenc_cursor) == 131 * 8 ? 1 : -1];
+
+/* The members of a reading's answer stand in the order of the header. */
+typedef char rate_is_third[offsetof(farigolenc_read_answer, rate) == 8 ? 1 : -1];
+typedef char side_is_fourth[offsetof(farigolenc_read_answer, side) == 12 ? 1 : -1];
+typedef char count_is_fifth[offsetof(farigolenc_read_answer, count) == 16 ? 1 : -1];
+typedef char used_is_last[offsetof(farigolenc_read_answer, used) == 24 ? 1 : -1];
+typedef char reading_is_32_bytes[sizeof(farigolenc_read_answer) == 32 ? 1 : -1];
 
 static int differences = 0;
 
@@ -66,14 +74,14 @@ static void check_example(void)
     memset(out, DIRT, sizeof out);
     memset(read_positions, DIRT, sizeof read_positions);
     memset(read_ratios, DIRT, sizeof read_ratios);
-    written = farigolenc_write(96000, positions, 3, ratios, 3, out, sizeof out);
+    written = farigolenc_write(96000, 0, positions, 3, ratios, 3, out, sizeof out);
     check(written.number == 0 && written.place == 0 && written.length == 46, "example, written");
     check(memcmp(out, example, 46) == 0, "example, bytes");
     check(all_are(out + 46, 4, DIRT), "example, bytes past the record");
 
     read = farigolenc_read_strict(0, example, 46, read_positions, 3, read_ratios, 3);
-    check(read.number == 0 && read.place == 0 && read.rate == 96000 && read.count == 3 &&
-              read.used == 46,
+    check(read.number == 0 && read.place == 0 && read.rate == 96000 && read.side == 0 &&
+              read.count == 3 && read.used == 46,
           "example, read");
     check(memcmp(read_positions, positions, sizeof positions) == 0, "example, positions");
     check(read_ratios[0] == half && read_ratios[1] == half && read_ratios[2] == half,
@@ -114,8 +122,8 @@ static void check_reading(const char *which, farigolenc_read_answer read, uint64
                           const uint64_t *positions, const uint64_t *ratios,
                           const uint64_t *read_positions, const uint64_t *read_ratios)
 {
-    check(read.number == 0 && read.place == 0 && read.rate == 48000 && read.count == POINTS &&
-              read.used == length,
+    check(read.number == 0 && read.place == 0 && read.rate == 48000 && read.side == SIDE &&
+              read.count == POINTS && read.used == length,
           which);
     check(memcmp(read_positions, positions, POINTS * 8) == 0, "positions that were read");
     check(memcmp(read_ratios, ratios, POINTS * 8) == 0, "ratios that were read");
@@ -158,7 +166,8 @@ static void check_run(void)
     size_t field, length, total = 0, i;
 
     make_run(positions, ratios);
-    written = farigolenc_write(48000, positions, POINTS, ratios, POINTS, record, sizeof record);
+    written = farigolenc_write(48000, SIDE, positions, POINTS, ratios, POINTS, record,
+                               sizeof record);
     check(written.number == 0 && written.place == 0 && written.length > 18, "run, written");
     if (written.number != 0) {
         return;
@@ -177,11 +186,12 @@ static void check_run(void)
                                        read_ratios, ROOM),
                   written.length, positions, ratios, read_positions, read_ratios);
 
-    /* Field 4 stands after fields 1 and 2 (12 bytes) and field 3. */
-    field = 15 + ((size_t)record[13] << 8 | record[14]);
+    /* The ratios' field stands after those of rate, side and count (16 bytes) and of the
+     * positions. */
+    field = 19 + ((size_t)record[17] << 8 | record[18]);
     length = (size_t)record[field + 1] << 8 | record[field + 2];
     body = record + field + 3;
-    check(record[field] == 4 && field + 3 + length == written.length, "run, field 4");
+    check(record[field] == 4 && field + 3 + length == written.length, "run, ratios' field");
 
     live = farigolenc_live_new();
     check(all_are(&live, sizeof live, 0), "fresh live state");
@@ -211,6 +221,73 @@ static void check_run(void)
     check(memcmp(&step.next, &cursor, sizeof cursor) == 0, "cursor at the end");
     step = farigolenc_step(body, length - 1, cursor);
     check(step.number == 7 && step.ratio == 0, "cursor past the body");
+}
+
+/* The example's record with a side: its field of four bytes stands between rate and count. */
+static void put_side(uint8_t *record, uint8_t side)
+{
+    memcpy(record, example, 7);
+    record[7] = 6;
+    record[8] = 0;
+    record[9] = 1;
+    record[10] = side;
+    memcpy(record + 11, example + 7, 39);
+}
+
+static void check_sides(void)
+{
+    static uint64_t positions[FARIGOLENC_POINTS], ratios[FARIGOLENC_POINTS];
+    static uint8_t largest[FARIGOLENC_RECORD];
+    const uint64_t points[3] = {0, 960, 1920};
+    const uint64_t half = UINT64_C(0x3FE0000000000000);
+    const uint64_t halves[3] = {UINT64_C(0x3FE0000000000000), UINT64_C(0x3FE0000000000000),
+                                UINT64_C(0x3FE0000000000000)};
+    uint8_t sided[50], out[52];
+    uint64_t read_positions[4], read_ratios[4];
+    farigolenc_write_answer written;
+    farigolenc_read_answer read;
+    uint32_t side;
+    size_t i;
+    int open;
+
+    for (side = 1; side <= FARIGOLENC_SIDES; side++) {
+        put_side(sided, (uint8_t)side);
+        memset(out, DIRT, sizeof out);
+        written = farigolenc_write(96000, side, points, 3, halves, 3, out, sizeof out);
+        check(written.number == 0 && written.place == 0 && written.length == 50, "side, written");
+        check(memcmp(out, sided, 50) == 0, "side, bytes");
+        check(all_are(out + 50, 2, DIRT), "side, bytes past the record");
+        for (open = 0; open < 2; open++) {
+            memset(read_positions, DIRT, sizeof read_positions);
+            memset(read_ratios, DIRT, sizeof read_ratios);
+            read = (open ? farigolenc_read_open : farigolenc_read_strict)(
+                96000, out, sizeof out, read_positions, 4, read_ratios, 4);
+            check(read.number == 0 && read.place == 0 && read.rate == 96000, "side, read");
+            check(read.side == side && read.count == 3 && read.used == 50, "side, numbers read");
+            check(memcmp(read_positions, points, sizeof points) == 0, "side, positions");
+            check(read_ratios[0] == half && read_ratios[1] == half && read_ratios[2] == half,
+                  "side, ratios");
+            check(all_are(read_positions + 3, 8, DIRT) && all_are(read_ratios + 3, 8, DIRT),
+                  "side, outputs past the run");
+        }
+    }
+
+    /* The largest records: every step takes 36 bits and every ratio nine bytes. */
+    for (i = 0; i < FARIGOLENC_POINTS; i++) {
+        positions[i] = i % 2 * 5000;
+        ratios[i] = i % 128 * ((UINT64_C(1) << 56) + 1);
+    }
+    written = farigolenc_write(44100, FARIGOLENC_SIDES, positions, FARIGOLENC_POINTS, ratios,
+                               FARIGOLENC_POINTS, largest, sizeof largest);
+    check(written.number == 0 && written.length == FARIGOLENC_RECORD, "largest record");
+    written = farigolenc_write(44100, FARIGOLENC_SIDES, positions, FARIGOLENC_POINTS, ratios,
+                               FARIGOLENC_POINTS, largest, sizeof largest - 1);
+    check(written.number == 6 && written.length == 0, "largest record, a byte too few");
+    check(all_are(largest, sizeof largest - 1, 0), "largest record, a byte too few");
+    written = farigolenc_write(44100, 0, positions, FARIGOLENC_POINTS, ratios, FARIGOLENC_POINTS,
+                               largest, sizeof largest);
+    check(written.number == 0 && written.length == FARIGOLENC_RECORD - 4,
+          "largest record without a side");
 }
 
 static void check_kind(uint64_t ratio, uint32_t kind, uint32_t negative, uint64_t value,
@@ -316,15 +393,16 @@ static void check_reasons(void)
     refuse_reason(xored, 0, 0, 22, "reason, no ratios");
 }
 
-static void refuse_writing(uint32_t rate, const uint64_t *positions, size_t points, size_t ratios,
-                           size_t room, uint32_t number, uint32_t place, const char *what)
+static void refuse_writing(uint32_t rate, uint32_t side, const uint64_t *positions, size_t points,
+                           size_t ratios, size_t room, uint32_t number, uint32_t place,
+                           const char *what)
 {
     static const uint64_t values[3] = {1, 2, 3};
     uint8_t out[200];
     farigolenc_write_answer written;
 
     memset(out, DIRT, sizeof out);
-    written = farigolenc_write(rate, positions, points, values, ratios, out, room);
+    written = farigolenc_write(rate, side, positions, points, values, ratios, out, room);
     check(written.number == number && written.place == place && written.length == 0, what);
     check(all_are(out, room, 0) && all_are(out + room, sizeof out - room, DIRT), what);
 }
@@ -342,10 +420,87 @@ static void refuse_reading(uint32_t expected, const uint8_t *record, size_t leng
         read = (open ? farigolenc_read_open : farigolenc_read_strict)(
             expected, record, length, positions, room, ratios, 8);
         check(read.number == number && read.place == place, what);
-        check(read.rate == 0 && read.count == 0 && read.used == 0, what);
+        check(read.rate == 0 && read.side == 0 && read.count == 0 && read.used == 0, what);
         check(all_are(positions, room * 8, 0) && all_are(ratios, sizeof ratios, 0), what);
         check(all_are(positions + room, (8 - room) * 8, DIRT), what);
     }
+}
+
+/* Refusals by the side, and those whose places a side moves. */
+static void check_side_refusals(void)
+{
+    const uint64_t sound[3] = {0, 10, 20};
+    const uint64_t above[3] = {0, 10, UINT64_C(1) << 62};
+    const uint32_t high[] = {27, 28, 255, 256, 256 + 4, 65536, UINT32_C(1) << 31, UINT32_MAX};
+    const uint8_t none[] = {0, 27, 28, 128, 255};
+    uint8_t record[50], twice[54];
+    size_t i;
+
+    for (i = 0; i < sizeof high / sizeof high[0]; i++) {
+        refuse_writing(48000, high[i], sound, 3, 3, 200, 21, 0, "writing, side above 26");
+        refuse_writing(48001, high[i], sound, 3, 3, 200, 1, 0, "writing, rate before side");
+        refuse_writing(48000, high[i], sound, 3, 2, 200, 21, 0, "writing, side before ratios");
+        refuse_writing(48000, high[i], above, 3, 3, 200, 21, 0, "writing, side before positions");
+        refuse_writing(48000, high[i], sound, 3, 3, 0, 21, 0, "writing, side before output");
+    }
+    refuse_writing(48000, 26, sound, 3, 2, 200, 2, 0, "writing, last side, a ratio missing");
+    refuse_writing(48000, 1, sound, 3, 3, 40, 6, 0, "writing, a side, short output");
+
+    for (i = 0; i < sizeof none / sizeof none[0]; i++) {
+        put_side(record, none[i]);
+        refuse_reading(0, record, 50, 8, 20, 7, "reading, no side");
+        refuse_reading(0, record, 11, 8, 20, 7, "reading, no side, at the end of the bytes");
+        refuse_reading(44100, record, 50, 8, 14, 0, "reading, expected rate before side");
+        record[14] = 0xFF;
+        refuse_reading(0, record, 50, 0, 20, 7, "reading, side before count and output");
+        record[6] = 1;
+        refuse_reading(0, record, 50, 8, 13, 0, "reading, rate before side");
+    }
+    put_side(record, 4);
+    for (i = 7; i < 11; i++) {
+        refuse_reading(0, record, i, 8, 10, 7, "reading, side cut");
+    }
+    for (i = 11; i < 16; i++) {
+        refuse_reading(0, record, i, 8, 10, 11, "reading, count cut behind a side");
+    }
+    refuse_reading(0, record, 16, 8, 10, 16, "reading, positions cut behind a side");
+    refuse_reading(0, record, 49, 8, 10, 36, "reading, ratios cut behind a side");
+    refuse_reading(0, record, 50, 2, 16, 11, "reading, short output behind a side");
+    record[14] = 0x10;
+    refuse_reading(0, record, 50, 8, 15, 11, "reading, count too large behind a side");
+    put_side(record, 4);
+    record[11] = 3;
+    refuse_reading(0, record, 50, 8, 11, 11, "reading, wrong tag behind a side");
+    put_side(record, 4);
+    record[35] = 1;
+    refuse_reading(0, record, 50, 8, 17, 16, "reading, a fill bit behind a side");
+    put_side(record, 4);
+    record[49] = 2;
+    refuse_reading(0, record, 50, 8, 18, 36, "reading, no such place behind a side");
+    for (i = 0; i < 256; i++) {
+        put_side(record, 4);
+        record[9] = (uint8_t)i;
+        if (i != 1) {
+            refuse_reading(0, record, 50, 8, 12, 7, "reading, length of a side");
+            refuse_reading(0, record, 10, 8, 12, 7, "reading, length of a side before its body");
+        }
+        put_side(record, 4);
+        record[7] = (uint8_t)i;
+        if (i != 2 && i != 6) {
+            refuse_reading(0, record, 50, 8, 11, 7, "reading, neither side nor count");
+        }
+    }
+
+    /* A second side, and one before the rate or after the count. */
+    put_side(record, 4);
+    memcpy(twice, record, 11);
+    memcpy(twice + 11, record + 7, 43);
+    refuse_reading(0, twice, 54, 8, 11, 11, "reading, a second side");
+    refuse_reading(0, record + 7, 43, 8, 11, 0, "reading, a side before the rate");
+    memcpy(twice, example, 12);
+    memcpy(twice + 12, record + 7, 4);
+    memcpy(twice + 16, example + 12, 34);
+    refuse_reading(0, twice, 50, 8, 11, 12, "reading, a side after the count");
 }
 
 static void check_refusals(void)
@@ -360,15 +515,15 @@ static void check_refusals(void)
     farigolenc_cursor_answer making;
     farigolenc_read_answer read;
 
-    refuse_writing(0, sound, 3, 3, 200, 1, 0, "writing, unlisted rate");
-    refuse_writing(48000, sound, 3, 2, 200, 2, 0, "writing, a ratio missing");
-    refuse_writing(48000, above, 3, 3, 200, 4, 2, "writing, large position");
-    refuse_writing(48000, far, 3, 3, 200, 5, 2, "writing, large step");
-    refuse_writing(48000, sound, 3, 3, 40, 6, 0, "writing, short output");
-    refuse_writing(48000, sound, 3, 3, 0, 6, 0, "writing, no output");
+    refuse_writing(0, 0, sound, 3, 3, 200, 1, 0, "writing, unlisted rate");
+    refuse_writing(48000, 0, sound, 3, 2, 200, 2, 0, "writing, a ratio missing");
+    refuse_writing(48000, 0, above, 3, 3, 200, 4, 2, "writing, large position");
+    refuse_writing(48000, 0, far, 3, 3, 200, 5, 2, "writing, large step");
+    refuse_writing(48000, 0, sound, 3, 3, 40, 6, 0, "writing, short output");
+    refuse_writing(48000, 0, sound, 3, 3, 0, 6, 0, "writing, no output");
 
     refuse_reading(0, example, 0, 8, 10, 0, "reading nothing");
-    refuse_reading(0, example, 45, 8, 10, 32, "reading, field 4 cut");
+    refuse_reading(0, example, 45, 8, 10, 32, "reading, ratios cut");
     refuse_reading(44100, example, 46, 8, 14, 0, "reading, another rate expected");
     refuse_reading(0, example, 46, 2, 16, 7, "reading, short output");
     memcpy(damaged, example, 46);
@@ -389,7 +544,7 @@ static void check_refusals(void)
     memset(positions, DIRT, sizeof positions);
     memset(ratios, DIRT, sizeof ratios);
     read = farigolenc_read_open(0, damaged, 46, positions, 4, ratios, 4);
-    check(read.number == 0 && read.used == 46, "open reading of another place");
+    check(read.number == 0 && read.side == 0 && read.used == 46, "open reading of another place");
     read = farigolenc_read_strict(0, damaged, 46, positions, 4, ratios, 4);
     check(read.number == 18 && read.place == 32, "strict reading of another place");
     check(all_are(positions, sizeof positions, 0) && all_are(ratios, sizeof ratios, 0),
@@ -423,10 +578,12 @@ int main(void)
 {
     check_example();
     check_run();
+    check_sides();
     check_kinds();
     check_spans();
     check_reasons();
     check_refusals();
+    check_side_refusals();
     if (differences != 0) {
         return 1;
     }

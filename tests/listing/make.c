@@ -1,8 +1,8 @@
-/* Inputs for the test of the listing program that are too long to be stored.
-   record      the largest record, 55,321 bytes: positions 0, 5000, 0, .., whose steps are 10000 and -10000, and ratios of which each is an
-               exception: i % 128 in the top byte and in the lowest
-   text        its listing
-   stated N    two good fields, the head of a third with the stated length N, and zeros, 60,000 bytes in all */
+/* Inputs for the test of the listing program that are too long to be stored. SIDE is 0 for none.
+   record SIDE      the largest record, 55,321 bytes and with a side 55,325: positions 0, 5000, 0, .., whose steps are 10000 and -10000, and
+                    ratios of which each is an exception: i % 128 in the top byte and in the lowest
+   text SIDE        its listing
+   stated SIDE N    good fields up to the count, the head of the positions with the stated length N, and zeros, 60,000 bytes in all */
 #include <stdio.h>
 #include <stdlib.h>
 #include <string.h>
@@ -35,15 +35,19 @@ static unsigned long long position(int i) { return i % 2 * 5000; }
 
 static unsigned long long ratio(int i) { return i % 128 * ((1ULL << 56) + 1); }
 
-static void front(int points) {
+static void front(int side, int points) {
     head(1, 4);
     number(RATE, 4);
+    if (side) {
+        head(6, 1);
+        number(side, 1);
+    }
     head(2, 2);
     number(points, 2);
 }
 
-static void record(void) {
-    front(POINTS);
+static void record(int side) {
+    front(side, POINTS);
     head(3, 18439);
     bits(position(0), 64);
     bits(position(1), 64);
@@ -58,21 +62,23 @@ static void record(void) {
     }
 }
 
-static void text(void) {
-    printf("rate %d\ncount %d\nspan %d\n", RATE, POINTS, 5000 * 1000 / RATE);
+static void text(int side) {
+    printf("rate %d\n", RATE);
+    if (side) printf("side %d\n", side);
+    printf("count %d\nspan %d\n", POINTS, 5000 * 1000 / RATE);
     for (int i = 0; i < POINTS; i++) printf("%llu %016llx\n", position(i), ratio(i));
 }
 
-static void stated(int n) {
-    front(3);
+static void stated(int side, int n) {
+    front(side, 3);
     head(3, n);
-    for (int i = 15; i < 60000; i++) putchar(0);
+    for (int i = side ? 19 : 15; i < 60000; i++) putchar(0);
 }
 
 int main(int n, char **words) {
-    if (n == 2 && !strcmp(words[1], "record")) record();
-    else if (n == 2 && !strcmp(words[1], "text")) text();
-    else if (n == 3 && !strcmp(words[1], "stated")) stated(atoi(words[2]));
+    if (n == 3 && !strcmp(words[1], "record")) record(atoi(words[2]));
+    else if (n == 3 && !strcmp(words[1], "text")) text(atoi(words[2]));
+    else if (n == 4 && !strcmp(words[1], "stated")) stated(atoi(words[2]), atoi(words[3]));
     else return 1;
     return 0;
 }

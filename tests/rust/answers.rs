@@ -19,6 +19,7 @@ pub struct Reading {
     pub number: u32,
     pub place: u32,
     pub rate: u32,
+    pub side: u32,
     pub count: u32,
     pub used: u64,
 }

@@ -29,11 +29,12 @@ struct Test {
     trace: bool,
     random: Random,
     cases: u64,
-    /// How often each call returned each number, and explain each reason, place and sum.
+    /// How often each call returned each number, reading each side and some numbers at each place,
+    /// and explain each reason, place and sum.
     numbers: BTreeMap<(&'static str, u32), u64>,
 }
 
-type Write = fn(u32, &[u64], &[u64], &mut [u8]) -> Written;
+type Write = fn(u32, u32, &[u64], &[u64], &mut [u8]) -> Written;
 type Read = fn(u32, &[u8], &mut [u64], &mut [u64]) -> Reading;
 type Add = fn(&mut Live, u64, &mut [u8]) -> Written;
 
@@ -83,31 +84,40 @@ impl Test {
         expected
     }
 
-    fn write(&mut self, rate: u32, positions: &[u64], ratios: &[u64], room: usize) {
+    fn write(
+        &mut self,
+        rate: u32,
+        side: u32,
+        positions: &[u64],
+        ratios: &[u64],
+        room: usize,
+    ) -> Written {
         let memory = self.random.memory::<u8>(room);
-        self.case::<Write, _>(
+        let (written, _) = self.case::<Write, _>(
             "write",
             || {
                 let run = format!("positions {positions:x?} ratios {ratios:x?}");
-                format!("rate {rate:x} {run} room {room} memory {}", hex(&memory))
+                let memory = hex(&memory);
+                format!("rate {rate:x} side {side:x} {run} room {room} memory {memory}")
             },
             |write| {
                 let mut memory = memory.clone();
-                let written = write(rate, positions, ratios, lent(&mut memory));
+                let written = write(rate, side, positions, ratios, lent(&mut memory));
                 (written, memory)
             },
             [reference::write, library::write],
             |outcome| outcome.0.number,
         );
+        written
     }
 
     /// Reads strictly and openly.
     fn read(&mut self, expected: u32, record: &[u8], rooms: [usize; 2]) {
         let strict: [Read; 2] = [reference::read_strict, library::read_strict];
         let open: [Read; 2] = [reference::read_open, library::read_open];
-        for (call, sides) in [("read_strict", strict), ("read_open", open)] {
+        for (call, both) in [("read_strict", strict), ("read_open", open)] {
             let memory = rooms.map(|room| self.random.memory::<u64>(room));
-            self.case(
+            let (reading, ..) = self.case(
                 call,
                 || {
                     let outputs = format!("rooms {rooms:?} memory {memory:x?}");
@@ -118,9 +128,20 @@ impl Test {
                     let reading = read(expected, record, lent(&mut positions), lent(&mut ratios));
                     (reading, positions, ratios)
                 },
-                sides,
+                both,
                 |outcome| outcome.0.number,
             );
+            let mut seen = |what, number| *self.numbers.entry((what, number)).or_default() += 1;
+            match reading.number {
+                0 => seen("reading, side", reading.side),
+                11 => seen("reading, place of 11", reading.place),
+                12 => seen("reading, place of 12", reading.place),
+                15 => seen("reading, place of 15", reading.place),
+                16 => seen("reading, place of 16", reading.place),
+                17 => seen("reading, place of 17", reading.place),
+                20 => seen("reading, place of 20", reading.place),
+                _ => {}
+            }
         }
     }
 
@@ -242,7 +263,7 @@ impl Test {
         let long = length + 1 + self.random.below(20);
         let short = self.random.below(length);
         for room in [length, length - 1, long, short, 0] {
-            self.write(run.rate, &run.positions, &run.ratios, room);
+            self.write(run.rate, run.side, &run.positions, &run.ratios, room);
         }
         self.read(0, &record, [count, count]);
         self.read(run.rate, &record, [count + 3, count + 1]);
@@ -252,7 +273,8 @@ impl Test {
     /// Reads with some expected rate and some room, and with bytes after the record.
     fn read_in_many_ways(&mut self, record: &[u8], run: &Run) {
         let random = &mut self.random;
-        let stated = record.get(10..12).map_or(0, |bytes| {
+        let count_at = if record.get(7) == Some(&SIDE) { 14 } else { 10 };
+        let stated = record.get(count_at..count_at + 2).map_or(0, |bytes| {
             usize::from(u16::from_be_bytes([bytes[0], bytes[1]]))
         });
         let mut count = run.ratios.len();
@@ -291,20 +313,20 @@ impl Test {
     }
 
     fn spoiled_writes(&mut self, run: &Run) {
-        for _ in 0..6 {
+        for _ in 0..7 {
             let mut run = run.clone();
             for _ in 0..1 + self.random.below(3) {
                 run.spoil(&mut self.random);
             }
-            let room = 18 + 18 * run.ratios.len();
+            let room = 22 + 18 * run.ratios.len();
             let room = self.random.pick(&[room, room, room / 2, 0]);
-            self.write(run.rate, &run.positions, &run.ratios, room);
+            self.write(run.rate, run.side, &run.positions, &run.ratios, room);
         }
     }
 
     fn spoiled_reads(&mut self, run: &Run) {
         let fields = Fields::split(&run.record());
-        for _ in 0..12 {
+        for _ in 0..15 {
             let mut fields = fields.clone();
             for _ in 0..1 + self.random.below(3) {
                 fields.spoil(&mut self.random, run.ratios.len());
@@ -346,7 +368,7 @@ impl Test {
         let random = &mut self.random;
         let run = Run::short(random, count);
         let mut fields = Fields::split(&run.record());
-        fields.set_body(2, positions_body(random, count));
+        fields.set_body(POSITIONS, positions_body(random, count));
         let record = fields.join();
         self.read(0, &record, [count, count]);
 
@@ -359,7 +381,7 @@ impl Test {
             chosen_body(random, &run.ratios, wrong)
         };
         let mut fields = Fields::split(&run.record());
-        fields.set_body(3, body.clone());
+        fields.set_body(RATIOS, body.clone());
         let record = fields.join();
         self.read(0, &record, [count, count + 1]);
         self.step_through(&body, count);
@@ -434,7 +456,7 @@ impl Test {
         }
     }
 
-    /// Adds ratios one by one; the bytes joined must be those of field 4.
+    /// Adds ratios one by one; the bytes joined must be those of the ratios' field.
     fn live_run(&mut self, run: &Run) {
         let mut state = self.live_new();
         let mut joined = Vec::new();
@@ -457,9 +479,9 @@ impl Test {
             state = after;
             joined.extend(bytes);
         }
-        if joined != Fields::split(&run.record()).0[3].2 {
+        if joined != Fields::split(&run.record()).body(RATIOS) {
             println!(
-                "live additions do not join to field 4\nratios {:x?}",
+                "live additions do not join to the ratios' field\nratios {:x?}",
                 run.ratios
             );
             exit(1);
@@ -644,10 +666,11 @@ impl Test {
         let longer = [ratios, ratios, &[0, 1]].concat();
         let ratios = &longer[..count];
         let (positions, mut record) = (vec![0; count], vec![0; LONGEST_RECORD]);
-        let written = library::write(48_000, &positions, ratios, &mut record);
+        let side = any_side(&mut self.random);
+        let written = library::write(48_000, side, &positions, ratios, &mut record);
         assert_eq!(written.number, 0, "the test made a run that is refused");
         let fields = Fields::split(&record[..written.length as usize]);
-        let mut rest = &fields.0[3].2[..];
+        let mut rest = fields.body(RATIOS);
         for index in 0..count {
             let explained = self.explain(ratios, index as u64);
             let form = form_named(ratios, index, explained);
@@ -736,13 +759,158 @@ impl Test {
         self.explain_too_many();
     }
 
+    /// Writes a run with every side, and with sides above the last.
+    fn write_sides(&mut self, run: &Run) {
+        let mut run = run.clone();
+        for side in (0..=LAST_SIDE).chain(HIGH_SIDES) {
+            run.side = side.min(LAST_SIDE);
+            let length = run.record().len();
+            for room in [length, length - 1] {
+                self.write(run.rate, side, &run.positions, &run.ratios, room);
+            }
+            if side <= LAST_SIDE {
+                let count = run.ratios.len();
+                self.read(0, &run.record(), [count, count]);
+            }
+        }
+    }
+
+    /// Runs that break any of the writer's tests, and several at once: the first in the order of
+    /// the tests counts.
+    fn tests_of_writing(&mut self) {
+        for broken in 0..1 << 7 {
+            let breaks = |test: usize| broken >> test & 1 == 1;
+            let count = if breaks(3) { MOST_POINTS + 1 } else { 5 };
+            let rate = if breaks(0) { 48_001 } else { 48_000 };
+            let side = if breaks(1) {
+                self.random.pick(&HIGH_SIDES)
+            } else {
+                any_side(&mut self.random)
+            };
+            let mut positions = vec![7; count];
+            let ratios = vec![1; count - usize::from(breaks(2))];
+            if breaks(4) {
+                positions[3] = LAST_POSITION + 1;
+            }
+            if breaks(5) {
+                positions[2] = 1 << 40;
+            }
+            let room = if breaks(6) { 17 } else { 60_000 };
+            let written = self.write(rate, side, &positions, &ratios, room);
+            let first = (0..7).find(|&test| breaks(test));
+            let wanted = first.map_or(0, |test| [1, 21, 2, 3, 4, 5, 6][test]);
+            assert_eq!(written.number, wanted, "another order of the tests");
+        }
+    }
+
+    /// Sets each byte of the side's field to every value.
+    fn damage_side(&mut self, run: &Run) {
+        let run = Run {
+            side: 4,
+            ..run.clone()
+        };
+        let (record, count) = (run.record(), run.ratios.len());
+        for at in 7..11 {
+            for value in 0..=255 {
+                let mut record = record.clone();
+                record[at] = value;
+                self.read(0, &record, [count, count]);
+            }
+        }
+    }
+
+    /// Fields of a side, sound and not, in the place of one and in others.
+    fn side_fields(&mut self, run: &Run) {
+        let sound = Run {
+            side: 0,
+            ..run.clone()
+        };
+        let (fields, count) = (Fields::split(&sound.record()), run.ratios.len());
+        let sides: [(u8, u16, &[u8]); 15] = [
+            (SIDE, 1, &[1]),
+            (SIDE, 1, &[4]),
+            (SIDE, 1, &[26]),
+            (SIDE, 1, &[0]),
+            (SIDE, 1, &[27]),
+            (SIDE, 1, &[255]),
+            (SIDE, 1, &[]),
+            (SIDE, 0, &[]),
+            (SIDE, 0, &[4]),
+            (SIDE, 2, &[4, 4]),
+            (SIDE, 3, &[0, 0, 4]),
+            (SIDE, 257, &[4]),
+            (SIDE, 65_535, &[4]),
+            (5, 1, &[4]),
+            (7, 1, &[4]),
+        ];
+        let sides = sides.map(|(tag, length, body)| (tag, length, body.to_vec()));
+        for side in &sides {
+            // In every place, and with a sound one beside it; then cut within the fields in front.
+            for at in 0..=fields.0.len() {
+                let mut one = fields.clone();
+                one.0.insert(at, side.clone());
+                self.read(0, &one.join(), [count, count]);
+                for first in [1, at] {
+                    let mut two = one.clone();
+                    two.0.insert(first, sides[1].clone());
+                    self.read(0, &two.join(), [count, count]);
+                }
+            }
+            let mut one = fields.clone();
+            one.0.insert(1, side.clone());
+            let record = one.join();
+            for cut in 7..19.min(record.len()) {
+                self.read(0, &record[..cut], [count, count]);
+            }
+        }
+        // Beside faults of the rate before it and of the count after it, and with too little room.
+        let above = (MOST_POINTS as u16 + 1).to_be_bytes().to_vec();
+        let good = (count as u16).to_be_bytes().to_vec();
+        let counts = [
+            (COUNT, 2, good.clone()),
+            (COUNT, 2, above),
+            (COUNT, 3, good.clone()),
+            (COUNT, 2, Vec::new()),
+            (POSITIONS, 2, good),
+        ];
+        for side in sides {
+            for stated in &counts {
+                for rate in [run.rate, 48_001] {
+                    let mut fields = fields.clone();
+                    fields.set_body(RATE, rate.to_be_bytes().to_vec());
+                    fields.0[1] = stated.clone();
+                    fields.0.insert(1, side.clone());
+                    let record = fields.join();
+                    for expected in [0, rate, rate ^ 1] {
+                        let rooms = [[count, count], [count - 1, count], [count, 0]];
+                        for rooms in rooms {
+                            self.read(expected, &record, rooms);
+                        }
+                    }
+                }
+            }
+        }
+    }
+
+    /// The side of the disc.
+    fn sides(&mut self) {
+        self.tests_of_writing();
+        for count in [0, 1, 3] {
+            let run = Run::short(&mut self.random, count);
+            self.write_sides(&run);
+            self.damage_side(&run);
+        }
+        let run = Run::short(&mut self.random, 2);
+        self.side_fields(&run);
+    }
+
     /// The steps and ratios that document 01 lists.
     fn document_cases(&mut self) {
         let start = 1_u64 << 40;
         let beyond = [MOST_STEP + 1, LEAST_STEP - 1];
         for step in EDGE_STEPS.into_iter().chain(beyond) {
             let positions = [start, start, start.wrapping_add_signed(step)];
-            self.write(96_000, &positions, &[1, 2, 3], 100);
+            self.write(96_000, 0, &positions, &[1, 2, 3], 100);
         }
         let pairs: [&[u64]; 6] = [
             &[0xC01A_6666_6666_6666, 0xC00E_6666_6666_6666],
@@ -753,22 +921,28 @@ impl Test {
             &[0, 1 << 63],
         ];
         for ratios in pairs {
-            let run = Run {
-                rate: 44_100,
-                positions: any_positions(&mut self.random, ratios.len()),
-                ratios: ratios.to_vec(),
-            };
-            self.write_and_read(&run);
-            self.damage_everywhere(&run, 20, 1);
+            for side in [0, 7] {
+                let run = Run {
+                    rate: 44_100,
+                    side,
+                    positions: any_positions(&mut self.random, ratios.len()),
+                    ratios: ratios.to_vec(),
+                };
+                self.write_and_read(&run);
+                self.damage_everywhere(&run, 20, 1);
+            }
         }
-        let listing = Run {
-            rate: 96_000,
-            positions: vec![0, 960, 1_920],
-            ratios: vec![0x3fe0 << 48; 3],
-        };
-        self.write_and_read(&listing);
-        self.cut_everywhere(&listing);
-        self.damage_everywhere(&listing, 20, 1);
+        for side in [0, 4, LAST_SIDE] {
+            let listing = Run {
+                rate: 96_000,
+                side,
+                positions: vec![0, 960, 1_920],
+                ratios: vec![0x3fe0 << 48; 3],
+            };
+            self.write_and_read(&listing);
+            self.cut_everywhere(&listing);
+            self.damage_everywhere(&listing, 20, 1);
+        }
         for count in [0, 1, 4_095, 4_096, 4_097, 1 << 32, u64::MAX] {
             let cursor = self.cursor_new(count);
             self.step(&[], cursor);
@@ -784,7 +958,7 @@ impl Test {
         self.span(run.rate, &run.positions);
         let record = run.record();
         let fields = Fields::split(&record);
-        self.step_through(&fields.0[3].2, MOST_POINTS);
+        self.step_through(fields.body(RATIOS), MOST_POINTS);
         for _ in 0..6 {
             let mut record = record.clone();
             let at = self.random.below(record.len());
@@ -795,11 +969,12 @@ impl Test {
         }
         let mut longer = run.clone();
         longer.positions.push(longer.positions[MOST_POINTS - 1]);
-        self.write(run.rate, &longer.positions, &run.ratios, 60_000);
+        let (rate, side) = (run.rate, run.side);
+        self.write(rate, side, &longer.positions, &run.ratios, 60_000);
         longer.ratios.push(1);
-        self.write(run.rate, &longer.positions, &longer.ratios, 60_000);
+        self.write(rate, side, &longer.positions, &longer.ratios, 60_000);
         let shorter = &longer.positions[..MOST_POINTS - 1];
-        self.write(run.rate, shorter, &run.ratios[1..], LONGEST_RECORD);
+        self.write(rate, side, shorter, &run.ratios[1..], LONGEST_RECORD);
         self.spoiled_writes(&run);
         self.made_bodies(MOST_POINTS);
         self.explain_everywhere(&run.ratios);
@@ -813,34 +988,35 @@ impl Test {
             body.extend([128, 8]);
             body.extend(self.random.bytes(8));
         }
-        let positions = (0..MOST_POINTS as u64).map(|n| n % 2 << 29).collect();
-        let ratios = vec![0; MOST_POINTS];
-        let run = Run {
-            rate: 48_000,
-            positions,
-            ratios,
-        };
-        let mut fields = Fields::split(&run.record());
-        fields.set_body(3, body);
-        let record = fields.join();
-        assert_eq!(record.len(), 59_416);
-        self.read(48_000, &record, [MOST_POINTS, MOST_POINTS]);
-        self.read(0, &record[..LONGEST_RECORD], [MOST_POINTS, MOST_POINTS]);
+        for (side, length) in [(0, 59_416), (LAST_SIDE, 59_420)] {
+            let run = Run {
+                rate: 48_000,
+                side,
+                positions: (0..MOST_POINTS as u64).map(|n| n % 2 << 29).collect(),
+                ratios: vec![0; MOST_POINTS],
+            };
+            let mut fields = Fields::split(&run.record());
+            fields.set_body(RATIOS, body.clone());
+            let record = fields.join();
+            assert_eq!(record.len(), length);
+            self.read(48_000, &record, [MOST_POINTS, MOST_POINTS]);
+            self.read(0, &record[..LONGEST_RECORD], [MOST_POINTS, MOST_POINTS]);
+        }
     }
 
-    /// Fields 3 and 4 with the greatest length that can be stated.
+    /// Positions' and ratios' fields with the greatest length that can be stated.
     fn longest_fields(&mut self) {
         for count in [0, 1, 3, 4_096] {
             let zeros = vec![0; 65_535];
-            let long = Fields::new(48_000, count, zeros.clone(), Vec::new()).join();
-            self.read(0, &long, [MOST_POINTS, MOST_POINTS]);
-            self.read(0, &long[..long.len() - 4], [MOST_POINTS, MOST_POINTS]);
+            for side in [0, 4] {
+                let long = Fields::new(48_000, side, count, zeros.clone(), Vec::new()).join();
+                self.read(0, &long, [MOST_POINTS, MOST_POINTS]);
+                self.read(0, &long[..long.len() - 4], [MOST_POINTS, MOST_POINTS]);
+            }
             let run = Run::short(&mut self.random, usize::from(count));
             let mut fields = Fields::split(&run.record());
-            fields.set_body(
-                3,
-                [fields.0[3].2.clone(), zeros].concat()[..65_535].to_vec(),
-            );
+            let body = [fields.body(RATIOS), &zeros].concat()[..65_535].to_vec();
+            fields.set_body(RATIOS, body);
             let long = fields.join();
             self.read(0, &long, [MOST_POINTS, MOST_POINTS]);
             self.read(0, &long[..long.len() - 1], [MOST_POINTS, MOST_POINTS]);
@@ -860,13 +1036,13 @@ impl Test {
             self.spoiled_writes(&run);
             self.spoiled_reads(&run);
         }
-        for _ in 0..150 {
+        for _ in 0..300 {
             let count = self.random.below(10);
             let run = Run::short(&mut self.random, count);
             self.cut_everywhere(&run);
             self.damage_everywhere(&run, 4, 1);
         }
-        for _ in 0..8 {
+        for _ in 0..16 {
             let count = 120 + self.random.below(40);
             let run = Run::short(&mut self.random, count);
             self.damage_everywhere(&run, 1, 3);
@@ -883,7 +1059,7 @@ impl Test {
             let run = Run::any(&mut self.random);
             self.live_run(&run);
             let fields = Fields::split(&run.record());
-            let body = &fields.0[3].2;
+            let body = fields.body(RATIOS);
             self.step_through(body, run.ratios.len());
             if body.len() < 200 {
                 self.step_everywhere(body);
@@ -894,17 +1070,27 @@ impl Test {
         }
         self.longest_open_record();
         self.longest_fields();
+        self.sides();
         self.explains();
     }
 
-    /// Prints how often each call returned each number, and explain each reason, places at the
-    /// window's ends, and each sum; each must have come up.
+    /// Prints how often each call returned each number, reading each side and the places that a
+    /// side moves, and explain each reason, places at the window's ends, and each sum; each must
+    /// have come up.
     fn report(&self) {
-        let reading = &[0, 10, 11, 12, 13, 14, 15, 16, 17, 18][..];
-        let calls: [(_, &[u32]); 14] = [
-            ("write", &[0, 1, 2, 3, 4, 5, 6]),
+        let reading = &[0, 10, 11, 12, 13, 14, 15, 16, 17, 18, 20][..];
+        let sides: Vec<u32> = (0..=LAST_SIDE).collect();
+        let calls: [(_, &[u32]); 21] = [
+            ("write", &[0, 1, 2, 3, 4, 5, 6, 21]),
             ("read_strict", reading),
             ("read_open", reading),
+            ("reading, side", &sides),
+            ("reading, place of 11", &[0, 7, 11, 12, 16]),
+            ("reading, place of 12", &[0, 7, 11]),
+            ("reading, place of 15", &[7, 11]),
+            ("reading, place of 16", &[7, 11]),
+            ("reading, place of 17", &[12, 16]),
+            ("reading, place of 20", &[7]),
             ("span", &[0, 1, 3, 4]),
             ("live_new", &[0]),
             ("live_add", &[0, 3, 6, 7]),

@@ -6,7 +6,24 @@ use crate::reference;
 pub const RATES: [u32; 6] = [44_100, 48_000, 88_200, 96_000, 176_400, 192_000];
 pub const MOST_POINTS: usize = 4_096;
 pub const LAST_POSITION: u64 = (1 << 62) - 1;
-pub const LONGEST_RECORD: usize = 55_321;
+pub const LONGEST_RECORD: usize = 55_325;
+pub const LAST_SIDE: u32 = 26;
+/// Sides above the last: next to it, at bounds of a byte and of a number, and such as have a good
+/// side in the low bits.
+pub const HIGH_SIDES: [u32; 12] = [
+    27,
+    28,
+    31,
+    127,
+    128,
+    255,
+    256,
+    256 + 4,
+    65_536 + 26,
+    1 << 31,
+    (1 << 31) + 1,
+    u32::MAX,
+];
 /// Cells on each side of an output that no call may touch.
 pub const GUARD: usize = 9;
 
@@ -266,6 +283,12 @@ pub fn unlisted_rate(random: &mut Random) -> u32 {
     random.pick(&choices)
 }
 
+/// A side that the writer accepts, in half of all cases none.
+pub fn any_side(random: &mut Random) -> u32 {
+    let any = 1 + random.below(LAST_SIDE as usize) as u32;
+    random.pick(&[0, 0, 0, 0, 1, LAST_SIDE, any, any])
+}
+
 /// A number near another, at a bound, or too large, also with the same low bits.
 pub fn other_number(random: &mut Random, near: u64) -> u64 {
     let (more, less) = (near.wrapping_add(1), near.wrapping_sub(1));
@@ -279,6 +302,7 @@ pub fn other_number(random: &mut Random, near: u64) -> u64 {
 #[derive(Clone)]
 pub struct Run {
     pub rate: u32,
+    pub side: u32,
     pub positions: Vec<u64>,
     pub ratios: Vec<u64>,
 }
@@ -287,6 +311,7 @@ impl Run {
     pub fn new(random: &mut Random, kind: usize, count: usize) -> Run {
         Run {
             rate: random.pick(&RATES),
+            side: any_side(random),
             positions: any_positions(random, count),
             ratios: Ratios::list(random, kind, count),
         }
@@ -309,7 +334,8 @@ impl Run {
     /// The record, which the reference writes.
     pub fn record(&self) -> Vec<u8> {
         let mut out = vec![0; LONGEST_RECORD];
-        let written = reference::write(self.rate, &self.positions, &self.ratios, &mut out);
+        let (positions, ratios) = (&self.positions, &self.ratios);
+        let written = reference::write(self.rate, self.side, positions, ratios, &mut out);
         assert_eq!(written.number, 0, "the test made a run that is refused");
         out.truncate(written.length as usize);
         out
@@ -318,20 +344,21 @@ impl Run {
     /// Breaks one of the writer's tests, or several when called again.
     pub fn spoil(&mut self, random: &mut Random) {
         let count = self.positions.len();
-        match random.below(6) {
+        match random.below(7) {
             0 => self.rate = unlisted_rate(random),
-            1 if random.one_in(2) => self.ratios.push(random.bits()),
-            1 => {
+            1 => self.side = random.pick(&HIGH_SIDES),
+            2 if random.one_in(2) => self.ratios.push(random.bits()),
+            2 => {
                 self.ratios.pop();
             }
-            2 if random.one_in(8) => {
+            3 if random.one_in(8) => {
                 let length = MOST_POINTS + 1 + random.below(3);
                 self.positions.resize(length, 0);
                 if random.one_in(4) {
                     self.ratios.resize(length, 0);
                 }
             }
-            2 | 3 if count > 0 => {
+            3 | 4 if count > 0 => {
                 let any = LAST_POSITION + random.bits() / 2;
                 let choices = [LAST_POSITION + 1, u64::MAX, 1 << 63, any, LAST_POSITION];
                 self.positions[random.below(count)] = random.pick(&choices);
@@ -350,20 +377,30 @@ impl Run {
     }
 }
 
-/// The four fields of a record, each with a tag, a stated length and a body.
+// The tags of the fields.
+pub const RATE: u8 = 1;
+pub const COUNT: u8 = 2;
+pub const POSITIONS: u8 = 3;
+pub const RATIOS: u8 = 4;
+pub const SIDE: u8 = 6;
+
+/// The fields of a record, each with a tag, a stated length and a body.
 #[derive(Clone)]
 pub struct Fields(pub Vec<(u8, u16, Vec<u8>)>);
 
 impl Fields {
-    pub fn new(rate: u32, count: u16, positions: Vec<u8>, ratios: Vec<u8>) -> Fields {
-        let bodies = [
-            rate.to_be_bytes().to_vec(),
-            count.to_be_bytes().to_vec(),
-            positions,
-            ratios,
+    pub fn new(rate: u32, side: u8, count: u16, positions: Vec<u8>, ratios: Vec<u8>) -> Fields {
+        let mut bodies = vec![
+            (RATE, rate.to_be_bytes().to_vec()),
+            (COUNT, count.to_be_bytes().to_vec()),
+            (POSITIONS, positions),
+            (RATIOS, ratios),
         ];
-        let field = |(n, body): (usize, Vec<u8>)| (n as u8 + 1, body.len() as u16, body);
-        Fields(bodies.into_iter().enumerate().map(field).collect())
+        if side != 0 {
+            bodies.insert(1, (SIDE, vec![side]));
+        }
+        let field = |(tag, body): (u8, Vec<u8>)| (tag, body.len() as u16, body);
+        Fields(bodies.into_iter().map(field).collect())
     }
 
     pub fn split(record: &[u8]) -> Fields {
@@ -388,17 +425,29 @@ impl Fields {
         record
     }
 
-    pub fn set_body(&mut self, field: usize, body: Vec<u8>) {
-        let field = &mut self.0[field];
-        field.1 = body.len() as u16;
-        field.2 = body;
+    /// Where the first field with a tag stands.
+    pub fn find(&self, tag: u8) -> Option<usize> {
+        self.0.iter().position(|field| field.0 == tag)
+    }
+
+    /// The body of the first field with a tag, or nothing where there is none.
+    pub fn body(&self, tag: u8) -> &[u8] {
+        self.find(tag).map_or(&[], |field| &self.0[field].2)
+    }
+
+    /// Gives the first field with a tag another body, where there is such a field.
+    pub fn set_body(&mut self, tag: u8, body: Vec<u8>) {
+        if let Some(field) = self.find(tag) {
+            self.0[field].1 = body.len() as u16;
+            self.0[field].2 = body;
+        }
     }
 
     /// Breaks one of the reader's tests, or several when called again.
     pub fn spoil(&mut self, random: &mut Random, count: usize) {
-        let chosen = random.below(4);
-        match random.below(12) {
-            0 => self.0[chosen].0 = random.pick(&[0, 1, 2, 3, 4, 5, 255]),
+        let chosen = random.below(self.0.len());
+        match random.below(15) {
+            0 => self.0[chosen].0 = random.pick(&[0, 1, 2, 3, 4, 5, 6, 6, 7, 255]),
             1 => {
                 let length = self.0[chosen].1;
                 let any = random.bits() as u16;
@@ -409,21 +458,42 @@ impl Fields {
                 let mut body = self.0[chosen].2.clone();
                 let length = random.pick(&[body.len() + 1, body.len() + 2, body.len() / 2]);
                 body.resize(length, random.pick(&[0, 0, 255]));
-                self.set_body(chosen, body);
+                self.0[chosen].1 = length as u16;
+                self.0[chosen].2 = body;
             }
-            3 => self.set_body(0, unlisted_rate(random).to_be_bytes().to_vec()),
-            4 => self.set_body(0, random.pick(&RATES).to_be_bytes().to_vec()),
+            3 => self.set_body(RATE, unlisted_rate(random).to_be_bytes().to_vec()),
+            4 => self.set_body(RATE, random.pick(&RATES).to_be_bytes().to_vec()),
             5 | 6 => {
                 let count = count as u16;
                 let choices = [count.wrapping_sub(1), count + 1, 0, 4_096, 4_097, 65_535];
-                self.set_body(1, random.pick(&choices).to_be_bytes().to_vec());
+                self.set_body(COUNT, random.pick(&choices).to_be_bytes().to_vec());
             }
-            7 => self.set_body(2, positions_body(random, count)),
-            8 => self.set_body(3, open_body(random, count, 30)),
+            7 => self.set_body(POSITIONS, positions_body(random, count)),
+            8 => self.set_body(RATIOS, open_body(random, count, 30)),
             9 => {
-                if let Some(last) = self.0[2].2.last_mut() {
+                let mut body = self.body(POSITIONS).to_vec();
+                if let Some(last) = body.last_mut() {
                     *last |= 1 << random.below(8);
                 }
+                self.set_body(POSITIONS, body);
+            }
+            10 => {
+                let any = random.bits() as u8;
+                self.set_body(SIDE, vec![random.pick(&[0, 1, 26, 27, 128, 255, any])]);
+            }
+            // A side in any place, a second one among them.
+            11 => {
+                let body = random.pick(&[&[4][..], &[0], &[27], &[], &[4, 4]]).to_vec();
+                let at = random.below(self.0.len() + 1);
+                self.0.insert(at, (SIDE, body.len() as u16, body));
+            }
+            // A field that is missing, or one that stands after the next.
+            12 if random.one_in(3) && self.0.len() > 1 => {
+                self.0.remove(chosen);
+            }
+            12 => {
+                let next = (chosen + 1) % self.0.len();
+                self.0.swap(chosen, next);
             }
             _ => {
                 let body = &mut self.0[chosen].2;

@@ -1,5 +1,6 @@
 //! Document 01's examples that are not proved as a table ("Bytes to compare", the rows without
-//! P), and the six doubles of source document 000, Table 2, run through the library.
+//! P), its record with and without a side, and the six doubles of source document 000, Table 2,
+//! run through the library.
 
 #[allow(dead_code)]
 mod answers;
@@ -16,7 +17,7 @@ const MIDDLE: u64 = 1 << 40;
 fn step(step: i64) -> Result<String, (u32, u32)> {
     let positions = [MIDDLE, MIDDLE, MIDDLE.wrapping_add_signed(step)];
     let mut out = [0xAA; 100];
-    let answer = library::write(48_000, &positions, &[0; 3], &mut out);
+    let answer = library::write(48_000, 0, &positions, &[0; 3], &mut out);
     if answer.number != 0 {
         return Err((answer.number, answer.place));
     }
@@ -27,14 +28,39 @@ fn step(step: i64) -> Result<String, (u32, u32)> {
         .collect())
 }
 
-/// The body of field 4 for some ratios.
+/// The body of the ratios' field for some ratios.
 fn body(ratios: &[u64]) -> Vec<u8> {
     let positions = vec![0; ratios.len()];
-    let mut out = vec![0xAA; 55_321];
-    let answer = library::write(48_000, &positions, ratios, &mut out);
+    let mut out = vec![0xAA; 55_325];
+    let answer = library::write(48_000, 0, &positions, ratios, &mut out);
     assert_eq!((answer.number, answer.place), (0, 0), "writing {ratios:x?}");
     let third = usize::from(u16::from_be_bytes([out[13], out[14]]));
     out[15 + third + 3..answer.length as usize].to_vec()
+}
+
+/// The record of the listing's example.
+const EXAMPLE: [u8; 46] = [
+    0x01, 0x00, 0x04, 0x00, 0x01, 0x77, 0x00, 0x02, 0x00, 0x02, 0x00, 0x03, 0x03, 0x00, 0x11, 0x00,
+    0x00, 0x00, 0x00, 0x00, 0x00, 0x00, 0x00, 0x00, 0x00, 0x00, 0x00, 0x00, 0x00, 0x03, 0xC0, 0x00,
+    0x04, 0x00, 0x0B, 0xFF, 0x3F, 0xE0, 0x00, 0x00, 0x00, 0x00, 0x00, 0x00, 0x00, 0x00,
+];
+
+/// What writing the example's run with a side gives, or the refusal's number and place.
+fn example(side: u32) -> Result<Vec<u8>, (u32, u32)> {
+    let mut out = [0xAA; 100];
+    let answer = library::write(96_000, side, &[0, 960, 1_920], &[0x3FE0 << 48; 3], &mut out);
+    if answer.number != 0 {
+        return Err((answer.number, answer.place));
+    }
+    Ok(out[..answer.length as usize].to_vec())
+}
+
+/// The side that a record is read with, strictly and openly.
+fn sides_read(record: &[u8]) -> [(u32, u32); 2] {
+    [library::read_strict, library::read_open].map(|read| {
+        let answer = read(96_000, record, &mut [0; 3], &mut [0; 3]);
+        (answer.number, answer.side)
+    })
 }
 
 /// Counts the examples, and says which differ.
@@ -80,6 +106,22 @@ fn main() {
     for number in [(1 << 31) + 1, -(1 << 31)] {
         tally.same(&format!("step {number}"), step(number), Err((5, 2)));
     }
+
+    // Side 0 has no field; every other stands in one of four bytes between the rate and the count.
+    tally.same("side 0", example(0), Ok(EXAMPLE.to_vec()));
+    tally.same("side 0, read", sides_read(&EXAMPLE), [(0, 0); 2]);
+    for side in 1..=26 {
+        let (rate, rest) = EXAMPLE.split_at(7);
+        let record = [rate, &[6, 0, 1, side], rest].concat();
+        let number = u32::from(side);
+        tally.same(
+            &format!("side {side}, read"),
+            sides_read(&record),
+            [(0, number); 2],
+        );
+        tally.same(&format!("side {side}"), example(number), Ok(record));
+    }
+    tally.same("side 27", example(27), Err((21, 0)));
 
     // A ratio that was last seen 127 places back, and one 128 back.
     for (back, last) in [(127, Some(0x7E)), (128, None)] {

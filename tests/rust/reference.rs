@@ -1,10 +1,12 @@
-//! Document 01, and of document 02 the call explain, written out plainly: every call with its whole
-//! answer and outputs. It is meant to be compared with the documents line by line, not to be fast.
+//! Document 01, and of document 02 the call explain (No. 1) and the side of the disc (No. 2),
+//! written out plainly: every call with its whole answer and outputs. It is meant to be compared
+//! with the documents line by line, not to be fast.
 
 use crate::answers::WINDOW;
 use crate::answers::{Cursor, Explained, Kind, Live, Making, Reading, Span, Stepped, Written};
 
 const RATES: [u32; 6] = [44_100, 48_000, 88_200, 96_000, 176_400, 192_000];
+const LAST_SIDE: u32 = 26;
 const MOST_POINTS: usize = 4_096;
 const LAST_POSITION: u64 = (1 << 62) - 1;
 
@@ -221,10 +223,13 @@ fn field(tag: u8, body: &[u8]) -> Vec<u8> {
     field
 }
 
-/// The record of a run, or the first refusal among 1 to 5.
-fn record(rate: u32, positions: &[u64], ratios: &[u64]) -> Result<Vec<u8>, Refusal> {
+/// The record of a run, or the first refusal among 1, 21 and 2 to 5.
+fn record(rate: u32, side: u32, positions: &[u64], ratios: &[u64]) -> Result<Vec<u8>, Refusal> {
     if !RATES.contains(&rate) {
         return refuse(1, 0);
+    }
+    if side > LAST_SIDE {
+        return refuse(21, 0);
     }
     if positions.len() != ratios.len() {
         return refuse(2, 0);
@@ -239,9 +244,14 @@ fn record(rate: u32, positions: &[u64], ratios: &[u64]) -> Result<Vec<u8>, Refus
     if let Some(index) = (2..positions.len()).find(outside) {
         return refuse(5, index);
     }
+    let side_field = match side {
+        0 => Vec::new(),
+        _ => field(6, &[side as u8]),
+    };
     let coded_positions = code_positions(positions).unwrap_or_default();
     Ok([
         field(1, &rate.to_be_bytes()),
+        side_field,
         field(2, &(positions.len() as u16).to_be_bytes()),
         field(3, &coded_positions),
         field(4, &code_ratios(ratios)),
@@ -277,8 +287,8 @@ fn put(bytes: Result<Vec<u8>, Refusal>, out: &mut [u8]) -> Written {
     }
 }
 
-pub fn write(rate: u32, positions: &[u64], ratios: &[u64], out: &mut [u8]) -> Written {
-    put(record(rate, positions, ratios), out)
+pub fn write(rate: u32, side: u32, positions: &[u64], ratios: &[u64], out: &mut [u8]) -> Written {
+    put(record(rate, side, positions, ratios), out)
 }
 
 // Reading
@@ -310,6 +320,7 @@ fn number(bytes: &[u8]) -> usize {
 /// What a good record holds.
 struct Run {
     rate: u32,
+    side: u32,
     positions: Vec<u64>,
     ratios: Vec<u64>,
     used: usize,
@@ -326,7 +337,17 @@ fn run(record: &[u8], expected: u32, room: usize, form: FormReader) -> Result<Ru
     if expected != 0 && expected != rate {
         return refuse(14, at);
     }
-    let at = at + 3 + rate_body.len();
+    let mut at = at + 3 + rate_body.len();
+    // A side, where the tag is its own, or else the count.
+    let mut side = 0;
+    if record.get(at) == Some(&6) {
+        let side_body = body(record, at, 6, Some(1))?;
+        side = number(side_body) as u32;
+        if side == 0 || side > LAST_SIDE {
+            return refuse(20, at);
+        }
+        at += 3 + side_body.len();
+    }
     let count_body = body(record, at, 2, Some(2))?;
     let count = number(count_body);
     if count > MOST_POINTS {
@@ -347,6 +368,7 @@ fn run(record: &[u8], expected: u32, room: usize, form: FormReader) -> Result<Ru
     };
     Ok(Run {
         rate,
+        side,
         positions,
         ratios,
         used: at + 3 + ratios_body.len(),
@@ -370,6 +392,7 @@ fn read(
                 number: 0,
                 place: 0,
                 rate: run.rate,
+                side: run.side,
                 count: count as u32,
                 used: run.used as u64,
             }
@@ -381,6 +404,7 @@ fn read(
                 number,
                 place,
                 rate: 0,
+                side: 0,
                 count: 0,
                 used: 0,
             }

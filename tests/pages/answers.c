@@ -1,12 +1,15 @@
 /* What the library says to the examples of docs/FORMAT.md, in the words of that page.
    record BYTE..                   strict reading, with room for three points: all that it gives, a line each
-   reading RATE ROOM ROOM BYTE..   strict and open reading, a line each, `10 at 0` or `taken`, with this rate expected
-                                   and room for so many positions and ratios
+   reading RATE ROOM ROOM BYTE..   strict and open reading, a line each, `10 at 0`, `taken` or `taken, side 4`, with this rate
+                                   expected and room for so many positions and ratios
+   writing RATE SIDE NUMBER NUMBER ROOM   the record of so many positions and ratios, all 0, with room for so many bytes, or the refusal
+   longest SIDE                    a longest record of this side, as it stands
+   bounds                          of sides, points and records, as the header has them
    step NUMBER                     the bits that a third position with this step adds to the body, or the refusal
-   coded POSITION..                the body of field 3 of these positions
-   positions COUNT BYTE..          the positions of this body of field 3, or the refusal's number
+   coded POSITION..                the body of the positions' field of these positions
+   positions COUNT BYTE..          the positions of this body of the positions' field, or the refusal's number
    form RATIO..                    the bytes of the last of these ratios
-   ratios COUNT BYTE..             the ratios of this body of field 4, read strictly and openly, a line each
+   ratios COUNT BYTE..             the ratios of this body of the ratios' field, read strictly and openly, a line each
    reason INDEX RATIO..            why the ratio of this index has its form, or the refusal
    live FILL SEEN                  the number that an addition to this state gives
    reader FILL SEEN COUNT OFFSET LENGTH   the number that a step of this reader gives, over so many bytes 00
@@ -54,8 +57,8 @@ static void number(uint64_t value, int size)
     }
 }
 
-/* Fields 1 and 2, and the head of field 3. */
-static void begin(size_t count, size_t third)
+/* The fields of rate and count, and the head of the positions' field. */
+static void begin(size_t count, size_t positions_length)
 {
     if (count > POINTS || body_length > LENGTH) {
         exit(2);
@@ -65,7 +68,7 @@ static void begin(size_t count, size_t third)
     number(UINT64_C(0x020002), 3);
     number(count, 2);
     number(3, 1);
-    number(third, 2);
+    number(positions_length, 2);
 }
 
 static void put_body(void)
@@ -111,8 +114,9 @@ static void record(char **words)
     farigolenc_read_answer read;
     length = take_bytes(words, bytes);
     read = farigolenc_read_strict(0, bytes, length, positions, 3, ratios, 3);
-    printf("number %" PRIu32 "\nplace %" PRIu32 "\nrate %" PRIu32 "\ncount %" PRIu32 "\nused %" PRIu64 "\npositions ",
-           read.number, read.place, read.rate, read.count, read.used);
+    printf("number %" PRIu32 "\nplace %" PRIu32 "\nrate %" PRIu32 "\nside %" PRIu32 "\ncount %" PRIu32 "\nused %" PRIu64
+           "\npositions ",
+           read.number, read.place, read.rate, read.side, read.count, read.used);
     print_positions(read.count);
     printf("ratios ");
     print_ratios(read.count);
@@ -140,8 +144,12 @@ static void both_readings(uint32_t expected, size_t positions_room, size_t ratio
         memset(ratios, 0xA5, sizeof ratios);
         read = readings[open](expected, bytes, length, positions, positions_room, ratios, ratios_room);
         if (read.number == 0) {
-            printf(read.place == 0 && read.used <= length ? "taken\n" : "taken, with a wrong place or length\n");
-        } else if (read.rate == 0 && read.count == 0 && read.used == 0 && cleared(positions, positions_room, held) &&
+            printf(read.place == 0 && read.used <= length ? "taken" : "taken, with a wrong place or length");
+            if (read.side != 0) {
+                printf(", side %" PRIu32, read.side);
+            }
+            putchar('\n');
+        } else if (read.rate == 0 && read.side == 0 && read.count == 0 && read.used == 0 && cleared(positions, positions_room, held) &&
                    cleared(ratios, ratios_room, held)) {
             printf("%" PRIu32 " at %" PRIu32 "\n", read.number, read.place);
         } else {
@@ -150,10 +158,46 @@ static void both_readings(uint32_t expected, size_t positions_room, size_t ratio
     }
 }
 
+static void writing(uint32_t rate, uint32_t side, size_t positions_count, size_t ratios_count, size_t room)
+{
+    static const uint64_t zeros[POINTS + 1];
+    farigolenc_write_answer written;
+    size_t i;
+    if (positions_count > POINTS + 1 || ratios_count > POINTS + 1 || room > sizeof bytes) {
+        exit(2);
+    }
+    memset(bytes, 0xA5, sizeof bytes);
+    written = farigolenc_write(rate, side, zeros, positions_count, zeros, ratios_count, bytes, room);
+    if (written.number == 0) {
+        print_bytes(bytes, (size_t)written.length);
+    } else {
+        printf("refused %" PRIu32 " at %" PRIu32 "\n", written.number, written.place);
+    }
+    for (i = written.number == 0 ? (size_t)written.length : 0; i < sizeof bytes; i++) {
+        if (bytes[i] != (written.number != 0 && i < room ? 0 : 0xA5)) {
+            printf("and a wrong byte at %zu\n", i);
+            return;
+        }
+    }
+}
+
+/* Each step is in the last row. Each ratio is an exception: it has eight times the same byte, which comes back after 200 ratios. */
+static void longest(uint32_t side)
+{
+    farigolenc_write_answer written;
+    size_t i;
+    for (i = 0; i < POINTS; i++) {
+        positions[i] = (uint64_t)(i % 2) << 20;
+        ratios[i] = (i % 200 + 1) * UINT64_C(0x0101010101010101);
+    }
+    written = farigolenc_write(96000, side, positions, POINTS, ratios, POINTS, bytes, sizeof bytes);
+    fwrite(bytes, 1, (size_t)written.length, stdout);
+}
+
 static void step(int64_t step)
 {
     const uint64_t middle = UINT64_C(1) << 40, run[3] = {middle, middle, middle + (uint64_t)step};
-    farigolenc_write_answer written = farigolenc_write(48000, run, 3, ratios, 3, bytes, sizeof bytes);
+    farigolenc_write_answer written = farigolenc_write(48000, 0, run, 3, ratios, 3, bytes, sizeof bytes);
     size_t i;
     if (written.number != 0) {
         printf("refused %" PRIu32 " at %" PRIu32 "\n", written.number, written.place);
@@ -174,7 +218,7 @@ static void coded(size_t count, char **words)
     for (i = 0; i < count; i++) {
         positions[i] = decimal(words[i]);
     }
-    if (farigolenc_write(48000, positions, count, ratios, count, bytes, sizeof bytes).number != 0) {
+    if (farigolenc_write(48000, 0, positions, count, ratios, count, bytes, sizeof bytes).number != 0) {
         exit(2);
     }
     print_bytes(bytes + 15, (size_t)(bytes[13] * 256 + bytes[14]));
@@ -190,20 +234,20 @@ static void form(char **words)
     print_bytes(bytes, (size_t)added.length);
 }
 
-/* A record with this body in field 3, and ratios that are all 0. */
+/* A record with this body of positions, and ratios that are all 0. */
 static void body_of_positions(size_t count)
 {
-    const size_t fourth = count == 0 ? 0 : 8 + count;
+    const size_t ratios_length = count == 0 ? 0 : 8 + count;
     int open;
     begin(count, body_length);
     put_body();
     number(4, 1);
-    number(fourth, 2);
-    memset(bytes + length, 0, fourth);
-    if (fourth > 0) {
+    number(ratios_length, 2);
+    memset(bytes + length, 0, ratios_length);
+    if (ratios_length > 0) {
         bytes[length] = 0xFF;
     }
-    length += fourth;
+    length += ratios_length;
     for (open = 0; open < 2; open++) {
         farigolenc_read_answer read = read_all(open);
         if (read.number != 0) {
@@ -214,14 +258,14 @@ static void body_of_positions(size_t count)
     }
 }
 
-/* A record with this body in field 4, and positions that are all 0. */
+/* A record with this body of ratios, and positions that are all 0. */
 static void body_of_ratios(size_t count)
 {
-    const size_t third = count < 2 ? 8 * count : 16 + (count - 2 + 7) / 8;
+    const size_t positions_length = count < 2 ? 8 * count : 16 + (count - 2 + 7) / 8;
     int open;
-    begin(count, third);
-    memset(bytes + length, 0, third);
-    length += third;
+    begin(count, positions_length);
+    memset(bytes + length, 0, positions_length);
+    length += positions_length;
     number(4, 1);
     number(body_length, 2);
     put_body();
@@ -282,10 +326,10 @@ static void reader(char **words)
 }
 
 /* What is lent, by types that the header's declarations must have. */
-typedef uint32_t lent_rate;
+typedef uint32_t lent_rate, lent_side;
 typedef uint64_t lent_point, lent_count, lent_index;
 static farigolenc_write_answer (*const write_call)(
-    lent_rate, const lent_point *, size_t, const lent_point *, size_t, uint8_t *, size_t) = farigolenc_write;
+    lent_rate, lent_side, const lent_point *, size_t, const lent_point *, size_t, uint8_t *, size_t) = farigolenc_write;
 static farigolenc_read_answer (*const read_calls[2])(
     lent_rate, const uint8_t *, size_t, lent_point *, size_t, lent_point *, size_t) = {farigolenc_read_strict, farigolenc_read_open};
 static farigolenc_span_answer (*const span_call)(lent_rate, const lent_point *, size_t) = farigolenc_span;
@@ -302,6 +346,7 @@ static farigolenc_explain_answer (*const explain_call)(const lent_point *, size_
 static void widths(void)
 {
     lent_rate rate;
+    lent_side side;
     lent_point point;
     lent_count count;
     lent_index index;
@@ -316,6 +361,7 @@ static void widths(void)
     if (!write_call || !read_calls[0] || !read_calls[1] || !span_call || !add_call || !making_call || !explain_call) {
         exit(2);
     }
+    SAME(rate, side);
     WIDTH(rate);
     WIDTH(point);
     SAME(read.number, read.place);
@@ -330,6 +376,7 @@ static void widths(void)
     SAME(read.number, why.number);
     SAME(read.number, why.place);
     WIDTH(read.number);
+    SAME(read.rate, read.side);
     SAME(read.rate, read.count);
     WIDTH(read.rate);
     WIDTH(written.length);
@@ -363,6 +410,12 @@ int main(int count, char **words)
             return 2;
         }
         both_readings(strcmp(words[2], "none") == 0 ? 0 : (uint32_t)decimal(words[2]), (size_t)room[0], (size_t)room[1]);
+    } else if (strcmp(mode, "writing") == 0 && count == 7) {
+        writing((uint32_t)decimal(words[2]), (uint32_t)decimal(words[3]), (size_t)decimal(words[4]), (size_t)decimal(words[5]), (size_t)decimal(words[6]));
+    } else if (strcmp(mode, "longest") == 0 && count == 3) {
+        longest((uint32_t)decimal(words[2]));
+    } else if (strcmp(mode, "bounds") == 0) {
+        printf("side\t0 to %d\npoints\t0 to %d\nrecord\t18 to %d bytes\n", FARIGOLENC_SIDES, FARIGOLENC_POINTS, FARIGOLENC_RECORD);
     } else if (strcmp(mode, "step") == 0 && count == 3) {
         step(strtoll(words[2], NULL, 10));
     } else if (strcmp(mode, "coded") == 0) {

@@ -6,7 +6,7 @@ use Prim.Native.Nat.{ℕ}
 use lib.Dec.{leb}
 use Rattle.lists.specs.Compare.{both}
 
--- as many as there are letters
+-- A to Z
 abbrev pub maxSide : ℕ
 maxSide = 26
 

@@ -13,13 +13,8 @@ use Rattle.outputs.proofs.Parts.{rest-is, put-rest}
 use Rattle.outputs.specs.declared.Wrote.{Wrote}
 use Rattle.outputs.specs.declared.Wrote.the-variants.{Done, NoRoom}
 use Rattle.record_format.specs.Fields.{Field, fieldOf, headSize, fieldBytes, laid}
-use Rattle.position_format.specs.Rows.{rows}
-use Rattle.position_format.specs.Positions.{codedPositions}
-use Rattle.ratio_format.specs.Bodies.{codedRatios}
-use Rattle.record_format.specs.Runs.{Run, sideTag, positionsTag, ratiosTag, sideSize, sideFields, fieldsOf}
+use Rattle.record_format.specs.Runs.{sideTag, sideSize, sideFields}
 use Rattle.record_format.proofs.Fields.{length-field, length-laid, laid-append, laid-one}
-use Rattle.record_format.proofs.Runs.{rateField}
-use Rattle.record_codec.specs.Fronts.{frontFields}
 
 -- ---- a head, and a field of a number
 
@@ -152,7 +147,7 @@ module _ (fs gs : List Field) (o p : List ℕ) (n : ℕ) (done : Placed (laid fs
                 ∙ ap (λ (l : List ℕ). over l o) (sym bytes),
           )
 
--- ---- the fields of a record, in the order in which they are put
+-- ---- the side's field, if there is one
 
 -- no side takes no byte
 pub side-none : (o : List ℕ) → Placed (laid (sideFields 0)) (Done 0) o o
@@ -163,11 +158,6 @@ side-none o = (refl, omega arith, refl)
 pub side-one : (n : ℕ) → (n ≡ 0 → ⊥) → sideFields n ≡ fieldOf sideTag (bytesOf sideSize n) ∷ []
 side-one zero d = absurd (d refl)
 side-one (suc n) d = refl
-
--- past the front stand the positions and the ratios
-pub front-then : (r : Run) → let ps = fieldOf positionsTag (codedPositions rows (r .positions)) in let vs = fieldOf ratiosTag (codedRatios (r .ratios)) in
-    fieldsOf r ≡ frontFields (r .rate) (r .side) (length (r .positions)) ++ (ps ∷ vs ∷ [])
-front-then r = ap (λ (l : List Field). rateField r ∷ l) (sym (append-assoc (sideFields (r .side)) _ _))
 
 -- ---- what an answer of a writer says
 

@@ -111,7 +111,7 @@ fn has_side(input: &[u8], at: usize) -> bool
     at < input.len() && input[at] == SIDE_TAG
 }
 
-// The side, at the offset past the rate: 20. Where another field stands there it is 0, and ends where it begins.
+// The side, at the offset past the rate: 20. Where another field stands there, or none, it is 0, and ends where it begins.
 fn read_side(input: &[u8], at: usize) -> Number
     requires { ⌜ (at ≡ sideAt (now input)) × (at ≤ length (now input)) × (at ≤ farthest) ⌝ }
     ensures { λ r. ⌜ SideRead (now (input .entry)) r ⌝ }

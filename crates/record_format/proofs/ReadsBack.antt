@@ -23,13 +23,13 @@ use Rattle.position_format.proofs.Rows.{rows-good}
 use Rattle.position_format.proofs.Positions.{read-coded}
 use Rattle.ratio_format.specs.Bodies.{codedRatios}
 use Rattle.record_format.specs.Fields.{Field}
-use Rattle.record_format.specs.Runs.{Run, rateTag, countTag, positionsTag, ratiosTag, rateSize, countSize, sideFields, fieldsOf, recordOf}
+use Rattle.record_format.specs.Runs.{Run, rateTag, countTag, positionsTag, ratiosTag, rateSize, countSize, sideFields, recordOf}
 use Rattle.record_format.specs.Claims.{countPlace, ownTests, ownAnswer, runAnswer}
 use Rattle.record_format.specs.Reading.{Answer, refusalAnswer, recordAnswer, readTests, readWith, rateAt, sideAt, countAt, positionsAt, ratiosAt, endAt, rateIn, sideIn, countIn, positionsIn, ratiosIn, missing, listOf, otherRate, lacksRoom, sideTests, countTests, roomTests, positionsTests, ratiosTests}
 use Rattle.record_format.proofs.Fields.{FieldStands, StandAll, length-field, fieldIn, stand-at, laid-stand, pastAll, stand-past, stand-append, past-append}
 use Rattle.record_format.proofs.Reading.{field-passes, tests-flat}
 use Rattle.record_format.proofs.Writing.{Fitting}
-use Rattle.record_format.proofs.Runs.{rateField, pointFields, countIndex, positionsIndex, ratiosIndex, fields-small, length-side}
+use Rattle.record_format.proofs.Runs.{rateField, pointFields, flatFields, record-flat, countIndex, positionsIndex, ratiosIndex, fields-small, length-side}
 use Rattle.record_format.proofs.Sides.{stand-count, stand-side, side-passes}
 
 -- a test before two lists that give the same
@@ -43,9 +43,8 @@ module _ (r : Run) (fit : Fitting r) (rest : List ℕ) where
   abbrev s : List ℕ
   s = recordOf r ++ rest
 
-  all : StandAll s rateAt (fieldsOf r)
-  unfolding recordOf
-  all = laid-stand [] (fieldsOf r) rest (fields-small r fit)
+  all : StandAll s rateAt (flatFields r)
+  all = subst (λ (l : List ℕ). StandAll (l ++ rest) rateAt (flatFields r)) (sym (record-flat r)) (laid-stand [] (flatFields r) rest (fields-small r fit))
 
   -- each where reading looks for it
   rate-stands : FieldStands s rateAt (rateField r)
@@ -78,10 +77,9 @@ module _ (r : Run) (fit : Fitting r) (rest : List ℕ) where
       ∙ omega (arith, rate-stands .next, length-side (r .side), length-field (rateField r), length-digits 256 rateSize (r .rate))
 
   pub at-end : endAt s ≡ length (recordOf r)
-  unfolding recordOf
   at-end =
       ap (λ (p : ℕ). pastAll s p (pointFields r)) (sym count-at) ∙ sym (past-append s (sideAt s) sides (pointFields r))
-      ∙ stand-past s rateAt (fieldsOf r) all ∙ omega arith
+      ∙ stand-past s rateAt (flatFields r) all ∙ omega (arith, ap length (record-flat r))
 
   -- the contents
   pub rate-is : rateIn s ≡ r .rate

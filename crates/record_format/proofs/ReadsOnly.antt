@@ -1,8 +1,9 @@
--- Strict reading accepts only records: bytes that it accepts begin with the record of a run that the writer accepts.
+-- What is accepted: by any reading, bytes that begin with the fields of the rate, the side and the count that it answers; by strict reading,
+-- bytes that begin with the record of a run that the writer accepts.
 use mathlib.Core.Path.{_≡_, sym, ap, _∙_, subst}
 use mathlib.Core.Bool.{true, not}
 use mathlib.Core.List.{List, [], _∷_, _++_}
-use mathlib.Core.Option.{none, some}
+use mathlib.Core.Option.{Option, none, some}
 use Prim.Native.Nat.{ℕ, _≤_, _^_}
 use borrow.Author.Tests.{ltb-false, not-false}
 use lib.Dec.{ltb, lit<}
@@ -11,23 +12,24 @@ use Rattle.lists.specs.Below.{Below}
 use Rattle.bits.specs.Digits.{bytesOf}
 use Rattle.limits.specs.Rates.{isRate}
 use Rattle.limits.specs.Points.{maxPoints}
-use Rattle.refusals.specs.Tests.{test, firstOf}
+use Rattle.limits.specs.Sides.{maxSide}
+use Rattle.refusals.specs.Tests.{Test, test, firstOf}
 use Rattle.refusals.proofs.Tests.{first-clear}
 use Rattle.position_format.specs.Rows.{rows}
 use Rattle.position_format.proofs.Positions.{read-only}
 use Rattle.ratio_format.specs.Bodies.{strictRatios}
 use Rattle.ratio_format.proofs.Strict.{strict-only-body, strict-below}
-use Rattle.record_format.specs.Fields.{bodyAt}
-use Rattle.record_format.specs.Runs.{Run, run, rateTag, countTag, positionsTag, ratiosTag, rateSize, countSize, sideFields, fieldsOf, recordOf}
+use Rattle.record_format.specs.Fields.{Field, fieldOf, bodyAt, laid}
+use Rattle.record_format.specs.Runs.{Run, run, rateTag, countTag, positionsTag, ratiosTag, rateSize, countSize, sideFields, frontFields, recordOf}
 use Rattle.record_format.specs.Reading.{recordAnswer, readTests, readStrict, readWith, rateAt, sideAt, countAt, positionsAt, ratiosAt, rateIn, sideIn, countIn, positionsIn, ratiosIn, missing, otherRate, sideTests, countTests, roomTests, positionsTests, ratiosTests}
 use Rattle.record_format.proofs.Fields.{Follow, pastAll, follow-laid, follow-append}
 use Rattle.record_format.proofs.Reading.{FieldSound, field-clear, sound-follows, sound-below, sound-number, missing-some, tests-flat, answer-clear}
-use Rattle.record_format.proofs.Runs.{pointFields}
+use Rattle.record_format.proofs.Runs.{pointFields, flatFields, record-flat}
 use Rattle.record_format.proofs.Sides.{SideSound, side-clear, side-follows}
 use Rattle.record_format.proofs.Writing.{Fitting}
 
--- what the tests of reading say of bytes to which none applies
-record Read (s : List ℕ) : Type 0 where
+-- what the tests of reading say of bytes to which none applies, by the reading k of the ratios' field
+record Read (k : ℕ → List ℕ → Option (List ℕ)) (s : List ℕ) : Type 0 where
   rate : FieldSound s (rateTag ∷ []) (some rateSize) rateAt
   listed : isRate (rateIn s) ≡ true
   side : SideSound s
@@ -36,37 +38,56 @@ record Read (s : List ℕ) : Type 0 where
   positions : FieldSound s (positionsTag ∷ []) none (positionsAt s)
   points : (ts : List ℕ) × (positionsIn s ≡ some ts)
   ratios : FieldSound s (ratiosTag ∷ []) none (ratiosAt s)
-  values : (vs : List ℕ) × (ratiosIn strictRatios s ≡ some vs)
+  values : (vs : List ℕ) × (ratiosIn k s ≡ some vs)
 
-passed : (e : ℕ) (s : List ℕ) (m n : ℕ) → firstOf (readTests strictRatios e s m n) .number ≡ 0 → Read s
-passed e s m n clear =
-    let from-ratios = ratiosTests strictRatios s in
+passed : (k : ℕ → List ℕ → Option (List ℕ)) (e : ℕ) (s : List ℕ) (m n : ℕ) → firstOf (readTests k e s m n) .number ≡ 0 → Read k s
+passed k e s m n clear =
+    let from-ratios = ratiosTests k s in
     let from-positions = positionsTests s ++ from-ratios in
     let from-room = roomTests s m n ++ from-positions in
     let from-side = sideTests s ++ (countTests s ++ from-room) in
-    let flat = sym (ap (λ l. firstOf l .number) (tests-flat strictRatios e s m n)) ∙ clear in
+    let flat = sym (ap (λ (l : List Test). firstOf l .number) (tests-flat k e s m n)) ∙ clear in
     let a = field-clear s (rateTag ∷ []) (some rateSize) rateAt (test (not (isRate (rateIn s))) 13 rateAt ∷ test (otherRate e (rateIn s)) 14 rateAt ∷ from-side) flat in
     let a13 = first-clear _ _ (lit< tt) (a .1) in
     let a14 = first-clear _ _ (lit< tt) (a13 .1) in
-    let d20 = side-clear s (countTests s ++ from-room) (a14 .1) in
-    let b = field-clear s (countTag ∷ []) (some countSize) (countAt s) (test (ltb maxPoints (countIn s)) 15 (countAt s) ∷ from-room) (d20 .1) in
+    let a20 = side-clear s (countTests s ++ from-room) (a14 .1) in
+    let b = field-clear s (countTag ∷ []) (some countSize) (countAt s) (test (ltb maxPoints (countIn s)) 15 (countAt s) ∷ from-room) (a20 .1) in
     let b15 = first-clear _ _ (lit< tt) (b .1) in
     let b16 = first-clear _ _ (lit< tt) (b15 .1) in
     let c = field-clear s (positionsTag ∷ []) none (positionsAt s) (test (missing (positionsIn s)) 17 (positionsAt s) ∷ from-ratios) (b16 .1) in
     let c17 = first-clear _ _ (lit< tt) (c .1) in
-    let d = field-clear s (ratiosTag ∷ []) none (ratiosAt s) (test (missing (ratiosIn strictRatios s)) 18 (ratiosAt s) ∷ []) (c17 .1) in
+    let d = field-clear s (ratiosTag ∷ []) none (ratiosAt s) (test (missing (ratiosIn k s)) 18 (ratiosAt s) ∷ []) (c17 .1) in
     let d18 = first-clear _ _ (lit< tt) (d .1) in
     record {
       rate = a .0;
       listed = not-false _ (a13 .0);
-      side = d20 .0;
+      side = a20 .0;
       count = b .0;
       few = ltb-false _ _ (b15 .0);
       positions = c .0;
       points = missing-some (positionsIn s) (c17 .0);
       ratios = d .0;
-      values = missing-some (ratiosIn strictRatios s) (d18 .0);
+      values = missing-some (ratiosIn k s) (d18 .0);
     }
+
+-- ---- the front, by any reading
+
+-- rate and side, and then fields from the count's on
+front-follows : (s : List ℕ) → Below 256 s → (k : ℕ → List ℕ → Option (List ℕ)) → Read k s → (fs : List Field) → Follow s (countAt s) fs
+    → Follow s rateAt (fieldOf rateTag (bytesOf rateSize (rateIn s)) ∷ (sideFields (sideIn s) ++ fs))
+front-follows s bytes k h fs later =
+    let d = side-follows s bytes (h .side) in
+    (sound-follows bytes (h .rate) _ (sound-number bytes (h .rate)), follow-append s (sideAt s) (sideFields (sideIn s)) fs (d .follows) (subst (λ (p : ℕ). Follow s p fs) (sym (d .past)) later))
+
+pub front-stands : (k : ℕ → List ℕ → Option (List ℕ)) (e : ℕ) (s : List ℕ) (m n : ℕ) → Below 256 s → firstOf (readTests k e s m n) .number ≡ 0
+    → (isRate (rateIn s) ≡ true) × (sideIn s ≤ maxSide) × (countIn s ≤ maxPoints) × ((t : List ℕ) × (s ≡ laid (frontFields (rateIn s) (sideIn s) (countIn s)) ++ t))
+front-stands k e s m n bytes clear =
+    let h = passed k e s m n clear in
+    let count = sound-follows bytes (h .count) _ (sound-number bytes (h .count)) in
+    let follow = front-follows s bytes k h (fieldOf countTag (bytesOf countSize (countIn s)) ∷ []) (count, tt) in
+    (h .listed, side-follows s bytes (h .side) .sided, h .few, (_, follow-laid s rateAt (frontFields (rateIn s) (sideIn s) (countIn s)) follow))
+
+-- ---- the whole record, by strict reading
 
 -- a run whose record the bytes s begin with
 pub record Begins (s : List ℕ) : Type 0 where
@@ -76,14 +97,12 @@ pub record Begins (s : List ℕ) : Type 0 where
   pub rest : List ℕ
   pub splits : s ≡ recordOf own ++ rest
 
-begins : (s : List ℕ) → Below 256 s → Read s → Begins s
-unfolding recordOf
+begins : (s : List ℕ) → Below 256 s → Read strictRatios s → Begins s
 begins s bytes h =
     let ts = h .points .0 in
     let vs = h .values .0 in
     let p = read-only rows (countIn s) (bodyAt s (positionsAt s)) ts (h .points .1) in
     let q = strict-only-body (countIn s) (bodyAt s (ratiosAt s)) vs (h .values .1) in
-    let d = side-follows s bytes (h .side) in
     let r = run (rateIn s) (sideIn s) ts vs in
     let later : Follow s (countAt s) (pointFields r) = (
       sound-follows bytes (h .count) _ (sound-number bytes (h .count) ∙ ap (bytesOf countSize) (sym (p .2))),
@@ -92,22 +111,19 @@ begins s bytes h =
         (sound-follows bytes (h .ratios) _ (q .0), tt),
       ),
     ) in
-    let follow : Follow s rateAt (fieldsOf r) = (
-      sound-follows bytes (h .rate) _ (sound-number bytes (h .rate)),
-      follow-append s (sideAt s) (sideFields (sideIn s)) (pointFields r) (d .follows) (subst (λ (p : ℕ). Follow s p (pointFields r)) (sym (d .past)) later),
-    ) in
+    let follow : Follow s rateAt (flatFields r) = front-follows s bytes strictRatios h (pointFields r) later in
     record {
       own = r;
       fits = record {
         listed = h .listed;
-        sided = d .sided;
+        sided = side-follows s bytes (h .side) .sided;
         paired = q .1 ∙ sym (p .2);
         few = subst (λ (k : ℕ). k ≤ maxPoints) (sym (p .2)) (h .few);
         valid = p .1;
       };
       ratios = strict-below (countIn s) (bodyAt s (ratiosAt s)) vs (sound-below bytes (h .ratios)) (h .values .1);
-      rest = drop (pastAll s rateAt (fieldsOf r)) s;
-      splits = follow-laid s rateAt (fieldsOf r) follow;
+      rest = drop (pastAll s rateAt (flatFields r)) s;
+      splits = follow-laid s rateAt (flatFields r) follow ∙ ap (λ (l : List ℕ). l ++ drop (pastAll s rateAt (flatFields r)) s) (sym (record-flat r));
     }
 
 -- bytes that strict reading accepts begin with a run's record
@@ -115,5 +131,5 @@ pub accepted-begins : (e : ℕ) (s ts vs : List ℕ) → Below 256 s → readStr
 unfolding readWith
 accepted-begins e s ts vs bytes h =
     begins s bytes
-    (passed e s (length ts) (length vs)
+    (passed strictRatios e s (length ts) (length vs)
     (answer-clear (readTests strictRatios e s (length ts) (length vs)) (recordAnswer strictRatios s ts vs) ts vs h))

@@ -1,5 +1,5 @@
 -- Laws of a run's record: which field is which, how long the bodies of its fields are, and how long it is.
-use mathlib.Core.List.{List, [], _∷_, _++_}
+use mathlib.Core.List.{List, [], _∷_, _++_, append-assoc}
 use mathlib.Core.Path.{_≡_, ap, _∙_}
 use Prim.Native.Nat.{ℕ, zero, suc, _+_, _≤_}
 use native.Mathlib.Omega.{arith}
@@ -13,7 +13,7 @@ use Rattle.ratio_format.specs.Windows.{windowSize}
 use Rattle.ratio_format.specs.Bodies.{codedRatios}
 use Rattle.ratio_format.proofs.Bodies.{nine-bytes}
 use Rattle.record_format.specs.Fields.{Field, fieldOf, laid}
-use Rattle.record_format.specs.Runs.{Run, rateTag, countTag, positionsTag, ratiosTag, rateSize, sideSize, countSize, sideFields, sideLength, fieldsOf, recordOf}
+use Rattle.record_format.specs.Runs.{Run, rateTag, countTag, positionsTag, ratiosTag, rateSize, sideSize, countSize, sideFields, sideLength, recordOf}
 use Rattle.record_format.specs.Sizes.{minRecord}
 use Rattle.record_format.proofs.Fields.{Small, length-laid, laid-append, small-append}
 use Rattle.record_format.proofs.Writing.{Fitting}
@@ -29,6 +29,14 @@ pointFields r =
     ∷ fieldOf positionsTag (codedPositions rows (r .positions))
     ∷ fieldOf ratiosTag (codedRatios (r .ratios))
     ∷ []
+
+-- all of them, one after the other
+abbrev pub flatFields : Run → List Field
+flatFields r = rateField r ∷ (sideFields (r .side) ++ pointFields r)
+
+pub record-flat : (r : Run) → recordOf r ≡ laid (flatFields r)
+unfolding recordOf
+record-flat r = ap (λ (l : List Field). laid (rateField r ∷ l)) (append-assoc (sideFields (r .side)) _ _)
 
 -- the last ones by what they hold: their indices, and how many there are
 
@@ -63,7 +71,7 @@ module _ (r : Run) (fit : Fitting r) where
   pub ratios-size : length (codedRatios (r .ratios)) ≤ 36864
   ratios-size = omega (arith, nine-bytes windowSize [] (r .ratios), fit .paired, fit .few)
 
-  pub fields-small : Small (fieldsOf r)
+  pub fields-small : Small (flatFields r)
   fields-small = (
     omega (arith, length-digits 256 rateSize (r .rate)),
     small-append (sideFields (r .side)) (pointFields r) (side-small (r .side))
@@ -71,9 +79,8 @@ module _ (r : Run) (fit : Fitting r) where
   )
 
 pub length-record : (r : Run) → length (recordOf r) ≡ minRecord + sideLength (r .side) + length (codedPositions rows (r .positions)) + length (codedRatios (r .ratios))
-unfolding recordOf
 length-record r =
-    ap length (laid-append (rateField r ∷ sideFields (r .side)) (pointFields r))
+    ap length (record-flat r ∙ laid-append (rateField r ∷ sideFields (r .side)) (pointFields r))
     ∙ length-append (laid (rateField r ∷ sideFields (r .side))) (laid (pointFields r))
     ∙ omega
     (arith, ap length (laid-append (rateField r ∷ []) (sideFields (r .side))), length-append (laid (rateField r ∷ [])) (laid (sideFields (r .side))), length-laid (rateField r ∷ []), length-side (r .side), length-laid (pointFields r), length-digits 256 rateSize (r .rate), length-digits 256 countSize (length (r .positions)))

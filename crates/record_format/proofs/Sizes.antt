@@ -58,4 +58,4 @@ on-side : (d : ℕ) → length (recordOf (longest d)) ≡ longestOn d
 on-side d = length-record (longest d) ∙ ap₂ (λ (x y : ℕ). x + y) (ap₂ (λ (x y : ℕ). minRecord + sideLength x + y) (unfolds-side d) (longest-positions d)) (longest-ratios d)
 
 pub reached : Reached
-reached = (λ d h. (longest-accepted d h, on-side d), on-side maxSide)
+reached = (λ d h. (longest-accepted d h, on-side d), on-side 0, on-side maxSide, refl)

@@ -1,5 +1,6 @@
--- The demands on records as statements about the definitions, in the terms of document 01, "What demand 3 compares", for runs with a side
--- (document 02, No. 2). Followed is proved in proofs/Followed, each other in proofs/Claims; the calls are tied to them by their contracts.
+-- The demands on records as statements about the definitions, in the terms of document 01, "What demand 3 compares", for runs that carry a
+-- side, 0 for none (document 02, No. 2). Followed is proved in proofs/Followed, each other in proofs/Claims; the calls are tied to them by their
+-- contracts.
 --   Accepted r          r is a run that the writer accepts, in the standard term valid: its ratios have 64 bits, and no test of writing but 6
 --                       applies. AllAccepted rs: every run of a list is
 --   Bytes s             s is a string of bytes
@@ -11,6 +12,8 @@
 --   ReadsBack           both readings give back the run of a record, or 14 or 16
 --   ReadsOnly           what strict reading accepts is a run's record, and the answer is that run
 --   AcceptsExactly      when strict reading accepts
+--   ReadsFront          what any reading of the ratios accepts begins with the fields of the rate, the side and the count that it answers
+--   SideRefused         a stored side that is none is refused by 20, at its field
 --   OpenAgrees          what strict reading accepts open reading answers alike
 --   PrefixFree          no record begins another: in the standard term, records are a prefix code
 --   ListsApart          joined records tell their lists: a uniquely decodable code
@@ -22,14 +25,18 @@ use mathlib.Core.List.{List, [], _∷_, _++_}
 use mathlib.Core.Logic.{_⊎_, _↔_}
 use mathlib.Core.Option.{Option, some}
 use mathlib.Core.Path.{_≡_}
-use Prim.Native.Nat.{ℕ, _+_, _*_, _≤_, _^_}
+use Prim.Native.Nat.{ℕ, _+_, _*_, _≤_, _<_, _^_}
 use lib.ListN.{length}
 use Rattle.lists.specs.Below.{Below}
+use Rattle.bits.specs.Digits.{bytesOf}
+use Rattle.limits.specs.Rates.{isRate}
+use Rattle.limits.specs.Points.{maxPoints}
+use Rattle.limits.specs.Sides.{maxSide}
 use Rattle.refusals.specs.Tests.{Test, test, firstOf, refused}
 use Rattle.outputs.specs.Outputs.{over}
 use Rattle.ratio_format.specs.Bodies.{codedRatios, openRatios}
-use Rattle.record_format.specs.Fields.{headSize}
-use Rattle.record_format.specs.Runs.{Run, rateSize, sideLength, recordOf}
+use Rattle.record_format.specs.Fields.{fieldOf, headSize, laid}
+use Rattle.record_format.specs.Runs.{Run, rateTag, sideTag, rateSize, sideSize, sideLength, frontFields, recordOf}
 use Rattle.record_format.specs.Writing.{accepts}
 use Rattle.record_format.specs.Reading.{Answer, refusalAnswer, endAt, otherRate, lacksRoom, rateAt, readWith, readStrict, readOpen}
 
@@ -103,6 +110,20 @@ AcceptsExactly = (e : ℕ) (s ts vs : List ℕ) → Bytes s
 abbrev pub OpenAgrees : Type 0
 OpenAgrees = (e : ℕ) (s ts vs : List ℕ) → Bytes s → readStrict e s ts vs .answer .number ≡ 0 → readOpen e s ts vs ≡ readStrict e s ts vs
 
+-- demand 2, in both readings: what is accepted begins with the fields of the rate, of the side unless it is 0, and of the count that are
+-- answered, and these are in their ranges. So a side that is stored is answered, a stored 0 is not accepted, and side 0 is answered where no
+-- side's field stands
+abbrev pub ReadsFront : Type 0
+ReadsFront = (k : ℕ → List ℕ → Option (List ℕ)) (e : ℕ) (s ts vs : List ℕ) → Bytes s → readWith k e s ts vs .answer .number ≡ 0
+    → let a = readWith k e s ts vs .answer in
+    (isRate (a .rate) ≡ true) × (a .side ≤ maxSide) × (a .count ≤ maxPoints) × Beginning (laid (frontFields (a .rate) (a .side) (a .count))) s
+
+-- demand 1, in both readings: past a rate of the list that is expected, or where none is, a side's field that stores 0 or more than 26 is
+-- refused by 20 at offset 7, whatever follows
+abbrev pub SideRefused : Type 0
+SideRefused = (k : ℕ → List ℕ → Option (List ℕ)) (e r d : ℕ) (rest ts vs : List ℕ) → isRate r ≡ true → (e ≡ 0) ⊎ (e ≡ r) → (d ≡ 0) ⊎ ((26 < d) × (d < 256))
+    → readWith k e (laid (fieldOf rateTag (bytesOf rateSize r) ∷ fieldOf sideTag (bytesOf sideSize d) ∷ []) ++ rest) ts vs ≡ refusalAnswer (record { number = 20; place = 7 }) ts vs
+
 -- demand 3: of two runs that differ, in rate, side, positions or ratios, neither record is a beginning of the other
 abbrev pub PrefixFree : Type 0
 PrefixFree = (r q : Run) → Accepted r → Accepted q → (r ≡ q → ⊥)
@@ -118,7 +139,8 @@ TrailingBytes = (r : Run) → Accepted r → (e : ℕ) (rest ts vs : List ℕ)
     → (readStrict e (recordOf r ++ rest) ts vs ≡ readStrict e (recordOf r) ts vs)
     × (readOpen e (recordOf r ++ rest) ts vs ≡ readOpen e (recordOf r) ts vs)
 
--- the same of any bytes that have as many whole fields as a record, also such as only open reading accepts, or neither
+-- the same of any bytes that have as many whole fields as a record, four or, where the second has a side's tag, five; also of such as only open
+-- reading accepts, or neither
 abbrev pub Followed : Type 0
 Followed = (k : ℕ → List ℕ → Option (List ℕ)) (e : ℕ) (s rest ts vs : List ℕ) → endAt s ≤ length s
     → readWith k e (s ++ rest) ts vs ≡ readWith k e s ts vs

@@ -1,7 +1,7 @@
 -- Document 01, "Bytes to compare": the rows marked P, and the listing's run on a side, as one table, proved from the definitions by one
 -- statement.
 --   Subject, codeOf        what is shown, and its code
---   Example, example       such a subject, and what document 01 gives for it
+--   Example, example       such a subject, and its code as it should be: what document 01 gives for it, but for the run on a side
 --   listedRun, listedBytes the run of the listing, and its 46 bytes; sidedRun, sidedBytes: the same run on side 4, and its 50 bytes
 --   examples               the rows; examples-hold: each is as it is given
 use mathlib.Core.Path.{_≡_, refl}
@@ -35,7 +35,7 @@ codeOf (sum v u) = sumOf v u ∷ []
 codeOf (ratios vs) = codedRatios vs
 codeOf (whole r) = recordOf r
 
--- an example: what is shown, and what document 01 gives for it
+-- an example: what is shown, and its code
 pub record Example : Type 0 where
   pub subject : Subject
   pub expected : List ℕ

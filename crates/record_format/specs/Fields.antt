@@ -5,7 +5,7 @@
 --   maxBody        the longest body that two bytes can state
 --   fieldBytes f   the bytes of the field f: the tag, the length of the body in two bytes, and the body
 --   laid fs        the fields fs, laid end to end
---   tagAt s p      the tag of the field at the offset p of the bytes s
+--   tagAt s p      the tag of the field at the offset p of the bytes s, and 0, which is no field's, past their end
 --   lengthAt s p   its stated length
 --   bodyAt s p     its body
 --   nextAt s p     the offset past it

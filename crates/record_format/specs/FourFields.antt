@@ -2,7 +2,7 @@
 --   fourFields r ts vs   the four fields of document 01, for the rate r, the positions ts and the ratios vs
 --   fourTests r ts vs    document 01's tests 1 to 5 of writing
 --   SameRecord           the record of the run on side 0 is these four fields, laid end to end
---   SameTests            it is refused as document 01 says, and so accepted when it was
+--   SameTests            it is refused as document 01 says, and so accepted when it was; and by 6 too, since its record is the same
 --   ReadsAsZero          whatever follows it, both readings give back that run with side 0, or 14 or 16
 -- Each is proved in proofs/FourFields.
 use mathlib.Core.Bool.{not}

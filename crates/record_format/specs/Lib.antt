@@ -5,4 +5,5 @@ pub mod Reading
 pub mod Claims
 pub mod FourFields
 pub mod Examples
+pub mod SideExamples
 pub mod Sizes

@@ -2,7 +2,7 @@
 --   rateAt, sideAt s, countAt s, positionsAt s, ratiosAt s   the offset of each field, by what it holds
 --   hasSide s              a side's field stands past the rate's
 --   endAt s                the offset past the record
---   rateIn, sideIn, countIn   the numbers in the fields of the rate, of the side (0 where it has none) and of the count
+--   rateIn, sideIn, countIn   the numbers in the fields of the rate, of the side (0 where there is none) and of the count
 --   positionsIn s          the positions that the positions' field is the coding of, or nothing
 --   ratiosIn k s           the ratios that the reading k of the ratios' field gives, or nothing
 --   missing, listOf        whether there is no list, and the list, if there is one
@@ -49,7 +49,7 @@ rateAt = 0
 abbrev pub sideAt : List ℕ → ℕ
 sideAt s = nextAt s rateAt
 
--- the tag that stands there tells
+-- the tag that stands there tells; where the input ends before it there is none, and the count's tests give 10 there
 abbrev pub hasSide : List ℕ → Bool
 hasSide s = eqb (tagAt s (sideAt s)) sideTag
 
@@ -111,7 +111,7 @@ rateTests e s =
     fieldTests s (rateTag ∷ []) (some rateSize) rateAt
     ++ (test (not (isRate (rateIn s))) 13 rateAt ∷ test (otherRate e (rateIn s)) 14 rateAt ∷ [])
 
--- the side's, if there is one: 20. A field there with another tag is taken for the count's, and so 11 where its tag is neither
+-- the side's, if there is one: 20. A field there with another tag is taken for the count's, whose tests give 11 where its tag is not 2 either
 abbrev pub sideTests : List ℕ → List Test
 sideTests s =
     cond (hasSide s)

@@ -4,8 +4,8 @@
 --   rateTag .. ratiosTag   the tags of the fields, by what they hold
 --   rateSize, sideSize, countSize   how many bytes the rate, the side and the count take
 --   sideFields n   the field of the side n, an optional one: none for side 0; sideLength n: how many bytes it takes
---   fieldsOf r     the fields of the record of the run r: rate, side unless it is 0, count, coded positions, coded ratios, each once, in this
---                  order
+--   frontFields r d n   the fields of the rate r, of the side d unless it is 0, and of the count n
+--   fieldsOf r     the fields of the record of the run r: those, coded positions, coded ratios, each once, in this order
 --   recordOf r     the record of the run r: its fields laid end to end
 use mathlib.Core.List.{List, [], _∷_, _++_}
 use Prim.Native.Nat.{ℕ, zero, suc, _+_}
@@ -69,15 +69,17 @@ abbrev pub sideLength : ℕ → ℕ
 sideLength zero = 0
 sideLength (suc n) = headSize + sideSize
 
--- rate, side, count, coded positions, coded ratios
+-- rate, side, count
+abbrev pub frontFields : ℕ → ℕ → ℕ → List Field
+frontFields r d n = fieldOf rateTag (bytesOf rateSize r) ∷ (sideFields d ++ (fieldOf countTag (bytesOf countSize n) ∷ []))
+
+-- the front, coded positions, coded ratios
 abbrev pub fieldsOf : Run → List Field
 fieldsOf r =
-    fieldOf rateTag (bytesOf rateSize (r .rate))
-    ∷ (sideFields (r .side)
-    ++ (fieldOf countTag (bytesOf countSize (length (r .positions)))
-    ∷ fieldOf positionsTag (codedPositions rows (r .positions))
+    frontFields (r .rate) (r .side) (length (r .positions))
+    ++ (fieldOf positionsTag (codedPositions rows (r .positions))
     ∷ fieldOf ratiosTag (codedRatios (r .ratios))
-    ∷ []))
+    ∷ [])
 
 -- the fields, end to end
 unfoldable pub recordOf : Run → List ℕ

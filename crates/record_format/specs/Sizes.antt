@@ -1,4 +1,4 @@
--- Document 01, "Numbers that bound it": the sizes of a record and of its bodies, as statements. Each is proved in proofs/Sizes.
+-- Document 01, "Numbers that bound it", with document 02, No. 2: the sizes of a record and of its bodies, as statements. Each is proved in proofs/Sizes.
 --   minRecord, maxRecord   the fewest and the most bytes of a record
 --   maxPositionsBody, maxRatiosBody   the most bytes of the bodies of positions and of ratios
 --   longestOn d     the most bytes of the record of a run on the side d: 55,321 for 0, four more for any other
@@ -7,7 +7,7 @@
 --   NoPoints        the record of no points has 18 bytes, or 22 on a side, and at each rate of the list and on each side that run is accepted
 --   firstValues f n the values f 0, f 1, .., n of them; swing and twoEnds: those of the longest run's positions and ratios
 --   longest d       a run on the side d whose record is as long as it can be
---   Reached         on each side it is accepted, and its record has that length; on one of them it has 55,325 bytes
+--   Reached         on each side it is accepted, and its record has that length: 55,321 bytes on side 0, and 55,325 on any other
 use mathlib.Core.Bool.{true}
 use mathlib.Core.List.{List, [], _∷_}
 use mathlib.Core.Path.{_≡_}
@@ -77,4 +77,6 @@ longest d = run 44100 d (firstValues swing maxPoints) (firstValues twoEnds maxPo
 -- the upper bounds are reached
 abbrev pub Reached : Type 0
 Reached = ((d : ℕ) → d ≤ maxSide → Accepted (longest d) × (length (recordOf (longest d)) ≡ longestOn d))
-    × (length (recordOf (longest maxSide)) ≡ maxRecord)
+    × (length (recordOf (longest 0)) ≡ 55321)
+    × (length (recordOf (longest maxSide)) ≡ 55325)
+    × (maxRecord ≡ 55325)

@@ -1,6 +1,6 @@
 -- Document 01, "Bytes to compare", and document 02, No. 2: lines of the listing and its whole output, as one table, proved from the definitions
 -- by one statement.
---   Example, example         a text, and its bytes as document 01 gives them
+--   Example, example         a text, and its bytes as they should be
 --   listedText, refusedText  the output in full, and the line of a refusal; sidedText: the output of the same run on side 4
 --   examples                 the rows; examples-hold: each is as it is given
 use mathlib.Core.Path.{_≡_, refl}

@@ -10,8 +10,7 @@ use Rattle.bits.specs.Digits.{bytesOf}
 use Rattle.outputs.specs.Outputs.{Placed}
 use Rattle.outputs.specs.declared.Wrote.the-variants.{Done}
 use Rattle.record_format.specs.Fields.{Field, fieldOf, laid}
-use Rattle.record_format.specs.Runs.{rateTag, countTag, rateSize, countSize, sideFields}
-use Rattle.record_codec.specs.Fronts.{frontFields}
+use Rattle.record_format.specs.Runs.{rateTag, countTag, rateSize, countSize, sideFields, frontFields}
 use Rattle.record_codec.proofs.Writings.{first-none, first-done, room-left, more-none, more-fits, more-done}
 use Rattle.record_codec.proofs.writer.put_front.Statement.{statement}
 use Rattle.record_codec.proofs.writer.put_front.Tie as tie

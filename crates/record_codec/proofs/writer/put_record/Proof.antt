@@ -1,6 +1,6 @@
 -- `put_record` meets its contract: the front, and then each field's writer puts its field after those before it.
 use mathlib.Core.List.{List, [], _∷_, _++_, append-assoc}
-use mathlib.Core.Path.{_≡_, refl, sym, _∙_}
+use mathlib.Core.Path.{_≡_, refl, sym}
 use Prim.Native.Nat.{ℕ, _+_, _-_}
 use native.Mathlib.Omega.{arith}
 use borrow.Author.Needs.{needs}
@@ -9,12 +9,11 @@ use lib.ListN.{length}
 use Rattle.outputs.specs.Outputs.{Placed}
 use Rattle.outputs.specs.declared.Wrote.the-variants.{Done}
 use Rattle.record_format.specs.Fields.{Field, fieldOf, laid}
-use Rattle.record_format.specs.Runs.{Run, run, positionsTag, ratiosTag, fieldsOf, recordOf}
+use Rattle.record_format.specs.Runs.{Run, run, positionsTag, ratiosTag, frontFields, fieldsOf, recordOf}
 use Rattle.position_format.specs.Rows.{rows}
 use Rattle.position_format.specs.Positions.{codedPositions}
 use Rattle.ratio_format.specs.Bodies.{codedRatios}
-use Rattle.record_codec.specs.Fronts.{frontFields}
-use Rattle.record_codec.proofs.Writings.{first-none, first-done, room-left, more-none, more-fits, more-done, front-then}
+use Rattle.record_codec.proofs.Writings.{first-none, first-done, room-left, more-none, more-fits, more-done}
 use Rattle.record_codec.proofs.writer.put_record.Statement.{statement}
 use Rattle.record_codec.proofs.writer.put_record.Tie as tie
 
@@ -58,7 +57,7 @@ module _ (e : tie.Start) where
 
   -- the last of them after all others
   last-then : fieldsOf given-run ≡ (front ++ (positions-field ∷ [])) ++ (ratios-field ∷ [])
-  last-then = front-then given-run ∙ sym (append-assoc front (positions-field ∷ []) (ratios-field ∷ []))
+  last-then = sym (append-assoc front (positions-field ∷ []) (ratios-field ∷ []))
 
 -- the front
 module _ (k : tie.After-front-end) where
@@ -109,7 +108,7 @@ unfolding recordOf
 returns c =
     let r = c .before .before .before .before in
     let e = entry r in
-    first-none (front e) (positions-field e ∷ ratios-field e ∷ []) (fieldsOf (given-run e)) (front-then (given-run e)) (e .args .out .now) _ _ (r .put-front .ensures) (c .enum-told .given .1)
+    first-none (front e) (positions-field e ∷ ratios-field e ∷ []) (fieldsOf (given-run e)) refl (e .args .out .now) _ _ (r .put-front .ensures) (c .enum-told .given .1)
 
 sub-put-coded : tie.Need-sub-put-coded
 sub-put-coded c =
@@ -143,7 +142,7 @@ returns-2 c =
     let k = coding n in
     let e = front-entry k in
     more-none (front e) (positions-field e ∷ []) (e .args .out .now) _ _ (front-done k) _ _ (n .put-coded .ensures)
-    (ratios-field e ∷ []) (fieldsOf (given-run e)) (front-then (given-run e)) (c .enum-told2 .given .1)
+    (ratios-field e ∷ []) (fieldsOf (given-run e)) refl (c .enum-told2 .given .1)
 
 add-positions-end : tie.Need-add-positions-end
 add-positions-end c =

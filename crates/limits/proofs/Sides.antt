@@ -1,7 +1,7 @@
 -- Laws of the sides that a record stores.
 use mathlib.Core.Bool.{true}
 use mathlib.Core.Path.{_≡_, ap₂}
-use Prim.Native.Nat.{ℕ, _≤_, _<_}
+use Prim.Native.Nat.{ℕ, _≤_}
 use borrow.Author.Tests.{leb-true, le-leb}
 use lib.Dec.{leb}
 use Rattle.lists.specs.Compare.{both}

@@ -3,22 +3,19 @@ use mathlib.Core.Path.{_≡_, refl, sym, ap, ap₂, _∙_}
 use mathlib.Core.Bool.{Bool, true, false, not, cond}
 use mathlib.Core.List.{List, [], _∷_, _++_, append-nil}
 use mathlib.Core.Logic.{_⊎_, inl, inr}
-use mathlib.Core.Option.{Option, some}
+use mathlib.Core.Option.{Option}
 use Prim.Native.Nat.{ℕ, zero, suc, _≤_, _<_}
 use native.Mathlib.Omega.{arith}
-use borrow.Author.Tests.{eqb-true, eq-eqb, le-ltb, le-leb, lt-leb, not-false}
+use borrow.Author.Tests.{eqb-true, eq-eqb, le-ltb, not-false}
 use lib.Dec.{eqb, lit<, lit≤}
 use lib.ListN.{length, drop}
 use Rattle.lists.specs.Below.{Below}
 use Rattle.lists.specs.Compare.{both}
-use Rattle.lists.specs.Lists.{member}
 use Rattle.bits.specs.Digits.{bytesOf, numberOf}
-use Rattle.bits.proofs.Digits.{length-digits, number-digits-lt}
-use Rattle.limits.specs.Rates.{isRate}
-use Rattle.limits.specs.Sides.{maxSide, isSide}
+use Rattle.bits.proofs.Digits.{number-digits-lt}
 use Rattle.limits.proofs.Rates.{rate-high}
-use Rattle.refusals.specs.Tests.{Test, test, firstOf}
-use Rattle.refusals.proofs.Tests.{first-here, first-skip, first-clear}
+use Rattle.refusals.specs.Tests.{firstOf}
+use Rattle.refusals.proofs.Tests.{first-skip, first-clear}
 use Rattle.position_format.specs.Rows.{rows}
 use Rattle.position_format.specs.Positions.{codedPositions, readPositions}
 use Rattle.position_format.proofs.Rows.{rows-good}
@@ -29,14 +26,14 @@ use Rattle.ratio_format.proofs.Bodies.{nine-bytes}
 use Rattle.ratio_format.proofs.ReadFrom.{open-coded}
 use Rattle.ratio_format.proofs.Shortest.{shortest}
 use Rattle.ratio_format.proofs.Strict.{strict-coded}
-use Rattle.record_format.specs.Fields.{Field, fieldOf, fieldBytes, laid, bodyAt}
-use Rattle.record_format.specs.Runs.{Run, run, rateTag, sideTag, ratiosTag, rateSize, sideSize, countSize, sideFields, recordOf}
-use Rattle.record_format.specs.Reading.{Answer, refusalAnswer, recordAnswer, readTests, readWith, readStrict, readOpen, listOf, otherRate, rateAt, sideAt, hasSide, rateIn, sideTests, countTests, roomTests, positionsTests, ratiosTests}
-use Rattle.record_format.specs.Claims.{Accepted, AllAccepted, joined, ownTests, ownAnswer, runAnswer, ReadsBack, ReadsOnly, AcceptsExactly, OpenAgrees, ReadsFront, SideRefused, PrefixFree, ListsApart, TrailingBytes, Shortest, NineEach, Demand3}
-use Rattle.record_format.proofs.Fields.{length-field, StandAll, laid-stand, fieldIn, closed, laid-same}
-use Rattle.record_format.proofs.Reading.{refusal, field-passes, room-enough, tests-flat, answer-clear, answer-refused, answer-good}
+use Rattle.record_format.specs.Fields.{Field, fieldBytes, laid}
+use Rattle.record_format.specs.Runs.{Run, run, ratiosTag, rateSize, countSize, sideFields, recordOf}
+use Rattle.record_format.specs.Reading.{Answer, recordAnswer, readTests, readWith, readStrict, readOpen, listOf, otherRate}
+use Rattle.record_format.specs.Claims.{Accepted, AllAccepted, joined, ownTests, ownAnswer, runAnswer, ReadsBack, ReadsOnly, AcceptsExactly, OpenAgrees, ReadsFront, PrefixFree, ListsApart, TrailingBytes, Shortest, NineEach, Demand3}
+use Rattle.record_format.proofs.Fields.{fieldIn, closed, laid-same}
+use Rattle.record_format.proofs.Reading.{room-enough, answer-clear, answer-good}
 use Rattle.record_format.proofs.Runs.{rateField, pointFields, flatFields, record-flat, countIndex, positionsIndex, ratiosIndex, fields-small}
-use Rattle.record_format.proofs.Sides.{present-tests, sides-same}
+use Rattle.record_format.proofs.Sides.{sides-same}
 use Rattle.record_format.proofs.ReadsBack.{read-record}
 use Rattle.record_format.proofs.ReadsOnly.{front-stands, accepted-begins}
 use Rattle.record_format.proofs.Followed.{followed}
@@ -71,7 +68,7 @@ reads-only e s ts vs bytes h =
     (r, a, (b .rest, b .splits), q ∙ own-of r e ts vs (sym (ap (λ (x : Answer). x .answer .number) q) ∙ h))
 
 -- no other rate is expected
-no-other : (e r : ℕ) → (e ≡ 0) ⊎ (e ≡ r) → otherRate e r ≡ false
+pub no-other : (e r : ℕ) → (e ≡ 0) ⊎ (e ≡ r) → otherRate e r ≡ false
 no-other e r (inl h) = rw (eq-eqb e 0 h)
 no-other e r (inr h) = go (eqb e 0)
   where
@@ -79,7 +76,7 @@ no-other e r (inr h) = go (eqb e 0)
     go true = refl
     go false = rw (eq-eqb e r h)
 
-other-none : (e r : ℕ) → otherRate e r ≡ false → (e ≡ 0) ⊎ (e ≡ r)
+pub other-none : (e r : ℕ) → otherRate e r ≡ false → (e ≡ 0) ⊎ (e ≡ r)
 other-none e r h = go (eqb e 0) refl h
   where
     go : (b : Bool) → eqb e 0 ≡ b → both (not b) (not (eqb e r)) ≡ false → (e ≡ 0) ⊎ (e ≡ r)
@@ -138,55 +135,6 @@ pub reads-front : ReadsFront
 reads-front k e s ts vs bytes h =
     let clear = reading-clear k e s ts vs h in
     rw (record-of k e s ts vs clear) (front-stands k e s (length ts) (length vs) bytes clear)
-
--- a rate's field, and then a side's that stores d
-module _ (k : ℕ → List ℕ → Option (List ℕ)) (e r d : ℕ) (rest ts vs : List ℕ) (listed : isRate r ≡ true) (o : (e ≡ 0) ⊎ (e ≡ r)) (small : d < 256) (none-such : isSide d ≡ false) where
-  abbrev fields : List Field
-  fields = fieldOf rateTag (bytesOf rateSize r) ∷ fieldOf sideTag (bytesOf sideSize d) ∷ []
-
-  abbrev s : List ℕ
-  s = laid fields ++ rest
-
-  both-stand : StandAll s rateAt fields
-  both-stand = laid-stand [] fields rest (omega (arith, length-digits 256 rateSize r), (omega (arith, length-digits 256 sideSize d), tt))
-
-  rate-is : rateIn s ≡ r
-  rate-is = ap (numberOf 256) (both-stand .0 .within) ∙ number-digits-lt (lit< tt) rateSize (omega (arith, rate-high r listed))
-
-  stored-is : numberOf 256 (bodyAt s (sideAt s)) ≡ d
-  stored-is = ap (numberOf 256) (both-stand .1 .0 .within) ∙ number-digits-lt (lit< tt) sideSize (omega arith)
-
-  at-side : sideAt s ≡ 7
-  at-side = both-stand .0 .next ∙ omega (arith, length-field (fieldOf rateTag (bytesOf rateSize r)), length-digits 256 rateSize r)
-
-  twenty : (tests : List Test) → firstOf (sideTests s ++ tests) ≡ record { number = 20; place = 7 }
-  unfolding member
-  twenty tests =
-      let present : hasSide s ≡ true = ap (λ (t : ℕ). eqb t sideTag) (both-stand .1 .0 .tagged) in
-      ap (λ (l : List Test). firstOf (l ++ tests)) (present-tests s present)
-      ∙ field-passes (both-stand .1 .0) (sideTag ∷ []) (some sideSize) (test (not (isSide (numberOf 256 (bodyAt s (sideAt s))))) 20 (sideAt s) ∷ tests) refl (length-digits 256 sideSize d)
-      ∙ first-here _ _ (ap not (ap isSide stored-is ∙ none-such))
-      ∙ ap (refusal 20) at-side
-
-  side-refusal : readWith k e s ts vs ≡ refusalAnswer (record { number = 20; place = 7 }) ts vs
-  unfolding readWith member
-  side-refusal =
-      let from-count = countTests s ++ (roomTests s (length ts) (length vs) ++ (positionsTests s ++ ratiosTests k s)) in
-      answer-refused (recordAnswer k s ts vs) ts vs (readTests k e s (length ts) (length vs)) (record { number = 20; place = 7 })
-      (sym
-      (ap firstOf (tests-flat k e s (length ts) (length vs))
-      ∙ field-passes (both-stand .0) (rateTag ∷ []) (some rateSize)
-      (test (not (isRate (rateIn s))) 13 rateAt ∷ test (otherRate e (rateIn s)) 14 rateAt ∷ (sideTests s ++ from-count)) refl (length-digits 256 rateSize r)
-      ∙ first-skip _ _ (ap (λ (x : ℕ). not (isRate x)) rate-is ∙ ap not listed)
-      ∙ first-skip _ _ (ap (otherRate e) rate-is ∙ no-other e r o)
-      ∙ twenty from-count))
-      (λ z. omega arith)
-
-pub side-refused : SideRefused
-unfolding isSide
-side-refused k e r d rest ts vs listed o (inl z) = side-refusal k e r d rest ts vs listed o (omega arith) (rw z)
-side-refused k e r d rest ts vs listed o (inr h) =
-    side-refusal k e r d rest ts vs listed o (h .1) (ap₂ both (le-leb 1 d (omega arith)) (lt-leb d maxSide (h .0)))
 
 -- ---- demand 3
 

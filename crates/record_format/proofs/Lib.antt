@@ -7,6 +7,7 @@ pub mod ReadsBack
 pub mod ReadsOnly
 pub mod Followed
 pub mod Claims
+pub mod SideClaims
 pub mod FourFields
 pub mod Longest
 pub mod Sizes

@@ -13,7 +13,6 @@
 --   ReadsOnly           what strict reading accepts is a run's record, and the answer is that run
 --   AcceptsExactly      when strict reading accepts
 --   ReadsFront          what any reading of the ratios accepts begins with the fields of the rate, the side and the count that it answers
---   SideRefused         a stored side that is none is refused by 20, at its field
 --   OpenAgrees          what strict reading accepts open reading answers alike
 --   PrefixFree          no record begins another: in the standard term, records are a prefix code
 --   ListsApart          joined records tell their lists: a uniquely decodable code
@@ -25,18 +24,17 @@ use mathlib.Core.List.{List, [], _∷_, _++_}
 use mathlib.Core.Logic.{_⊎_, _↔_}
 use mathlib.Core.Option.{Option, some}
 use mathlib.Core.Path.{_≡_}
-use Prim.Native.Nat.{ℕ, _+_, _*_, _≤_, _<_, _^_}
+use Prim.Native.Nat.{ℕ, _+_, _*_, _≤_, _^_}
 use lib.ListN.{length}
 use Rattle.lists.specs.Below.{Below}
-use Rattle.bits.specs.Digits.{bytesOf}
 use Rattle.limits.specs.Rates.{isRate}
 use Rattle.limits.specs.Points.{maxPoints}
 use Rattle.limits.specs.Sides.{maxSide}
 use Rattle.refusals.specs.Tests.{Test, test, firstOf, refused}
 use Rattle.outputs.specs.Outputs.{over}
 use Rattle.ratio_format.specs.Bodies.{codedRatios, openRatios}
-use Rattle.record_format.specs.Fields.{fieldOf, headSize, laid}
-use Rattle.record_format.specs.Runs.{Run, rateTag, sideTag, rateSize, sideSize, sideLength, frontFields, recordOf}
+use Rattle.record_format.specs.Fields.{headSize, laid}
+use Rattle.record_format.specs.Runs.{Run, rateSize, sideLength, frontFields, recordOf}
 use Rattle.record_format.specs.Writing.{accepts}
 use Rattle.record_format.specs.Reading.{Answer, refusalAnswer, endAt, otherRate, lacksRoom, rateAt, readWith, readStrict, readOpen}
 
@@ -117,12 +115,6 @@ abbrev pub ReadsFront : Type 0
 ReadsFront = (k : ℕ → List ℕ → Option (List ℕ)) (e : ℕ) (s ts vs : List ℕ) → Bytes s → readWith k e s ts vs .answer .number ≡ 0
     → let a = readWith k e s ts vs .answer in
     (isRate (a .rate) ≡ true) × (a .side ≤ maxSide) × (a .count ≤ maxPoints) × Beginning (laid (frontFields (a .rate) (a .side) (a .count))) s
-
--- demand 1, in both readings: past a rate of the list that is expected, or where none is, a side's field that stores 0 or more than 26 is
--- refused by 20 at offset 7, whatever follows
-abbrev pub SideRefused : Type 0
-SideRefused = (k : ℕ → List ℕ → Option (List ℕ)) (e r d : ℕ) (rest ts vs : List ℕ) → isRate r ≡ true → (e ≡ 0) ⊎ (e ≡ r) → (d ≡ 0) ⊎ ((26 < d) × (d < 256))
-    → readWith k e (laid (fieldOf rateTag (bytesOf rateSize r) ∷ fieldOf sideTag (bytesOf sideSize d) ∷ []) ++ rest) ts vs ≡ refusalAnswer (record { number = 20; place = 7 }) ts vs
 
 -- demand 3: of two runs that differ, in rate, side, positions or ratios, neither record is a beginning of the other
 abbrev pub PrefixFree : Type 0

@@ -3,6 +3,7 @@ pub mod Runs
 pub mod Writing
 pub mod Reading
 pub mod Claims
+pub mod SideClaims
 pub mod FourFields
 pub mod Examples
 pub mod SideExamples

@@ -64,7 +64,7 @@ abbrev pub sideFields : ℕ → List Field
 sideFields zero = []
 sideFields (suc n) = fieldOf sideTag (bytesOf sideSize (suc n)) ∷ []
 
--- no byte, or a head and a byte
+-- no byte, or a head and a byte: the length of that field, laid (length-side, in proofs/Runs)
 abbrev pub sideLength : ℕ → ℕ
 sideLength zero = 0
 sideLength (suc n) = headSize + sideSize

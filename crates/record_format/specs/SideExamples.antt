@@ -1,5 +1,5 @@
 -- Document 02, No. 2: answers of reading and of writing with a side, as one table each, computed from the definitions by one statement.
---   front, side d, count n, none    bytes of fields: the rate 96000, a side that stores d, a count n below 256, and the two bodies of no points
+--   rate, side d, count n, noPoints bytes of fields: the rate 96000, a side that stores d, a count n below 256, and the two bodies of no points
 --   open-only                       the fields of two points at 0 whose ratios are two exceptions of 0: no coding, but an open form
 --   refusedRead n p, read d n u     the answer of a refusal, and of a record with side d, n points and u bytes
 --   ReadExample, row, rowOpen       the expected rate, the input, and the answers of strict and of open reading
@@ -33,8 +33,8 @@ use Rattle.record_format.specs.Reading.{countAt, sideIn, readWith, readS
 -- ---- reading
 
 -- a rate's field
-abbrev front : List ℕ
-front = 0x01 ∷ 0x00 ∷ 0x04 ∷ 0x00 ∷ 0x01 ∷ 0x77 ∷ 0x00 ∷ []
+abbrev rate : List ℕ
+rate = 0x01 ∷ 0x00 ∷ 0x04 ∷ 0x00 ∷ 0x01 ∷ 0x77 ∷ 0x00 ∷ []
 
 -- a side's
 abbrev side : ℕ → List ℕ
@@ -45,8 +45,8 @@ abbrev count : ℕ → List ℕ
 count n = 0x02 ∷ 0x00 ∷ 0x02 ∷ 0x00 ∷ n ∷ []
 
 -- the positions' and the ratios' of no points
-abbrev none : List ℕ
-none = 0x03 ∷ 0x00 ∷ 0x00 ∷ 0x04 ∷ 0x00 ∷ 0x00 ∷ []
+abbrev noPoints : List ℕ
+noPoints = 0x03 ∷ 0x00 ∷ 0x00 ∷ 0x04 ∷ 0x00 ∷ 0x00 ∷ []
 
 -- those of two points, openly
 abbrev open-only : List ℕ
@@ -78,31 +78,31 @@ rowOpen s a b = record { expected = 0; input = s; strictly = a; openly = b }
 -- the field past the rate and what follows it: cut, with another tag, of another length, with each kind of number, twice, out of its place
 pub reads : List ReadExample
 reads =
-    row 0 front (refusedRead 10 7)
-    ∷ row 0 (front ++ (0x06 ∷ [])) (refusedRead 10 7)
-    ∷ row 0 (front ++ (0x09 ∷ [])) (refusedRead 10 7)
-    ∷ row 0 (front ++ (0x09 ∷ 0x00 ∷ 0x01 ∷ 0x04 ∷ [])) (refusedRead 11 7)
-    ∷ row 0 (front ++ (0x06 ∷ 0x00 ∷ 0x02 ∷ [])) (refusedRead 12 7)
-    ∷ row 0 (front ++ (0x06 ∷ 0x00 ∷ 0x00 ∷ [])) (refusedRead 12 7)
-    ∷ row 0 (front ++ (0x06 ∷ 0x00 ∷ 0x01 ∷ [])) (refusedRead 10 7)
-    ∷ row 0 (front ++ side 0) (refusedRead 20 7)
-    ∷ row 0 (front ++ side 27) (refusedRead 20 7)
-    ∷ row 0 (front ++ side 255) (refusedRead 20 7)
-    ∷ row 0 (front ++ side 26) (refusedRead 10 11)
-    ∷ row 0 (front ++ (side 4 ++ side 4)) (refusedRead 11 11)
-    ∷ row 0 (front ++ (count 0 ++ side 4)) (refusedRead 11 12)
-    ∷ row 0 (side 4 ++ front) (refusedRead 11 0)
+    row 0 rate (refusedRead 10 7)
+    ∷ row 0 (rate ++ (0x06 ∷ [])) (refusedRead 10 7)
+    ∷ row 0 (rate ++ (0x09 ∷ [])) (refusedRead 10 7)
+    ∷ row 0 (rate ++ (0x09 ∷ 0x00 ∷ 0x01 ∷ 0x04 ∷ [])) (refusedRead 11 7)
+    ∷ row 0 (rate ++ (0x06 ∷ 0x00 ∷ 0x02 ∷ [])) (refusedRead 12 7)
+    ∷ row 0 (rate ++ (0x06 ∷ 0x00 ∷ 0x00 ∷ [])) (refusedRead 12 7)
+    ∷ row 0 (rate ++ (0x06 ∷ 0x00 ∷ 0x01 ∷ [])) (refusedRead 10 7)
+    ∷ row 0 (rate ++ side 0) (refusedRead 20 7)
+    ∷ row 0 (rate ++ side 27) (refusedRead 20 7)
+    ∷ row 0 (rate ++ side 255) (refusedRead 20 7)
+    ∷ row 0 (rate ++ side 26) (refusedRead 10 11)
+    ∷ row 0 (rate ++ (side 4 ++ side 4)) (refusedRead 11 11)
+    ∷ row 0 (rate ++ (count 0 ++ side 4)) (refusedRead 11 12)
+    ∷ row 0 (side 4 ++ rate) (refusedRead 11 0)
     ∷ row 0 (0x01 ∷ 0x00 ∷ 0x04 ∷ 0x00 ∷ 0x00 ∷ 0x00 ∷ 0x01 ∷ side 0) (refusedRead 13 0)
-    ∷ row 48000 (front ++ side 0) (refusedRead 14 0)
-    ∷ row 0 (front ++ (side 4 ++ (0x02 ∷ 0x00 ∷ 0x02 ∷ 0x10 ∷ 0x01 ∷ []))) (refusedRead 15 11)
-    ∷ row 0 (front ++ (side 4 ++ count 3)) (refusedRead 16 11)
-    ∷ row 0 (front ++ count 3) (refusedRead 16 7)
-    ∷ row 0 (front ++ (side 4 ++ (count 0 ++ (0x03 ∷ 0x00 ∷ 0x01 ∷ 0x00 ∷ [])))) (refusedRead 17 16)
-    ∷ row 0 (front ++ (count 0 ++ none)) (read 0 0 18)
-    ∷ row 0 (front ++ (side 1 ++ (count 0 ++ none))) (read 1 0 22)
-    ∷ row 96000 (front ++ (side 26 ++ (count 0 ++ none))) (read 26 0 22)
-    ∷ rowOpen (front ++ (count 2 ++ open-only)) (refusedRead 18 31) (read 0 2 52)
-    ∷ rowOpen (front ++ (side 4 ++ (count 2 ++ open-only))) (refusedRead 18 35) (read 4 2 56)
+    ∷ row 48000 (rate ++ side 0) (refusedRead 14 0)
+    ∷ row 0 (rate ++ (side 4 ++ (0x02 ∷ 0x00 ∷ 0x02 ∷ 0x10 ∷ 0x01 ∷ []))) (refusedRead 15 11)
+    ∷ row 0 (rate ++ (side 4 ++ count 3)) (refusedRead 16 11)
+    ∷ row 0 (rate ++ count 3) (refusedRead 16 7)
+    ∷ row 0 (rate ++ (side 4 ++ (count 0 ++ (0x03 ∷ 0x00 ∷ 0x01 ∷ 0x00 ∷ [])))) (refusedRead 17 16)
+    ∷ row 0 (rate ++ (count 0 ++ noPoints)) (read 0 0 18)
+    ∷ row 0 (rate ++ (side 1 ++ (count 0 ++ noPoints))) (read 1 0 22)
+    ∷ row 96000 (rate ++ (side 26 ++ (count 0 ++ noPoints))) (read 26 0 22)
+    ∷ rowOpen (rate ++ (count 2 ++ open-only)) (refusedRead 18 31) (read 0 2 52)
+    ∷ rowOpen (rate ++ (side 4 ++ (count 2 ++ open-only))) (refusedRead 18 35) (read 4 2 56)
     ∷ []
 
 -- each answer, computed from the definitions, is the one that is given

@@ -2,8 +2,8 @@
 --   minRecord, maxRecord   the fewest and the most bytes of a record
 --   maxPositionsBody, maxRatiosBody   the most bytes of the bodies of positions and of ratios
 --   longestOn d     the most bytes of the record of a run on the side d: 55,321 for 0, four more for any other
---   Within          an accepted run's record has 18 to 55,325 bytes, and 55,321 at most on side 0; its positions' body has at most 18,439 and
---                   its ratios' at most 36,864
+--   Within          an accepted run's record has 18 to 55,325 bytes: 18 to 55,321 on side 0, and 22 to 55,325 on any other; its positions' body
+--                   has at most 18,439 and its ratios' at most 36,864
 --   NoPoints        the record of no points has 18 bytes, or 22 on a side, and at each rate of the list and on each side that run is accepted
 --   firstValues f n the values f 0, f 1, .., n of them; swing and twoEnds: those of the longest run's positions and ratios
 --   longest d       a run on the side d whose record is as long as it can be
@@ -45,7 +45,7 @@ maxRecord = longestOn maxSide
 -- the bounds, for every accepted run
 abbrev pub Within : Type 0
 Within = (r : Run) → Accepted r
-    → (minRecord ≤ length (recordOf r))
+    → (minRecord + sideLength (r .side) ≤ length (recordOf r))
     × (length (recordOf r) ≤ maxRecord)
     × (length (recordOf r) ≤ longestOn (r .side))
     × (length (codedPositions rows (r .positions)) ≤ maxPositionsBody)

@@ -39,12 +39,13 @@ sidedText = take 11 listedText ++ (115 ∷ 105 ∷ 100 ∷ 101 ∷ 32 ∷ 52 ∷
 abbrev pub refusedText : List ℕ
 refusedText = 114 ∷ 101 ∷ 102 ∷ 117 ∷ 115 ∷ 101 ∷ 100 ∷ 32 ∷ 49 ∷ 48 ∷ 32 ∷ 97 ∷ 116 ∷ 32 ∷ 48 ∷ 10 ∷ []
 
--- `rate 96000`, `side 4`, no line for side 0, `count 3`, `span 20`, `960 3fe0000000000000`, `refused 10 at 0`; a negative span, `span -43`; and
+-- `rate 96000`, `side 4`, `side 26`, no line for side 0, `count 3`, `span 20`, `960 3fe0000000000000`, `refused 10 at 0`; a negative span, `span -43`; and
 -- the outputs in full
 pub examples : List Example
 examples =
     example (rateLine 96000) (114 ∷ 97 ∷ 116 ∷ 101 ∷ 32 ∷ 57 ∷ 54 ∷ 48 ∷ 48 ∷ 48 ∷ 10 ∷ [])
     ∷ example (sideLine 4) (115 ∷ 105 ∷ 100 ∷ 101 ∷ 32 ∷ 52 ∷ 10 ∷ [])
+    ∷ example (sideLine 26) (115 ∷ 105 ∷ 100 ∷ 101 ∷ 32 ∷ 50 ∷ 54 ∷ 10 ∷ [])
     ∷ example (sideLine 0) []
     ∷ example (countLine 3) (99 ∷ 111 ∷ 117 ∷ 110 ∷ 116 ∷ 32 ∷ 51 ∷ 10 ∷ [])
     ∷ example (spanLine (pos 20)) (115 ∷ 112 ∷ 97 ∷ 110 ∷ 32 ∷ 50 ∷ 48 ∷ 10 ∷ [])

@@ -159,9 +159,9 @@ pub fn put_listing(
     requires { ⌜ (length (now positions) ≡ length (now ratios)) × (106 + 38 * length (now positions) ≤ length (now out)) ⌝ }
     ensures { λ r. ⌜ PlacedAt (106 + 38 * length (now (positions .entry))) (listing rate side span (now (positions .entry)) (now (ratios .entry))) 0 r (now (out .entry)) (now (out .exit)) ⌝ }
 {
-    let second = put_rate(out, 0, rate);
-    let count = put_side(out, second, side);
-    let next = put_count(out, count, positions.len() as u64);
-    let points = put_span(out, next, span);
-    put_points(out, points, positions, ratios)
+    let side_at = put_rate(out, 0, rate);
+    let count_at = put_side(out, side_at, side);
+    let span_at = put_count(out, count_at, positions.len() as u64);
+    let points_at = put_span(out, span_at, span);
+    put_points(out, points_at, positions, ratios)
 }

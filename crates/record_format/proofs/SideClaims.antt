@@ -1,0 +1,439 @@
+-- What reading does with the field past the rate.
+use mathlib.Core.Path.{_≡_, refl, sym, ap, ap₂, _∙_, subst}
+use mathlib.Core.Bool.{Bool, true, false, not, cond}
+use mathlib.Core.List.{List, [], _∷_, _++_, map, map-append}
+use mathlib.Core.Logic.{inl, inr}
+use mathlib.Core.Option.{Option, none, some}
+use Prim.Native.Nat.{ℕ, _+_, _-_, _^_, _≤_, _<_}
+use native.Mathlib.Nat.{add-zero}
+use native.Mathlib.Omega.{arith}
+use borrow.Author.Tests.{eqb-false, ne-eqb, ltb-true, ltb-false, lt-ltb, le-ltb, le-leb, lt-leb}
+use lib.Dec.{ltb, eqb, lit<}
+use lib.ListN.{length, take, drop, getD, length-append}
+use lib.Seq.{take-at, drop-append-add, getD-drop, getD-append-add}
+use Rattle.lists.specs.Compare.{both}
+use Rattle.lists.specs.Lists.{member}
+use Rattle.bits.specs.Digits.{bytesOf, numberOf}
+use Rattle.bits.proofs.Digits.{length-digits, number-digits-lt}
+use Rattle.limits.specs.Points.{maxPoints}
+use Rattle.limits.specs.Rates.{isRate}
+use Rattle.limits.specs.Sides.{maxSide, isSide}
+use Rattle.limits.proofs.Rates.{rate-high}
+use Rattle.limits.proofs.Sides.{side-in}
+use Rattle.refusals.specs.declared.Refusal.{Refusal}
+use Rattle.refusals.specs.Tests.{Test, test, firstOf, refused}
+use Rattle.refusals.proofs.Tests.{first-here, first-skip}
+use Rattle.position_format.specs.Rows.{rows}
+use Rattle.position_format.specs.Positions.{readPositions}
+use Rattle.record_format.specs.Fields.{Field, fieldOf, headSize, tagAt, lengthAt, bodyAt, nextAt, fieldTests}
+use Rattle.record_format.specs.Runs.{rateTag, sideTag, countTag, positionsTag, ratiosTag, rateSize, sideSize, countSize}
+use Rattle.record_format.specs.Reading.{Answer, refusalAnswer, recordAnswer, readTests, readWith, rateAt, sideAt, hasSide, countAt, positionsAt, ratiosAt, endAt, rateIn, sideIn, countIn, positionsIn, ratiosIn, otherRate, lacksRoom, missing, codedTests, sideTests, countTests, roomTests, positionsTests, ratiosTests}
+use Rattle.record_format.specs.SideClaims.{rateBytes, sideBytes, Expects, refusedBy, RateFirst, HeadCut, TagRefused, LengthRefused, SideRefused, moved, SideMoves}
+use Rattle.record_format.proofs.Fields.{FieldStands, length-field, stands}
+use Rattle.record_format.proofs.Reading.{refusal, head-short, tag-other, length-other, field-passes, tests-flat, answer-refused}
+use Rattle.record_format.proofs.Sides.{absent-count, absent-tests, present-count, present-side, present-tests}
+use Rattle.record_format.proofs.Claims.{no-other, other-none}
+
+-- a tag that is not the one of a list of one
+not-one : (x t : ℕ) → (x ≡ t → ⊥) → member x (t ∷ []) ≡ false
+unfolding member
+not-one x t d = rw (ne-eqb x t d)
+
+-- ---- past the rate
+
+module _ (k : ℕ → List ℕ → Option (List ℕ)) (e r : ℕ) (rest ts vs : List ℕ) where
+  abbrev s : List ℕ
+  s = rateBytes r ++ rest
+
+  abbrev tests : List Test
+  tests = readTests k e s (length ts) (length vs)
+
+  -- the tests from the count's on, and from the side's on
+  abbrev from-count : List Test
+  from-count = countTests s ++ (roomTests s (length ts) (length vs) ++ (positionsTests s ++ ratiosTests k s))
+
+  abbrev from-side : List Test
+  from-side = sideTests s ++ from-count
+
+  length-rate : length (rateBytes r) ≡ 7
+  length-rate = length-field (fieldOf rateTag (bytesOf rateSize r)) ∙ ap (λ (n : ℕ). headSize + n) (length-digits 256 rateSize r)
+
+  length-all : length s ≡ 7 + length rest
+  length-all = length-append (rateBytes r) rest ∙ ap (λ (n : ℕ). n + length rest) length-rate
+
+  rate-stands : FieldStands s rateAt (fieldOf rateTag (bytesOf rateSize r))
+  rate-stands = stands [] (fieldOf rateTag (bytesOf rateSize r)) rest (omega (arith, length-digits 256 rateSize r))
+
+  at-side : sideAt s ≡ 7
+  at-side = rate-stands .next ∙ omega (arith, length-rate)
+
+  -- what follows the rate
+  rest-from : (n : ℕ) → drop (7 + n) s ≡ drop n rest
+  rest-from n = ap (λ (m : ℕ). drop (m + n) s) (sym length-rate) ∙ drop-append-add (rateBytes r) rest n
+
+  tag-rest : tagAt s (sideAt s) ≡ tagAt rest 0
+  unfolding tagAt
+  tag-rest = ap (λ (p : ℕ). getD s p 0) (at-side ∙ sym length-rate ∙ sym (add-zero (length (rateBytes r)))) ∙ getD-append-add (rateBytes r) rest 0 0
+
+  rate-tests : firstOf tests ≡ firstOf (test (not (isRate (rateIn s))) 13 rateAt ∷ test (otherRate e (rateIn s)) 14 rateAt ∷ from-side)
+  unfolding member
+  rate-tests =
+      ap firstOf (tests-flat k e s (length ts) (length vs))
+      ∙ field-passes rate-stands (rateTag ∷ []) (some rateSize) (test (not (isRate (rateIn s))) 13 rateAt ∷ test (otherRate e (rateIn s)) 14 rateAt ∷ from-side)
+      refl (length-digits 256 rateSize r)
+
+  refuses : (n p : ℕ) → (n ≡ 0 → ⊥) → firstOf tests ≡ refusal n p → readWith k e s ts vs ≡ refusedBy n p ts vs
+  unfolding readWith
+  refuses n p d q = answer-refused (recordAnswer k s ts vs) ts vs tests (refusal n p) (sym q) d
+
+  module _ (small : r < 2 ^ 32) where
+    rate-is : rateIn s ≡ r
+    rate-is = ap (numberOf 256) (rate-stands .within) ∙ number-digits-lt (lit< tt) rateSize (omega arith)
+
+    thirteen : isRate r ≡ false → readWith k e s ts vs ≡ refusedBy 13 0 ts vs
+    thirteen b = refuses 13 0 (λ z. omega arith) (rate-tests ∙ first-here _ _ (ap (λ (x : ℕ). not (isRate x)) rate-is ∙ ap not b))
+
+    fourteen : isRate r ≡ true → (Expects e r → ⊥) → readWith k e s ts vs ≡ refusedBy 14 0 ts vs
+    fourteen b d =
+        refuses 14 0 (λ z. omega arith)
+        (rate-tests ∙ first-skip _ _ (ap (λ (x : ℕ). not (isRate x)) rate-is ∙ ap not b) ∙ first-here _ _ (ap (otherRate e) rate-is ∙ differs (otherRate e r) refl))
+      where
+        differs : (b : Bool) → otherRate e r ≡ b → otherRate e r ≡ true
+        differs true q = q
+        differs false q = absurd (d (other-none e r q))
+
+  module _ (listed : isRate r ≡ true) (o : Expects e r) where
+    rate-small : r < 2 ^ 32
+    rate-small = omega (arith, rate-high r listed)
+
+    past-rate : firstOf tests ≡ firstOf from-side
+    past-rate =
+        rate-tests
+        ∙ first-skip _ _ (ap (λ (x : ℕ). not (isRate x)) (rate-is rate-small) ∙ ap not listed)
+        ∙ first-skip _ _ (ap (otherRate e) (rate-is rate-small) ∙ no-other e r o)
+
+    past-absent : hasSide s ≡ false → firstOf tests ≡ firstOf from-count
+    past-absent a = past-rate ∙ ap (λ (l : List Test). firstOf (l ++ from-count)) (absent-tests s a)
+
+    ten : length rest < 3 → readWith k e s ts vs ≡ refusedBy 10 7 ts vs
+    ten h = refuses 10 7 (λ z. omega arith) (go (hasSide s) refl)
+      where
+        go : (b : Bool) → hasSide s ≡ b → firstOf tests ≡ refusal 10 7
+        go false a =
+            let at : countAt s ≡ 7 = absent-count s a ∙ at-side in
+            past-absent a ∙ sym (head-short s (countTag ∷ []) (some countSize) (countAt s) _ (omega (arith, length-all))) ∙ ap (refusal 10) at
+        go true a =
+            past-rate
+            ∙ ap (λ (l : List Test). firstOf (l ++ from-count)) (present-tests s a)
+            ∙ sym (head-short s (sideTag ∷ []) (some sideSize) (sideAt s) _ (omega (arith, length-all, at-side)))
+            ∙ ap (refusal 10) at-side
+
+    eleven : 3 ≤ length rest → (tagAt rest 0 ≡ 2 → ⊥) → (tagAt rest 0 ≡ 6 → ⊥) → readWith k e s ts vs ≡ refusedBy 11 7 ts vs
+    eleven h two six =
+        let absent : hasSide s ≡ false = ne-eqb _ _ (λ z. six (sym tag-rest ∙ z)) in
+        let at : countAt s ≡ sideAt s = absent-count s absent in
+        refuses 11 7 (λ z. omega arith)
+        (past-absent absent
+        ∙ sym
+        (tag-other s (countTag ∷ []) (some countSize) (countAt s) _ (omega (arith, at, at-side, length-all))
+        (not-one _ _ (λ z. two (sym tag-rest ∙ ap (tagAt s) (sym at) ∙ z))))
+        ∙ ap (refusal 11) (at ∙ at-side))
+
+    -- a side's tag and a length
+    twelve : (l : ℕ) (t : List ℕ) → rest ≡ (6 ∷ bytesOf 2 l) ++ t → l < 256 ^ 2 → (l ≡ 1 → ⊥) → readWith k e s ts vs ≡ refusedBy 12 7 ts vs
+    unfolding tagAt lengthAt member
+    twelve l t is small d =
+        let six : tagAt s (sideAt s) ≡ 6 = tag-rest ∙ ap (λ (x : List ℕ). getD x 0 0) is in
+        let long : 3 ≤ length rest = omega (arith, ap length is, length-append (6 ∷ bytesOf 2 l) t, length-digits 256 2 l) in
+        let stated : lengthAt s (sideAt s) ≡ l =
+        ap (λ (p : ℕ). numberOf 256 (take 2 (drop (p + 1) s))) at-side
+        ∙ ap (λ (x : List ℕ). numberOf 256 (take 2 x)) (rest-from 1 ∙ ap (drop 1) is)
+        ∙ ap (numberOf 256) (take-at (bytesOf 2 l) t 2 (length-digits 256 2 l)) ∙ number-digits-lt (lit< tt) 2 small in
+        refuses 12 7 (λ z. omega arith)
+        (past-rate
+        ∙ ap (λ (l : List Test). firstOf (l ++ from-count)) (present-tests s (ap (λ (x : ℕ). eqb x sideTag) six))
+        ∙ sym
+        (length-other s (sideTag ∷ []) (some sideSize) (sideAt s) _ (omega (arith, at-side, length-all)) (ap (λ (x : ℕ). member x (sideTag ∷ [])) six) 1 refl (λ z. d (sym stated ∙ z)))
+        ∙ ap (refusal 12) at-side)
+
+pub rate-first : RateFirst
+rate-first k e r rest ts vs small = (thirteen k e r rest ts vs small, fourteen k e r rest ts vs small)
+
+pub head-cut : HeadCut
+head-cut k e r rest ts vs listed o h = ten k e r rest ts vs listed o h
+
+pub length-refused : LengthRefused
+length-refused k e r l rest ts vs listed o small d = twelve k e r ((6 ∷ bytesOf 2 l) ++ rest) ts vs listed o l rest refl small d
+
+-- ---- past a side
+
+module _ (k : ℕ → List ℕ → Option (List ℕ)) (e r d : ℕ) (rest ts vs : List ℕ) (listed : isRate r ≡ true) (o : Expects e r) (small : d < 256) where
+  abbrev sided : List ℕ
+  sided = rateBytes r ++ (sideBytes d ++ rest)
+
+  abbrev side-field : Field
+  side-field = fieldOf sideTag (bytesOf sideSize d)
+
+  seven : sideAt sided ≡ 7
+  seven = at-side k e r (sideBytes d ++ rest) ts vs
+
+  side-stands : FieldStands sided (sideAt sided) side-field
+  side-stands =
+      subst (λ (p : ℕ). FieldStands sided p side-field) (length-rate k e r (sideBytes d ++ rest) ts vs ∙ sym seven)
+      (stands (rateBytes r) side-field rest (omega (arith, length-digits 256 sideSize d)))
+
+  present : hasSide sided ≡ true
+  present = ap (λ (t : ℕ). eqb t sideTag) (side-stands .tagged)
+
+  stored-is : numberOf 256 (bodyAt sided (sideAt sided)) ≡ d
+  stored-is = ap (numberOf 256) (side-stands .within) ∙ number-digits-lt (lit< tt) sideSize (omega arith)
+
+  count-eleven : countAt sided ≡ 11
+  count-eleven = present-count sided present ∙ side-stands .next ∙ omega (arith, seven, length-field side-field, length-digits 256 sideSize d)
+
+  -- the number in it decides
+  side-decides : firstOf (tests k e r (sideBytes d ++ rest) ts vs) ≡ firstOf (test (not (isSide d)) 20 7 ∷ from-count k e r (sideBytes d ++ rest) ts vs)
+  unfolding member
+  side-decides =
+      past-rate k e r (sideBytes d ++ rest) ts vs listed o
+      ∙ ap (λ (l : List Test). firstOf (l ++ from-count k e r (sideBytes d ++ rest) ts vs)) (present-tests sided present)
+      ∙ field-passes side-stands (sideTag ∷ []) (some sideSize)
+      (test (not (isSide (numberOf 256 (bodyAt sided (sideAt sided))))) 20 (sideAt sided) ∷ from-count k e r (sideBytes d ++ rest) ts vs) refl (length-digits 256 sideSize d)
+      ∙ ap₂ (λ (n p : ℕ). firstOf (test (not (isSide n)) 20 p ∷ from-count k e r (sideBytes d ++ rest) ts vs)) stored-is seven
+
+  twenty : isSide d ≡ false → readWith k e sided ts vs ≡ refusedBy 20 7 ts vs
+  twenty b = refuses k e r (sideBytes d ++ rest) ts vs 20 7 (λ z. omega arith) (side-decides ∙ first-here _ _ (ap not b))
+
+  past-side : isSide d ≡ true → firstOf (tests k e r (sideBytes d ++ rest) ts vs) ≡ firstOf (from-count k e r (sideBytes d ++ rest) ts vs)
+  past-side b = side-decides ∙ first-skip _ _ (ap not b)
+
+pub side-refused : SideRefused
+unfolding isSide
+side-refused k e r d rest ts vs listed o (inl z) = twenty k e r d rest ts vs listed o (omega arith) (rw z)
+side-refused k e r d rest ts vs listed o (inr h) =
+    twenty k e r d rest ts vs listed o (h .1) (ap₂ both (le-leb 1 d (omega arith)) (lt-leb d maxSide (h .0)))
+
+-- ---- what a side's field moves
+
+-- a test four bytes further on
+abbrev further : Test → Test
+further t = test (t .applies) (t .number) (t .place + 4)
+
+-- gives the same number, and a place four bytes further on
+abbrev Further : Refusal → Refusal → Type 0
+Further f g = (g .number ≡ f .number) × ((f .number ≡ 0 → ⊥) → g ≡ refusal (f .number) (f .place + 4))
+
+first-further : (ts : List Test) → Further (firstOf ts) (firstOf (map further ts))
+unfolding firstOf
+first-further [] = (refl, λ d. absurd (d refl))
+first-further (t ∷ ts) = go (t .applies) (first-further ts)
+  where
+    go : (b : Bool) → Further (firstOf ts) (firstOf (map further ts))
+        → Further (cond b (refusal (t .number) (t .place)) (firstOf ts)) (cond b (refusal (t .number) (t .place + 4)) (firstOf (map further ts)))
+    go true h = (refl, λ d. refl)
+    go false h = h
+
+-- two tests of order that hold together
+ltb-same : (a b c d : ℕ) → (a < b → c < d) → (b ≤ a → d ≤ c) → ltb c d ≡ ltb a b
+ltb-same a b c d f g = go (ltb a b) refl
+  where
+    go : (t : Bool) → ltb a b ≡ t → ltb c d ≡ t
+    go true e = lt-ltb c d (f (ltb-true a b e))
+    go false e = le-ltb c d (g (ltb-false a b e))
+
+-- the bytes t have from each offset on, four bytes further on, what s has there
+module _ (s t : List ℕ) (long : length t ≡ length s + 4) (same : (p : ℕ) → 7 ≤ p → drop (p + 4) t ≡ drop p s) where
+  module _ (p : ℕ) (h : 7 ≤ p) where
+    tag-moved : tagAt t (p + 4) ≡ tagAt s p
+    unfolding tagAt
+    tag-moved =
+        ap (λ (n : ℕ). getD t n 0) (sym (add-zero (p + 4))) ∙ sym (getD-drop (p + 4) t 0 0)
+        ∙ ap (λ (l : List ℕ). getD l 0 0) (same p h) ∙ getD-drop p s 0 0 ∙ ap (λ (n : ℕ). getD s n 0) (add-zero p)
+
+    length-moved : lengthAt t (p + 4) ≡ lengthAt s p
+    unfolding lengthAt
+    length-moved =
+        let e : p + 4 + 1 ≡ p + 1 + 4 = omega arith in
+        ap (λ (l : List ℕ). numberOf 256 (take 2 l)) (ap (λ (n : ℕ). drop n t) e ∙ same (p + 1) (omega arith))
+
+    body-moved : bodyAt t (p + 4) ≡ bodyAt s p
+    unfolding bodyAt
+    body-moved =
+        let e : p + 4 + headSize ≡ p + headSize + 4 = omega arith in
+        ap₂ take length-moved (ap (λ (n : ℕ). drop n t) e ∙ same (p + headSize) (omega arith))
+
+    next-moved : nextAt t (p + 4) ≡ nextAt s p + 4
+    unfolding nextAt
+    next-moved = omega (arith, length-moved)
+
+    fields-moved : (tags : List ℕ) (n : Option ℕ) → fieldTests t tags n (p + 4) ≡ map further (fieldTests s tags n p)
+    fields-moved tags n = go n
+      where
+        head : ltb (length t) (p + 4 + headSize) ≡ ltb (length s) (p + headSize)
+        head = ltb-same (length s) (p + headSize) (length t) (p + 4 + headSize) (λ z. omega arith) (λ z. omega arith)
+
+        whole : ltb (length t) (nextAt t (p + 4)) ≡ ltb (length s) (nextAt s p)
+        whole = ltb-same (length s) (nextAt s p) (length t) (nextAt t (p + 4)) (λ z. omega (arith, next-moved)) (λ z. omega (arith, next-moved))
+
+        two : test (ltb (length t) (p + 4 + headSize)) 10 (p + 4) ∷ test (not (member (tagAt t (p + 4)) tags)) 11 (p + 4) ∷ []
+            ≡ test (ltb (length s) (p + headSize)) 10 (p + 4) ∷ test (not (member (tagAt s p) tags)) 11 (p + 4) ∷ []
+        two = ap₂ (λ (b : Bool) (x : ℕ). test b 10 (p + 4) ∷ test (not (member x tags)) 11 (p + 4) ∷ []) head tag-moved
+
+        go : (m : Option ℕ) → fieldTests t tags m (p + 4) ≡ map further (fieldTests s tags m p)
+        go none = ap₂ (λ (l : List Test) (b : Bool). l ++ (test b 10 (p + 4) ∷ [])) two whole
+        go (some j) =
+            ap₂ (λ (l : List Test) (b : Bool). l ++ (test (not (eqb (lengthAt t (p + 4)) j)) 12 (p + 4) ∷ test b 10 (p + 4) ∷ [])) two whole
+            ∙ ap (λ (x : ℕ). test (ltb (length s) (p + headSize)) 10 (p + 4) ∷ test (not (member (tagAt s p) tags)) 11 (p + 4) ∷ test (not (eqb x j)) 12 (p + 4) ∷ test (ltb (length s) (nextAt s p)) 10 (p + 4) ∷ []) length-moved
+
+    -- with a test of the contents
+    contents-moved : (tags : List ℕ) (n : Option ℕ) (a b : Bool) (x : ℕ) → a ≡ b
+        → fieldTests t tags n (p + 4) ++ (test a x (p + 4) ∷ []) ≡ map further (fieldTests s tags n p ++ (test b x p ∷ []))
+    contents-moved tags n a b x e =
+        ap₂ (λ (l : List Test) (c : Bool). l ++ (test c x (p + 4) ∷ [])) (fields-moved tags n) e ∙ sym (map-append further (fieldTests s tags n p) (test b x p ∷ []))
+
+  -- the fields from the count's on
+  module _ (k : ℕ → List ℕ → Option (List ℕ)) (m n : ℕ) (c : countAt s ≡ 7) (at : countAt t ≡ countAt s + 4) where
+    next-late : (p : ℕ) → 7 ≤ p → 7 ≤ nextAt s p
+    unfolding nextAt
+    next-late p h = omega arith
+
+    at-positions : positionsAt t ≡ positionsAt s + 4
+    at-positions = ap (nextAt t) at ∙ next-moved (countAt s) (omega arith)
+
+    at-ratios : ratiosAt t ≡ ratiosAt s + 4
+    at-ratios = ap (nextAt t) at-positions ∙ next-moved (positionsAt s) (next-late (countAt s) (omega arith))
+
+    late-ratios : 7 ≤ ratiosAt s
+    late-ratios = next-late (positionsAt s) (next-late (countAt s) (omega arith))
+
+    at-end : endAt t ≡ endAt s + 4
+    at-end = ap (nextAt t) at-ratios ∙ next-moved (ratiosAt s) late-ratios
+
+    count-same : countIn t ≡ countIn s
+    count-same = ap (numberOf 256) (ap (bodyAt t) at ∙ body-moved (countAt s) (omega arith))
+
+    positions-same : positionsIn t ≡ positionsIn s
+    positions-same = ap₂ (readPositions rows) count-same (ap (bodyAt t) at-positions ∙ body-moved (positionsAt s) (next-late (countAt s) (omega arith)))
+
+    ratios-same : ratiosIn k t ≡ ratiosIn k s
+    ratios-same = ap₂ k count-same (ap (bodyAt t) at-ratios ∙ body-moved (ratiosAt s) late-ratios)
+
+    count-moved : countTests t ≡ map further (countTests s)
+    count-moved =
+        ap (λ (p : ℕ). fieldTests t (countTag ∷ []) (some countSize) p ++ (test (ltb maxPoints (numberOf 256 (bodyAt t p))) 15 p ∷ [])) at
+        ∙ contents-moved (countAt s) (omega arith) (countTag ∷ []) (some countSize) _ _ 15 (ap (λ (b : List ℕ). ltb maxPoints (numberOf 256 b)) (body-moved (countAt s) (omega arith)))
+
+    room-moved : roomTests t m n ≡ map further (roomTests s m n)
+    room-moved = ap₂ (λ (x p : ℕ). test (lacksRoom m n x) 16 p ∷ []) count-same at
+
+    positions-moved : positionsTests t ≡ map further (positionsTests s)
+    positions-moved =
+        ap (codedTests t (positionsTag ∷ []) (readPositions rows (countIn t)) 17) at-positions
+        ∙ contents-moved (positionsAt s) (next-late (countAt s) (omega arith)) (positionsTag ∷ []) none _ _ 17
+        (ap missing (ap₂ (readPositions rows) count-same (body-moved (positionsAt s) (next-late (countAt s) (omega arith)))))
+
+    ratios-moved : ratiosTests k t ≡ map further (ratiosTests k s)
+    ratios-moved =
+        ap (codedTests t (ratiosTag ∷ []) (k (countIn t)) 18) at-ratios
+        ∙ contents-moved (ratiosAt s) late-ratios (ratiosTag ∷ []) none _ _ 18 (ap missing (ap₂ k count-same (body-moved (ratiosAt s) late-ratios)))
+
+    all-moved : countTests t ++ (roomTests t m n ++ (positionsTests t ++ ratiosTests k t)) ≡ map further (countTests s ++ (roomTests s m n ++ (positionsTests s ++ ratiosTests k s)))
+    all-moved =
+        ap₂ (λ (a b : List Test). a ++ b) count-moved
+        (ap₂ (λ (a b : List Test). a ++ b) room-moved (ap₂ (λ (a b : List Test). a ++ b) positions-moved ratios-moved ∙ sym (map-append further (positionsTests s) (ratiosTests k s)))
+        ∙ sym (map-append further (roomTests s m n) (positionsTests s ++ ratiosTests k s)))
+        ∙ sym (map-append further (countTests s) (roomTests s m n ++ (positionsTests s ++ ratiosTests k s)))
+
+-- an answer by its refusal, moved
+answer-moved : (d : ℕ) (f g : Refusal) → Further f g → (a b : Answer) → b ≡ moved d a → (ts vs : List ℕ)
+    → cond (refused g) (refusalAnswer g ts vs) b ≡ moved d (cond (refused f) (refusalAnswer f ts vs) a)
+answer-moved d f g h a b e ts vs = go (eqb (f .number) 0) refl
+  where
+    go : (t : Bool) → eqb (f .number) 0 ≡ t → cond (refused g) (refusalAnswer g ts vs) b ≡ moved d (cond (refused f) (refusalAnswer f ts vs) a)
+    go true q = rw (h .0, q) e
+    go false q = rw (h .1 (eqb-false (f .number) 0 q), q, q)
+
+-- a side between the rate and what is no side's field
+module _ (k : ℕ → List ℕ → Option (List ℕ)) (e r d : ℕ) (rest ts vs : List ℕ) (listed : isRate r ≡ true) (o : Expects e r) (low : 1 ≤ d) (high : d ≤ 26) where
+  abbrev with-side : List ℕ
+  with-side = rateBytes r ++ (sideBytes d ++ rest)
+
+  small : d < 256
+  small = omega arith
+
+  length-side : length (sideBytes d) ≡ 4
+  length-side = length-field (fieldOf sideTag (bytesOf sideSize d)) ∙ ap (λ (n : ℕ). headSize + n) (length-digits 256 sideSize d)
+
+  past-both : (n : ℕ) → drop (11 + n) with-side ≡ drop n rest
+  past-both n =
+      let p : 11 + n ≡ 7 + (4 + n) = omega arith in
+      ap (λ (m : ℕ). drop m with-side) p ∙ rest-from k e r (sideBytes d ++ rest) ts vs (4 + n)
+      ∙ ap (λ (m : ℕ). drop (m + n) (sideBytes d ++ rest)) (sym length-side) ∙ drop-append-add (sideBytes d) rest n
+
+  from-here : firstOf (tests k e r (sideBytes d ++ rest) ts vs) ≡ firstOf (from-count k e r (sideBytes d ++ rest) ts vs)
+  from-here = past-side k e r d rest ts vs listed o small (side-in d low high)
+
+  -- a tag that is not the count's
+  eleven-past : 3 ≤ length rest → (tagAt rest 0 ≡ 2 → ⊥) → readWith k e with-side ts vs ≡ refusedBy 11 11 ts vs
+  unfolding tagAt
+  eleven-past h two =
+      let at : countAt with-side ≡ 11 = count-eleven k e r d rest ts vs listed o small in
+      let tag : tagAt with-side (countAt with-side) ≡ tagAt rest 0 =
+      ap (λ (p : ℕ). getD with-side p 0) at ∙ sym (getD-drop 11 with-side 0 0) ∙ ap (λ (l : List ℕ). getD l 0 0) (past-both 0) in
+      let long = length-all k e r (sideBytes d ++ rest) ts vs in
+      refuses k e r (sideBytes d ++ rest) ts vs 11 11 (λ z. omega arith)
+      (from-here
+      ∙ sym
+      (tag-other with-side (countTag ∷ []) (some countSize) (countAt with-side) _ (omega (arith, at, long, length-append (sideBytes d) rest, length-side))
+      (not-one _ _ (λ z. two (sym tag ∙ z))))
+      ∙ ap (refusal 11) at)
+
+  module _ (other : tagAt rest 0 ≡ 6 → ⊥) where
+    abbrev without : List ℕ
+    without = rateBytes r ++ rest
+
+    absent : hasSide without ≡ false
+    absent = ne-eqb _ _ (λ z. other (sym (tag-rest k e r rest ts vs) ∙ z))
+
+    count-seven : countAt without ≡ 7
+    count-seven = absent-count without absent ∙ at-side k e r rest ts vs
+
+    longer : length with-side ≡ length without + 4
+    longer = omega (arith, length-all k e r (sideBytes d ++ rest) ts vs, length-all k e r rest ts vs, length-append (sideBytes d) rest, length-side)
+
+    same-past : (p : ℕ) → 7 ≤ p → drop (p + 4) with-side ≡ drop p without
+    same-past p h =
+        let a : p + 4 ≡ 11 + (p - 7) = omega arith in
+        let b : p ≡ 7 + (p - 7) = omega arith in
+        ap (λ (n : ℕ). drop n with-side) a ∙ past-both (p - 7) ∙ sym (ap (λ (n : ℕ). drop n without) b ∙ rest-from k e r rest ts vs (p - 7))
+
+    count-at : countAt with-side ≡ countAt without + 4
+    count-at = count-eleven k e r d rest ts vs listed o small ∙ omega (arith, count-seven)
+
+    further-tests : Further (firstOf (tests k e r rest ts vs)) (firstOf (tests k e r (sideBytes d ++ rest) ts vs))
+    further-tests =
+        let a = past-absent k e r rest ts vs listed o absent in
+        let b = from-here ∙ ap firstOf (all-moved without with-side longer same-past k (length ts) (length vs) count-seven count-at) in
+        rw (a, b) (first-further (from-count k e r rest ts vs))
+
+    record-moved : recordAnswer k with-side ts vs ≡ moved d (recordAnswer k without ts vs)
+    record-moved =
+        let here = rate-small k e r rest ts vs listed o in
+        let a : rateIn with-side ≡ rateIn without = rate-is k e r (sideBytes d ++ rest) ts vs here ∙ sym (rate-is k e r rest ts vs here) in
+        let b : sideIn with-side ≡ d = present-side with-side (present k e r d rest ts vs listed o small) ∙ stored-is k e r d rest ts vs listed o small in
+        let c = count-same without with-side longer same-past k (length ts) (length vs) count-seven count-at in
+        let u = at-end without with-side longer same-past k (length ts) (length vs) count-seven count-at in
+        let p = positions-same without with-side longer same-past k (length ts) (length vs) count-seven count-at in
+        let q = ratios-same without with-side longer same-past k (length ts) (length vs) count-seven count-at in
+        cc
+
+    moves : readWith k e with-side ts vs ≡ moved d (readWith k e without ts vs)
+    unfolding readWith
+    moves = answer-moved d _ _ further-tests (recordAnswer k without ts vs) (recordAnswer k with-side ts vs) record-moved ts vs
+
+pub side-moves : SideMoves
+side-moves k e r d rest ts vs listed o low high other = moves k e r d rest ts vs listed o low high other
+
+pub tag-refused : TagRefused
+tag-refused k e r rest ts vs listed o long two =
+    (λ six. eleven k e r rest ts vs listed o long two six, λ d low high. eleven-past k e r d rest ts vs listed o low high long two)

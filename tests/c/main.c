@@ -168,7 +168,7 @@ static void check_run(void)
     make_run(positions, ratios);
     written = farigolenc_write(48000, SIDE, positions, POINTS, ratios, POINTS, record,
                                sizeof record);
-    check(written.number == 0 && written.place == 0 && written.length > 18, "run, written");
+    check(written.number == 0 && written.place == 0 && written.length > 22, "run, written");
     if (written.number != 0) {
         return;
     }

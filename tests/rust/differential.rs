@@ -29,8 +29,8 @@ struct Test {
     trace: bool,
     random: Random,
     cases: u64,
-    /// How often each call returned each number, reading each side and some numbers at each place,
-    /// and explain each reason, place and sum.
+    /// How often each call returned each number, reading each side, some numbers at each place,
+    /// and 18 without a side (0) and with one (1), and explain each reason, place and sum.
     numbers: BTreeMap<(&'static str, u32), u64>,
 }
 
@@ -134,11 +134,13 @@ impl Test {
             let mut seen = |what, number| *self.numbers.entry((what, number)).or_default() += 1;
             match reading.number {
                 0 => seen("reading, side", reading.side),
+                10 => seen("reading, place of 10", reading.place),
                 11 => seen("reading, place of 11", reading.place),
                 12 => seen("reading, place of 12", reading.place),
                 15 => seen("reading, place of 15", reading.place),
                 16 => seen("reading, place of 16", reading.place),
                 17 => seen("reading, place of 17", reading.place),
+                18 => seen("reading, 18 behind a side", u32::from(record[7] == SIDE)),
                 20 => seen("reading, place of 20", reading.place),
                 _ => {}
             }
@@ -1076,20 +1078,23 @@ impl Test {
 
     /// Prints how often each call returned each number, reading each side and the places that a
     /// side moves, and explain each reason, places at the window's ends, and each sum; each must
-    /// have come up.
+    /// have come up. The place of 18 depends on the positions too, so that 18 itself is counted,
+    /// without a side (0) and with one (1).
     fn report(&self) {
         let reading = &[0, 10, 11, 12, 13, 14, 15, 16, 17, 18, 20][..];
         let sides: Vec<u32> = (0..=LAST_SIDE).collect();
-        let calls: [(_, &[u32]); 21] = [
+        let calls: [(_, &[u32]); 23] = [
             ("write", &[0, 1, 2, 3, 4, 5, 6, 21]),
             ("read_strict", reading),
             ("read_open", reading),
             ("reading, side", &sides),
+            ("reading, place of 10", &[0, 7, 11, 12, 16]),
             ("reading, place of 11", &[0, 7, 11, 12, 16]),
             ("reading, place of 12", &[0, 7, 11]),
             ("reading, place of 15", &[7, 11]),
             ("reading, place of 16", &[7, 11]),
             ("reading, place of 17", &[12, 16]),
+            ("reading, 18 behind a side", &[0, 1]),
             ("reading, place of 20", &[7]),
             ("span", &[0, 1, 3, 4]),
             ("live_new", &[0]),

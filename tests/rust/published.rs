@@ -34,8 +34,8 @@ fn body(ratios: &[u64]) -> Vec<u8> {
     let mut out = vec![0xAA; 55_325];
     let answer = library::write(48_000, 0, &positions, ratios, &mut out);
     assert_eq!((answer.number, answer.place), (0, 0), "writing {ratios:x?}");
-    let third = usize::from(u16::from_be_bytes([out[13], out[14]]));
-    out[15 + third + 3..answer.length as usize].to_vec()
+    let positions_length = usize::from(u16::from_be_bytes([out[13], out[14]]));
+    out[15 + positions_length + 3..answer.length as usize].to_vec()
 }
 
 /// The record of the listing's example.

@@ -13,7 +13,7 @@ use Rattle.refusals.proofs.Tests.{first-clear}
 use Rattle.record_format.specs.Runs.{run, recordOf}
 use Rattle.record_format.specs.Reading.{readStrict, readOpen}
 use Rattle.record_format.specs.Claims.{Accepted}
-use Rattle.record_format.specs.FourFields.{fourTests, SameRecord, SideTests, ReadsAsZero}
+use Rattle.record_format.specs.FourFields.{fourTests, SameRecord, RefusesBySide, ReadsAsZero}
 use Rattle.record_format.specs.Writing.{runTests}
 use Rattle.record_format.proofs.Reading.{refusal}
 use Rattle.record_format.proofs.Writing.{clear-accepts}
@@ -24,9 +24,9 @@ unfolding recordOf
 same-record r ts vs = refl
 
 -- the tests of a run by its rate and its side
-pub side-tests : SideTests
+pub refuses-by-side : RefusesBySide
 unfolding firstOf
-side-tests r d ts vs = go (isRate r) refl (leb d maxSide) refl
+refuses-by-side r d ts vs = go (isRate r) refl (leb d maxSide) refl
   where
     go : (b : Bool) → isRate r ≡ b → (c : Bool) → leb d maxSide ≡ c
         → firstOf (runTests (run r d ts vs)) ≡ cond (isRate r) (cond (leb d maxSide) (firstOf (fourTests r ts vs)) (refusal 21 0)) (refusal 1 0)
@@ -41,7 +41,7 @@ listed-clear r ts vs clear = not-false _ (first-clear _ _ (lit< tt) clear .0)
 pub reads-as-zero : ReadsAsZero
 reads-as-zero r ts vs words clear e rest ps qs =
     let own = run r 0 ts vs in
-    let a : Accepted own = record { words = words; passes = clear-accepts own (ap (λ (f : Refusal). f .number) (side-tests r 0 ts vs) ∙ ap (λ (b : Bool). cond b (firstOf (fourTests r ts vs)) (refusal 1 0) .number) (listed-clear r ts vs clear) ∙ clear) } in
+    let a : Accepted own = record { words = words; passes = clear-accepts own (ap (λ (f : Refusal). f .number) (refuses-by-side r 0 ts vs) ∙ ap (λ (b : Bool). cond b (firstOf (fourTests r ts vs)) (refusal 1 0) .number) (listed-clear r ts vs clear) ∙ clear) } in
     let h = reads-back own a e rest ps qs in (
       ap (λ (l : List ℕ). readStrict e (l ++ rest) ps qs) (sym (same-record r ts vs)) ∙ h .0,
       ap (λ (l : List ℕ). readOpen e (l ++ rest) ps qs) (sym (same-record r ts vs)) ∙ h .1,

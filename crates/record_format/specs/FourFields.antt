@@ -2,7 +2,7 @@
 --   fourFields r ts vs   the four fields of document 01, for the rate r, the positions ts and the ratios vs
 --   fourTests r ts vs    document 01's tests 1 to 5 of writing
 --   SameRecord           the record of the run on side 0 is these four fields, laid end to end
---   SideTests            a run with any side is refused as document 01 says of it without one, but that 21 stands after 1; so on side 0 it is
+--   RefusesBySide        a run with any side is refused as document 01 says of it without one, but that 21 stands after 1; so on side 0 it is
 --                        accepted exactly when it was, and refused by 6 when it was, since its record is the same
 --   ReadsAsZero          whatever follows it, both readings give back that run with side 0, or 14 or 16
 -- Each is proved in proofs/FourFields.
@@ -51,8 +51,8 @@ abbrev pub SameRecord : Type 0
 SameRecord = (r : ℕ) (ts vs : List ℕ) → recordOf (run r 0 ts vs) ≡ laid (fourFields r ts vs)
 
 -- the refusal of a run: 1, then 21 for a side above 26, then document 01's
-abbrev pub SideTests : Type 0
-SideTests = (r d : ℕ) (ts vs : List ℕ)
+abbrev pub RefusesBySide : Type 0
+RefusesBySide = (r d : ℕ) (ts vs : List ℕ)
     → firstOf (runTests (run r d ts vs)) ≡ cond (isRate r) (cond (leb d 26) (firstOf (fourTests r ts vs)) (record { number = 21; place = 0 })) (record { number = 1; place = 0 })
 
 -- and the same run back, on side 0

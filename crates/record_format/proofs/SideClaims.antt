@@ -1,7 +1,7 @@
 -- What reading does with the field past the rate.
 use mathlib.Core.Path.{_≡_, refl, sym, ap, ap₂, _∙_, subst}
 use mathlib.Core.Bool.{Bool, true, false, not, cond}
-use mathlib.Core.List.{List, [], _∷_, _++_, map, map-append}
+use mathlib.Core.List.{List, [], _∷_, _++_, append-nil, map, map-append}
 use mathlib.Core.Logic.{inl, inr}
 use mathlib.Core.Option.{Option, none, some}
 use Prim.Native.Nat.{ℕ, _+_, _-_, _^_, _≤_, _<_}
@@ -28,9 +28,9 @@ use Rattle.position_format.specs.Positions.{readPositions}
 use Rattle.record_format.specs.Fields.{Field, fieldOf, headSize, tagAt, lengthAt, bodyAt, nextAt, fieldTests}
 use Rattle.record_format.specs.Runs.{rateTag, sideTag, countTag, positionsTag, ratiosTag, rateSize, sideSize, countSize}
 use Rattle.record_format.specs.Reading.{Answer, refusalAnswer, recordAnswer, readTests, readWith, rateAt, sideAt, hasSide, countAt, positionsAt, ratiosAt, endAt, rateIn, sideIn, countIn, positionsIn, ratiosIn, otherRate, lacksRoom, missing, codedTests, sideTests, countTests, roomTests, positionsTests, ratiosTests}
-use Rattle.record_format.specs.SideClaims.{rateBytes, sideBytes, Expects, refusedBy, RateFirst, HeadCut, TagRefused, LengthRefused, SideRefused, moved, SideMoves}
+use Rattle.record_format.specs.SideClaims.{rateBytes, sideBytes, Expects, refusedBy, RateFirst, HeadCut, TagRefused, LengthRefused, BodyCut, SideRefused, moved, SideMoves}
 use Rattle.record_format.proofs.Fields.{FieldStands, length-field, stands}
-use Rattle.record_format.proofs.Reading.{refusal, head-short, tag-other, length-other, field-passes, tests-flat, answer-refused}
+use Rattle.record_format.proofs.Reading.{refusal, head-short, tag-other, length-other, body-short, field-passes, tests-flat, answer-refused}
 use Rattle.record_format.proofs.Sides.{absent-count, absent-tests, present-count, present-side, present-tests}
 use Rattle.record_format.proofs.Claims.{no-other, other-none}
 
@@ -140,30 +140,53 @@ module _ (k : ℕ → List ℕ → Option (List ℕ)) (e r : ℕ) (rest ts vs : 
         ∙ ap (refusal 11) (at ∙ at-side))
 
     -- a side's tag and a length
-    twelve : (l : ℕ) (t : List ℕ) → rest ≡ (6 ∷ bytesOf 2 l) ++ t → l < 256 ^ 2 → (l ≡ 1 → ⊥) → readWith k e s ts vs ≡ refusedBy 12 7 ts vs
-    unfolding tagAt lengthAt member
-    twelve l t is small d =
-        let six : tagAt s (sideAt s) ≡ 6 = tag-rest ∙ ap (λ (x : List ℕ). getD x 0 0) is in
-        let long : 3 ≤ length rest = omega (arith, ap length is, length-append (6 ∷ bytesOf 2 l) t, length-digits 256 2 l) in
-        let stated : lengthAt s (sideAt s) ≡ l =
-        ap (λ (p : ℕ). numberOf 256 (take 2 (drop (p + 1) s))) at-side
-        ∙ ap (λ (x : List ℕ). numberOf 256 (take 2 x)) (rest-from 1 ∙ ap (drop 1) is)
-        ∙ ap (numberOf 256) (take-at (bytesOf 2 l) t 2 (length-digits 256 2 l)) ∙ number-digits-lt (lit< tt) 2 small in
-        refuses 12 7 (λ z. omega arith)
-        (past-rate
-        ∙ ap (λ (l : List Test). firstOf (l ++ from-count)) (present-tests s (ap (λ (x : ℕ). eqb x sideTag) six))
-        ∙ sym
-        (length-other s (sideTag ∷ []) (some sideSize) (sideAt s) _ (omega (arith, at-side, length-all)) (ap (λ (x : ℕ). member x (sideTag ∷ [])) six) 1 refl (λ z. d (sym stated ∙ z)))
-        ∙ ap (refusal 12) at-side)
+    module _ (l : ℕ) (t : List ℕ) (is : rest ≡ (6 ∷ bytesOf 2 l) ++ t) (small : l < 256 ^ 2) where
+      six : tagAt s (sideAt s) ≡ 6
+      unfolding tagAt
+      six = tag-rest ∙ ap (λ (x : List ℕ). getD x 0 0) is
+
+      long : 3 ≤ length rest
+      long = omega (arith, ap length is, length-append (6 ∷ bytesOf 2 l) t, length-digits 256 2 l)
+
+      head : sideAt s + headSize ≤ length s
+      head = omega (arith, at-side, length-all, long)
+
+      tagged : member (tagAt s (sideAt s)) (sideTag ∷ []) ≡ true
+      unfolding member
+      tagged = ap (λ (x : ℕ). member x (sideTag ∷ [])) six
+
+      stated : lengthAt s (sideAt s) ≡ l
+      unfolding lengthAt
+      stated =
+          ap (λ (p : ℕ). numberOf 256 (take 2 (drop (p + 1) s))) at-side
+          ∙ ap (λ (x : List ℕ). numberOf 256 (take 2 x)) (rest-from 1 ∙ ap (drop 1) is)
+          ∙ ap (numberOf 256) (take-at (bytesOf 2 l) t 2 (length-digits 256 2 l)) ∙ number-digits-lt (lit< tt) 2 small
+
+      -- the tests of its field decide
+      past-tag : firstOf tests ≡ firstOf (fieldTests s (sideTag ∷ []) (some sideSize) (sideAt s) ++ (test (not (isSide (numberOf 256 (bodyAt s (sideAt s))))) 20 (sideAt s) ∷ from-count))
+      past-tag = past-rate ∙ ap (λ (l : List Test). firstOf (l ++ from-count)) (present-tests s (ap (λ (x : ℕ). eqb x sideTag) six))
+
+      twelve : (l ≡ 1 → ⊥) → readWith k e s ts vs ≡ refusedBy 12 7 ts vs
+      twelve d =
+          refuses 12 7 (λ z. omega arith)
+          (past-tag ∙ sym (length-other s (sideTag ∷ []) (some sideSize) (sideAt s) _ head tagged 1 refl (λ z. d (sym stated ∙ z))) ∙ ap (refusal 12) at-side)
+
+      ten-body : l ≡ 1 → t ≡ [] → readWith k e s ts vs ≡ refusedBy 10 7 ts vs
+      unfolding nextAt
+      ten-body one empty =
+          let short : length s < nextAt s (sideAt s) =
+          omega (arith, at-side, stated, length-all, ap length is, length-append (6 ∷ bytesOf 2 l) t, length-digits 256 2 l, ap length empty) in
+          refuses 10 7 (λ z. omega arith)
+          (past-tag ∙ sym (body-short s (sideTag ∷ []) (some sideSize) (sideAt s) _ head tagged (stated ∙ one) short) ∙ ap (refusal 10) at-side)
 
 pub rate-first : RateFirst
 rate-first k e r rest ts vs small = (thirteen k e r rest ts vs small, fourteen k e r rest ts vs small)
 
-pub head-cut : HeadCut
-head-cut k e r rest ts vs listed o h = ten k e r rest ts vs listed o h
-
 pub length-refused : LengthRefused
 length-refused k e r l rest ts vs listed o small d = twelve k e r ((6 ∷ bytesOf 2 l) ++ rest) ts vs listed o l rest refl small d
+
+pub body-cut : BodyCut
+body-cut k e r ts vs listed o = ten-body k e r (6 ∷ bytesOf 2 1) ts vs listed o 1 [] (sym (append-nil (6 ∷ bytesOf 2 1))) (lit< tt) refl refl
 
 -- ---- past a side
 
@@ -388,6 +411,16 @@ module _ (k : ℕ → List ℕ → Option (List ℕ)) (e r d : ℕ) (rest ts vs 
       (not-one _ _ (λ z. two (sym tag ∙ z))))
       ∙ ap (refusal 11) at)
 
+  -- fewer bytes than a head
+  ten-past : length rest < 3 → readWith k e with-side ts vs ≡ refusedBy 10 11 ts vs
+  ten-past h =
+      let at : countAt with-side ≡ 11 = count-eleven k e r d rest ts vs listed o small in
+      let long = length-all k e r (sideBytes d ++ rest) ts vs in
+      refuses k e r (sideBytes d ++ rest) ts vs 10 11 (λ z. omega arith)
+      (from-here
+      ∙ sym (head-short with-side (countTag ∷ []) (some countSize) (countAt with-side) _ (omega (arith, at, long, length-append (sideBytes d) rest, length-side)))
+      ∙ ap (refusal 10) at)
+
   module _ (other : tagAt rest 0 ≡ 6 → ⊥) where
     abbrev without : List ℕ
     without = rateBytes r ++ rest
@@ -433,6 +466,9 @@ module _ (k : ℕ → List ℕ → Option (List ℕ)) (e r d : ℕ) (rest ts vs 
 
 pub side-moves : SideMoves
 side-moves k e r d rest ts vs listed o low high other = moves k e r d rest ts vs listed o low high other
+
+pub head-cut : HeadCut
+head-cut k e r rest ts vs listed o h = (ten k e r rest ts vs listed o h, λ d low high. ten-past k e r d rest ts vs listed o low high h)
 
 pub tag-refused : TagRefused
 tag-refused k e r rest ts vs listed o long two =

@@ -4,11 +4,12 @@
 --   Expects e r     the expected rate e is r, or none is
 --   refusedBy n p   the answer of the refusal n at the place p
 --   RateFirst       13 and 14 stand before all that follows the rate
---   HeadCut         past the rate fewer bytes than a head: 10 at 7
+--   HeadCut         past the rate fewer bytes than a head: 10 at 7; past a side: 10 at 11
 --   TagRefused      past the rate a tag that is neither 2 nor 6: 11 at 7; past a side a tag that is not 2: 11 at 11
 --   LengthRefused   a side's field of another length than 1: 12 at 7
+--   BodyCut         a side's field without its byte: 10 at 7
 --   SideRefused     a stored side that is 0 or above 26: 20 at 7
---   moved d a       the answer a with each offset four bytes further on, and the side d
+--   moved d a       the answer a with each offset four bytes further on and, of a success, the side d
 --   SideMoves       a side's field moves what follows it by four bytes and changes nothing else: not the refusal's number, not a point
 use mathlib.Core.Bool.{true, false, cond}
 use mathlib.Core.List.{List, _∷_, _++_}
@@ -45,10 +46,11 @@ RateFirst = (k : ℕ → List ℕ → Option (List ℕ)) (e r : ℕ) (rest ts vs
     → (isRate r ≡ false → readWith k e (rateBytes r ++ rest) ts vs ≡ refusedBy 13 0 ts vs)
     × (isRate r ≡ true → (Expects e r → ⊥) → readWith k e (rateBytes r ++ rest) ts vs ≡ refusedBy 14 0 ts vs)
 
--- no whole head past the rate
+-- no whole head past the rate, or past a side
 abbrev pub HeadCut : Type 0
 HeadCut = (k : ℕ → List ℕ → Option (List ℕ)) (e r : ℕ) (rest ts vs : List ℕ) → isRate r ≡ true → Expects e r → length rest < 3
-    → readWith k e (rateBytes r ++ rest) ts vs ≡ refusedBy 10 7 ts vs
+    → (readWith k e (rateBytes r ++ rest) ts vs ≡ refusedBy 10 7 ts vs)
+    × ((d : ℕ) → 1 ≤ d → d ≤ 26 → readWith k e (rateBytes r ++ (sideBytes d ++ rest)) ts vs ≡ refusedBy 10 11 ts vs)
 
 -- a whole head with another tag
 abbrev pub TagRefused : Type 0
@@ -60,6 +62,11 @@ TagRefused = (k : ℕ → List ℕ → Option (List ℕ)) (e r : ℕ) (rest ts v
 abbrev pub LengthRefused : Type 0
 LengthRefused = (k : ℕ → List ℕ → Option (List ℕ)) (e r l : ℕ) (rest ts vs : List ℕ) → isRate r ≡ true → Expects e r → l < 256 ^ 2 → (l ≡ 1 → ⊥)
     → readWith k e (rateBytes r ++ ((6 ∷ bytesOf 2 l) ++ rest)) ts vs ≡ refusedBy 12 7 ts vs
+
+-- a side's tag and the length 1, and nothing more
+abbrev pub BodyCut : Type 0
+BodyCut = (k : ℕ → List ℕ → Option (List ℕ)) (e r : ℕ) (ts vs : List ℕ) → isRate r ≡ true → Expects e r
+    → readWith k e (rateBytes r ++ (6 ∷ bytesOf 2 1)) ts vs ≡ refusedBy 10 7 ts vs
 
 -- a number that is no side, before the count's head is looked at
 abbrev pub SideRefused : Type 0

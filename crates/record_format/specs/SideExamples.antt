@@ -89,6 +89,7 @@ reads =
     ∷ row 0 (rate ++ side 27) (refusedRead 20 7)
     ∷ row 0 (rate ++ side 255) (refusedRead 20 7)
     ∷ row 0 (rate ++ side 26) (refusedRead 10 11)
+    ∷ row 0 (rate ++ (side 4 ++ (0x06 ∷ []))) (refusedRead 10 11)
     ∷ row 0 (rate ++ (side 4 ++ side 4)) (refusedRead 11 11)
     ∷ row 0 (rate ++ (count 0 ++ side 4)) (refusedRead 11 12)
     ∷ row 0 (side 4 ++ rate) (refusedRead 11 0)

@@ -1,5 +1,5 @@
--- Document 01, "Numbers that bound it": points and positions.
---   maxPoints       the largest number of points of a run
+-- Document 01, "Numbers that bound it", with document 02, No. 3: points and positions.
+--   maxPoints       the largest number of points of a run; maxWidePoints: of one in the wide form
 --   maxPosition     the largest position, a sample index
 --   tooHigh t       t is above it
 --   firstHigh ts    the index of the first position above it; the length where there is none
@@ -12,6 +12,10 @@ use Rattle.lists.specs.Lists.{firstIndex}
 -- a run has at most this many points
 abbrev pub maxPoints : ℕ
 maxPoints = 4096
+
+-- and in the wide form at most so many
+abbrev pub maxWidePoints : ℕ
+maxWidePoints = 3500
 
 -- the largest position
 abbrev pub maxPosition : ℕ

@@ -4,8 +4,10 @@ ghost use Rattle.limits.specs.Points.{firstHigh};
 ghost use Rattle.limits.specs.Rates.{isRate};
 ghost use Rattle.limits.specs.Sides.{isSide};
 
-// The largest number of points of a run.
+// The largest number of points of a run, and of one in the wide form.
 pub const MAX_POINTS: usize = 4096;
+
+pub const MAX_WIDE_POINTS: usize = 3500;
 
 // The largest position.
 pub const MAX_POSITION: u64 = 4611686018427387903;

@@ -14,3 +14,5 @@ pub mod Stands
 pub mod Fill
 pub mod Reading
 pub mod Ranges
+pub mod Tables
+pub mod Wide

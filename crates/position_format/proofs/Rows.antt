@@ -1,4 +1,4 @@
--- The rows of a table: the computed test that the coding needs of a table, and that a row's bits give the step back.
+-- The rows of a table: what the coding needs of them as a test, and that a row's bits give the step back.
 use mathlib.Core.Bool.{Bool, true, false, cond, not}
 use mathlib.Core.List.{List, [], _∷_}
 use mathlib.Core.Path.{_≡_, refl, sym, ap, ap₂, _∙_}
@@ -15,7 +15,7 @@ use Rattle.lists.specs.Below.{Below}
 use Rattle.lists.specs.Compare.{both, begins}
 use Rattle.lists.proofs.Compare.{both-true}
 use Rattle.lists.proofs.Lists.{every, every-cons}
-use Rattle.position_format.specs.Rows.{Row, rows, neg, holds, residue, reading}
+use Rattle.position_format.specs.Rows.{Row, neg, holds, residue, reading}
 use Rattle.integers.proofs.Integers.{diff-neg}
 use Rattle.position_format.proofs.Integers.{at-least, at-most, neg-holds, neg-le-pos, neg-le-neg}
 
@@ -41,10 +41,6 @@ goodRow r = both (areBits (r .prefix)) (full r)
 unfoldable pub goodTable : List Row → Bool
 goodTable [] = true
 goodTable (r ∷ rs) = both (goodRow r) (both (every (λ (s : Row). apart (r .prefix) (s .prefix)) rs) (goodTable rs))
-
-pub rows-good : goodTable rows ≡ true
-unfolding goodTable rows begins
-rows-good = refl
 
 -- ---- its parts
 

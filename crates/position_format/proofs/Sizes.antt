@@ -1,7 +1,7 @@
 -- How many bits and bytes the coding of positions takes.
 use mathlib.Core.Bool.{true}
 use mathlib.Core.List.{List, [], _∷_, _++_}
-use mathlib.Core.Path.{_≡_, refl}
+use mathlib.Core.Path.{_≡_}
 use Prim.Native.Nat.{ℕ, suc, _+_, _-_, _*_, _/_, _≤_}
 use native.Mathlib.Nat.{mul-suc}
 use native.Mathlib.Omega.{arith}
@@ -13,12 +13,16 @@ use Rattle.bits.proofs.Digits.{length-digits}
 use Rattle.bits.proofs.Packing.{length-pack}
 use Rattle.lists.specs.Lists.{firstIndex}
 use Rattle.limits.specs.Points.{maxPoints}
-use Rattle.position_format.specs.Rows.{Row, rows, inTable, code}
+use Rattle.position_format.specs.declared.Form.{Form}
+use Rattle.position_format.specs.declared.Form.the-variants.{Old, Wide}
+use Rattle.position_format.specs.Rows.{Row, rows, wideRows, inTable, code}
 use Rattle.position_format.specs.Steps.{stepsFrom, steps, outside}
 use Rattle.position_format.specs.Positions.{stepBits, positionBits, codedPositions, validPositions}
+use Rattle.position_format.specs.Tables.{tableOf, pointsOf}
 use Rattle.position_format.proofs.Lists.{none-cons}
 use Rattle.position_format.proofs.Codes.{lengths, code-within}
 use Rattle.position_format.proofs.Steps.{length-from}
+use Rattle.position_format.proofs.Tables.{mostBits, form-sound}
 use Rattle.position_format.proofs.Valid.{valid-parts}
 
 pub length-coded : (rs : List Row) (ts : List ℕ) → length (codedPositions rs ts) ≡ (length (positionBits rs ts) + 7) / 8
@@ -50,12 +54,19 @@ module _ (lo hi : ℕ) (rs : List Row) (within : lengths lo hi rs ≡ true) wher
       let k : suc (suc (length ts)) - 2 ≡ length zs = omega (arith, length-from a b ts) in
       rw (k, length-raw a b (stepBits rs zs)) (omega (arith, steps-most zs (valid-parts rs (a ∷ b ∷ ts) v .1)))
 
--- ---- document 01's table
+-- ---- the tables of the forms
 
--- its codes have 1 to 36 bits
-rows-lengths : lengths 1 36 rows ≡ true
-unfolding rows
-rows-lengths = refl
+-- no form has more points than a run can have
+pub points-few : (f : Form) → pointsOf f ≤ maxPoints
+points-few Old = omega arith
+points-few Wide = omega arith
 
-pub rows-size : (ts : List ℕ) → validPositions rows ts ≡ true → length ts ≤ maxPoints → length (codedPositions rows ts) ≤ 18439
-rows-size ts v h = omega (arith, length-coded rows ts, bits-most 1 36 rows rows-lengths ts v)
+-- the bits of as many positions as a run can have
+pub bits-few : (f : Form) (ts : List ℕ) → validPositions (tableOf f) ts ≡ true → length ts ≤ maxPoints → length (positionBits (tableOf f) ts) ≤ 282614
+bits-few Old ts v h = omega (arith, bits-most 1 36 rows (form-sound Old .lengths) ts v)
+bits-few Wide ts v h = omega (arith, bits-most 1 69 wideRows (form-sound Wide .lengths) ts v)
+
+-- and their bytes, by the number of points of a run in the form
+pub form-size : (f : Form) (ts : List ℕ) → validPositions (tableOf f) ts ≡ true → length ts ≤ pointsOf f → length (codedPositions (tableOf f) ts) ≤ (128 + mostBits f * (pointsOf f - 2) + 7) / 8
+form-size Old ts v h = omega (arith, length-coded rows ts, bits-most 1 36 rows (form-sound Old .lengths) ts v)
+form-size Wide ts v h = omega (arith, length-coded wideRows ts, bits-most 1 69 wideRows (form-sound Wide .lengths) ts v)

@@ -44,7 +44,7 @@ positionBits rs (a ∷ b ∷ ts) = bitsOf 64 a ++ (bitsOf 64 b ++ stepBits rs (s
 unfoldable pub codedPositions : List Row → List ℕ → List ℕ
 codedPositions rs ts = pack (positionBits rs ts)
 
--- tests 4 and 5 of writing do not apply
+-- tests 4 and 5 of writing do not apply; in the wide form the second part follows from the first
 unfoldable pub validPositions : List Row → List ℕ → Bool
 validPositions rs ts = both (eqb (firstHigh ts) (length ts)) (eqb (firstIndex (outside rs) (steps ts)) (length (steps ts)))
 

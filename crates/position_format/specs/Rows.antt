@@ -1,6 +1,7 @@
--- Document 01, "Positions": the table of steps.
+-- Document 01, "Positions", and document 02, No. 3: the tables of steps.
 --   Row             a row: the prefix's bits, how many bits follow, the lowest and the highest step that it holds
---   rows            the table
+--   rows            document 01's table
+--   wideRows        the wide table: document 01's first four rows, its last row under a longer prefix, and a row of 64 bits for all other steps
 --   row, neg        a row by its parts; -n
 --   holds r z       the row r holds the step z
 --   inTable rs z    some row holds it
@@ -10,16 +11,15 @@
 --   code rs z       the code of z by the first row that holds it
 --   rowOf rs z      the index of the first row that holds z; noRow: what stands for a row past the table
 --   reading r x     the one number inside the row's range that is x modulo 2 ^ width, of a row that holds 2 ^ width numbers, 0 among them
--- The definitions that go by a table take it as an argument, and their laws are proved of every table that passes one computed test: no
--- prefix begins another, and each row holds 2 ^ width numbers, 0 among them (proofs/Rows, goodTable). The codec asks more computed tests of a
--- table: how many bits its codes have (proofs/Codes, lengths), that its ranges widen from row to row, that rows of at most 57 bits are even
--- around 0 (proofs/Ranges, widening and evenUpTo), and that its prefixes are short, today at most 4 bits (position_codec, proofs/StepFound,
--- shortPrefixes).
+-- The definitions that go by a table take it as an argument, and their laws are proved of every table that passes one computed test
+-- (proofs/Tables, soundTable): no prefix begins another or has more than 5 bits, each row holds 2 ^ width numbers, 0 among them, codes have
+-- 1 to 69 bits, ranges widen from row to row, rows of at most 57 bits hold as many steps below 0 as above it or one fewer, and the first row holds 0
+-- alone, in a code of one bit.
 use mathlib.Core.Bool.{Bool, true, false, cond}
 use mathlib.Core.List.{List, [], _∷_, _++_}
 use Prim.Native.Nat.{ℕ, suc, _+_, _-_, _%_, _^_}
 use lib.IntN.{ℤ, pos, negsuc, negℤ, _-ℤ_}
-use lib.ListN.{length}
+use lib.ListN.{length, take}
 use lib.Signed.{leZ}
 use Rattle.lists.specs.Compare.{both}
 use Rattle.bits.specs.Digits.{bitsOf}
@@ -50,6 +50,14 @@ rows =
     ∷ row (1 ∷ 1 ∷ 1 ∷ 1 ∷ []) 32 (neg (2 ^ 31 - 1)) (pos (2 ^ 31))
     ∷ []
 
+-- the same first four rows, then 11110 with 32 bits for the old last row, then 11111 with 64 bits in two's complement for all other steps
+unfoldable pub wideRows : List Row
+wideRows =
+    take 4 rows
+    ++ (row (1 ∷ 1 ∷ 1 ∷ 1 ∷ 0 ∷ []) 32 (neg (2 ^ 31 - 1)) (pos (2 ^ 31))
+    ∷ row (1 ∷ 1 ∷ 1 ∷ 1 ∷ 1 ∷ []) 64 (neg (2 ^ 63)) (pos (2 ^ 63 - 1))
+    ∷ [])
+
 -- whether z is from the row's lowest step to its highest
 abbrev pub holds : Row → ℤ → Bool
 holds r z = both (leZ (r .low) z) (leZ z (r .high))
@@ -59,7 +67,7 @@ unfoldable pub inTable : List Row → ℤ → Bool
 inTable [] z = false
 inTable (r ∷ rs) z = cond (holds r z) true (inTable rs z)
 
--- z modulo 2 ^ k, from 0 to 2 ^ k - 1: two's complement in k bits
+-- z modulo 2 ^ k, from 0 to 2 ^ k - 1: the lowest k bits of z in two's complement
 abbrev pub residue : ℕ → ℤ → ℕ
 residue k (pos n) = n % 2 ^ k
 residue k (negsuc n) = 2 ^ k - suc (n % 2 ^ k)
@@ -72,7 +80,7 @@ codeIn r z = r .prefix ++ bitsOf (r .width) (residue (r .width) z)
 abbrev pub codeLength : Row → ℕ
 codeLength r = length (r .prefix) + r .width
 
--- the code of z by the first row that holds it; no bits where none does, which test 5 shuts out
+-- the code of z by the first row that holds it; no bits where none does, which test 5 shuts out in the old form, and which is never so in the wide one
 unfoldable pub code : List Row → ℤ → List ℕ
 code [] z = []
 code (r ∷ rs) z = cond (holds r z) (codeIn r z) (code rs z)

@@ -1,63 +1,27 @@
--- The table's numbers in the code are those of document 01's rows, and the rows pass the tests that the laws ask of a table. The checker computes
--- each of these tests.
+-- The numbers in the code are those of the tables' rows. The checker computes this once for each table.
 use mathlib.Core.Bool.{Bool, true, false, cond}
-use mathlib.Core.List.{List, [], _∷_}
-use mathlib.Core.Path.{_≡_, refl, ap, _∙_}
-use Prim.Native.Nat.{ℕ, zero, suc, _+_, _-_, _*_, _/_, _%_, _^_, _≤_, _<_}
+use mathlib.Core.List.{List, [], _∷_, map}
+use mathlib.Core.Path.{_≡_, refl, sym, ap, _∙_}
+use Prim.Native.Nat.{ℕ, zero, suc, _+_, _-_, _/_, _^_, _≤_, _<_}
 use native.Mathlib.Omega.{arith}
-use borrow.Author.Tests.{ltb-true, leb-true, le-ltb, lt-ltb, eqb-true, eqb-false}
+use borrow.Author.Tests.{ltb-true, leb-true, le-ltb, lt-ltb, eq-eqb, ne-eqb, eqb-true, eqb-false}
 use lib.Dec.{ltb, leb, eqb}
 use lib.IntN.{ℤ, pos, natAbs}
 use lib.ListN.{length, getD}
 use lib.Signed.{leZ}
 use mir.Syntax.{w64}
 use mir.Val.{toZ, ofZ}
-use Rattle.lists.specs.Compare.{both, begins}
-use Rattle.lists.specs.Lists.{firstIndex}
-use Rattle.lists.proofs.Compare.{both-true}
+use Rattle.lists.specs.Compare.{both, begins, same}
+use Rattle.lists.proofs.Compare.{both-true, same-is}
 use Rattle.bits.specs.Digits.{digitsOf, bitsOf}
-use Rattle.position_format.specs.Rows.{Row, row, rows, neg, code, codeLength, reading, noRow, rowOf}
+use Rattle.position_format.specs.declared.Form.{Form}
+use Rattle.position_format.specs.declared.Form.the-variants.{Old, Wide}
+use Rattle.position_format.specs.Rows.{Row, row, rows, wideRows, neg, codeLength, noRow}
+use Rattle.position_format.specs.Tables.{tableOf}
 use Rattle.position_format.proofs.Integers.{at-least}
-use Rattle.position_format.proofs.Codes.{lengths}
-use Rattle.position_format.proofs.Ranges.{widening, evenUpTo}
+use Rattle.position_format.proofs.Wide.{ranged, ranged-at}
+use Rattle.position_codec.specs.Codes.{byteOf, PrefixIs}
 use Rattle.position_codec.specs.Found.{Leads}
-use Rattle.position_codec.proofs.StepFound.{shortPrefixes}
-
--- ---- the tests of a table
-
-pub rows-count : length rows ≡ 5
-unfolding rows
-rows-count = refl
-
--- a code has 1 to 69 bits
-pub rows-lengths : lengths 1 69 rows ≡ true
-unfolding rows
-rows-lengths = refl
-
--- a prefix has at most four bits
-pub rows-short : shortPrefixes 4 rows ≡ true
-unfolding rows
-rows-short = refl
-
--- the ranges widen
-pub rows-widening : widening rows ≡ true
-unfolding rows widening
-rows-widening = refl
-
--- and those of rows of at most 57 bits are even around 0
-pub rows-even : evenUpTo 57 rows ≡ true
-unfolding rows
-rows-even = refl
-
--- the first row has no bits after its prefix, reads 0 and holds it
-pub rows-zero : (getD rows 0 noRow .width ≡ 0) × (reading (getD rows 0 noRow) 0 ≡ pos 0) × (rowOf rows (pos 0) ≡ 0)
-unfolding rows firstIndex
-rows-zero = (refl, refl, refl)
-
--- the code of 0 is one bit
-pub rows-zero-code : bitsOf 1 0 ≡ code rows (pos 0)
-unfolding rows code digitsOf
-rows-zero-code = refl
 
 -- a test of every number below a bound
 abbrev allBelow : ℕ → (ℕ → Bool) → Bool
@@ -74,13 +38,13 @@ all-at (suc n) q e i h =
     go true s f g = rw (eqb-true i n s) f
     go false s f g = g (omega (arith, eqb-false i n s))
 
--- ---- the numbers of each row, as the code has them
+-- ---- the range and the width of each row, as the code has them
 
 abbrev lows : List ℤ
-lows = pos 0 ∷ neg 63 ∷ neg 255 ∷ neg 2047 ∷ neg 2147483647 ∷ []
+lows = pos 0 ∷ neg 63 ∷ neg 255 ∷ neg 2047 ∷ neg 2147483647 ∷ neg 9223372036854775808 ∷ []
 
 abbrev highs : List ℤ
-highs = pos 0 ∷ pos 64 ∷ pos 256 ∷ pos 2048 ∷ pos 2147483648 ∷ []
+highs = pos 0 ∷ pos 64 ∷ pos 256 ∷ pos 2048 ∷ pos 2147483648 ∷ pos 9223372036854775807 ∷ []
 
 abbrev pub lowOf : ℕ → ℤ
 lowOf i = toZ w64 (ofZ w64 (getD lows i (pos 0)))
@@ -88,103 +52,135 @@ lowOf i = toZ w64 (ofZ w64 (getD lows i (pos 0)))
 abbrev pub highOf : ℕ → ℤ
 highOf i = toZ w64 (ofZ w64 (getD highs i (pos 0)))
 
--- each of these as one word, a byte for each row
-abbrev pub prefixOf : ℕ → ℕ
-prefixOf i = 64659784192 / 2 ^ (8 * i) % 256
-
-abbrev pub prefixLenOf : ℕ → ℕ
-prefixLenOf i = 17247175169 / 2 ^ (8 * i) % 256
-
 abbrev pub widthOf : ℕ → ℕ
-widthOf i = 137640871680 / 2 ^ (8 * i) % 256
+widthOf i = byteOf 70506385049344 i
 
--- the row of these numbers, and n rows from the one of index i on
-abbrev rowFrom : ℕ → Row
-rowFrom i = row (bitsOf (prefixLenOf i) (prefixOf i)) (widthOf i) (lowOf i) (highOf i)
+-- a row of these, and n rows from the one of index i on
+abbrev rangeFrom : ℕ → Row
+rangeFrom i = row [] (widthOf i) (lowOf i) (highOf i)
 
-abbrev rowsFrom : ℕ → ℕ → List Row
-rowsFrom i zero = []
-rowsFrom i (suc n) = rowFrom i ∷ rowsFrom (suc i) n
+abbrev rangesFrom : ℕ → ℕ → List Row
+rangesFrom i zero = []
+rangesFrom i (suc n) = rangeFrom i ∷ rangesFrom (suc i) n
 
-from-at : (i n j : ℕ) → j < n → getD (rowsFrom i n) j noRow ≡ rowFrom (i + j)
+from-at : (i n j : ℕ) → j < n → getD (rangesFrom i n) j noRow ≡ rangeFrom (i + j)
 from-at i zero j h = absurd (omega arith)
-from-at i (suc n) zero h = let e : i ≡ i + 0 = omega arith in ap rowFrom e
-from-at i (suc n) (suc j) h = let e : suc i + j ≡ i + suc j = omega arith in from-at (suc i) n j (omega arith) ∙ ap rowFrom e
+from-at i (suc n) zero h = let e : i ≡ i + 0 = omega arith in ap rangeFrom e
+from-at i (suc n) (suc j) h = let e : suc i + j ≡ i + suc j = omega arith in from-at (suc i) n j (omega arith) ∙ ap rangeFrom e
 
-rows-are : rows ≡ rowsFrom 0 5
-unfolding rows digitsOf
-rows-are = refl
+ranges-are : map ranged wideRows ≡ rangesFrom 0 6
+unfolding wideRows rows
+ranges-are = refl
 
-pub row-at : (i : ℕ) → i < 5 → getD rows i noRow ≡ rowFrom i
-row-at i h = let e : 0 + i ≡ i = omega arith in ap (λ (rs : List Row). getD rs i noRow) rows-are ∙ from-at 0 5 i h ∙ ap rowFrom e
+pub row-at : (i : ℕ) → i < 6 → ranged (getD wideRows i noRow) ≡ rangeFrom i
+row-at i h =
+    let e : 0 + i ≡ i = omega arith in
+    sym (ranged-at wideRows i) ∙ ap (λ (rs : List Row). getD rs i noRow) ranges-are ∙ from-at 0 6 i h ∙ ap rangeFrom e
 
--- they are small: each fits the word that it is put in
-abbrev small : ℕ → Bool
-small i = both (both (ltb (prefixOf i) (2 ^ prefixLenOf i)) (ltb 0 (prefixLenOf i))) (both (leb (prefixLenOf i) 64) (leb (widthOf i) 64))
-
-pub record Small (i : ℕ) : Type 0 where
-  pub prefix : prefixOf i < 2 ^ prefixLenOf i
-  pub prefixed : 0 < prefixLenOf i
-  pub short : prefixLenOf i ≤ 64
-  pub narrow : widthOf i ≤ 64
-
-pub row-small : (i : ℕ) → i < 5 → Small i
-row-small i h =
-    let p = both-true (both (ltb (prefixOf i) (2 ^ prefixLenOf i)) (ltb 0 (prefixLenOf i))) _ (all-at 5 small refl i h) in
-    let q = both-true (ltb (prefixOf i) (2 ^ prefixLenOf i)) _ (p .0) in
-    let r = both-true (leb (prefixLenOf i) 64) _ (p .1) in
-    record { prefix = ltb-true _ _ (q .0); prefixed = ltb-true _ _ (q .1); short = leb-true _ _ (r .0); narrow = leb-true _ _ (r .1) }
-
-pub row-narrow : (i : ℕ) → i < 5 → getD rows i noRow .width ≤ 64
-row-narrow i h = rw (row-at i h) (row-small i h .narrow)
-
--- the highest step is not below 0, and both ends fit 64 bits
-abbrev ends : ℕ → Bool
-ends i = both (leZ (pos 0) (highOf i)) (both (ltb (natAbs (highOf i)) (2 ^ 63)) (leb (natAbs (lowOf i)) (2 ^ 63)))
+-- widths have at most 64 bits, the highest step is not below 0, and both ends fit 64 bits
+abbrev fits : ℕ → Bool
+fits i = both (both (leb (widthOf i) 64) (leZ (pos 0) (highOf i))) (both (ltb (natAbs (highOf i)) (2 ^ 63)) (leb (natAbs (lowOf i)) (2 ^ 63)))
 
 pub record Ends (i : ℕ) : Type 0 where
+  pub narrow : widthOf i ≤ 64
   pub high : highOf i ≡ pos (natAbs (highOf i))
   pub high-fits : natAbs (highOf i) < 2 ^ 63
   pub low-fits : natAbs (lowOf i) ≤ 2 ^ 63
 
-pub row-ends : (i : ℕ) → i < 5 → Ends i
+pub row-ends : (i : ℕ) → i < 6 → Ends i
 row-ends i h =
-    let p = both-true (leZ (pos 0) (highOf i)) _ (all-at 5 ends refl i h) in
-    let q = both-true (ltb (natAbs (highOf i)) (2 ^ 63)) _ (p .1) in
-    record { high = at-least (highOf i) (p .0); high-fits = ltb-true _ _ (q .0); low-fits = leb-true _ _ (q .1) }
+    let p = both-true (both (leb (widthOf i) 64) (leZ (pos 0) (highOf i))) _ (all-at 6 fits refl i h) in
+    let q = both-true (leb (widthOf i) 64) _ (p .0) in
+    let r = both-true (ltb (natAbs (highOf i)) (2 ^ 63)) _ (p .1) in
+    record { narrow = leb-true _ _ (q .0); high = at-least (highOf i) (q .1); high-fits = ltb-true _ _ (r .0); low-fits = leb-true _ _ (r .1) }
 
--- ---- the row that four bits lead to
+pub row-narrow : (i : ℕ) → i < 6 → getD wideRows i noRow .width ≤ 64
+row-narrow i h = omega (arith, ap (λ (r : Row). r .width) (row-at i h), row-ends i h .narrow)
 
--- the first row after a bit 0; after a bit 1 by one word, and so how many bits its codes have
-abbrev rowBy : ℕ → ℕ
-rowBy j = cond (ltb j 8) 0 (289077008711876865 / 2 ^ (8 * (j - 8)) % 256)
+-- ---- the prefixes, and the row that five bits lead to, of each table
 
-abbrev lenBy : ℕ → ℕ
-lenBy j = cond (ltb j 8) 1 (2598590230823504137 / 2 ^ (8 * (j - 8)) % 256)
+-- the words of the prefixes and of their lengths
+abbrev valuesOf : Form → ℕ
+valuesOf Old = 64659784192
+valuesOf Wide = 34213944754688
 
-abbrev leads : ℕ → Bool
-leads j =
-    both (both (ltb (rowBy j) 5) (begins (getD rows (rowBy j) noRow .prefix) (bitsOf 4 j)))
-    (both (eqb (lenBy j) (codeLength (getD rows (rowBy j) noRow))) (cond (ltb j 8) true (ltb 0 (rowBy j))))
+abbrev lensOf : Form → ℕ
+lensOf Old = 17247175169
+lensOf Wide = 5519100281345
 
-all-lead : allBelow 16 leads ≡ true
-unfolding rows begins digitsOf
-all-lead = refl
+abbrev isPrefix : Row → ℕ → ℕ → Bool
+isPrefix r x p = both (both (ltb 0 p) (leb p 64)) (both (ltb x (2 ^ p)) (same (r .prefix) (bitsOf p x)))
 
-led-by : (j : ℕ) → j < 16 → Leads rows (bitsOf 4 j) (rowBy j) (lenBy j) × (cond (ltb j 8) true (ltb 0 (rowBy j)) ≡ true)
-led-by j h =
-    let p = both-true (both (ltb (rowBy j) 5) _) _ (all-at 16 leads all-lead j h) in
-    let q = both-true (ltb (rowBy j) 5) _ (p .0) in
-    let r = both-true (eqb (lenBy j) _) _ (p .1) in
-    (record { row = omega (arith, ltb-true (rowBy j) 5 (q .0), rows-count); front = q .1; len = eqb-true _ _ (r .0) }, r .1)
+-- after a first bit 1, by the three bits after it; but five bits 1 of the wide table
+abbrev rowBy : Form → ℕ → ℕ
+rowBy Old j = byteOf 289077008711876865 (j / 2 - 8)
+rowBy Wide j = cond (eqb j 31) 5 (byteOf 289077008711876865 (j / 2 - 8))
 
-module _ (j : ℕ) (h : j < 16) where
-  pub lead-zero : j < 8 → Leads rows (bitsOf 4 j) 0 1
-  lead-zero l = rw (lt-ltb j 8 l) at (led-by j h .0)
+abbrev lenBy : Form → ℕ → ℕ
+lenBy Old j = byteOf 2598590230823504137 (j / 2 - 8)
+lenBy Wide j = cond (eqb j 31) 69 (byteOf 2670647824861432073 (j / 2 - 8))
 
-  pub lead-more : 8 ≤ j
-      → Leads rows (bitsOf 4 j) (289077008711876865 / 2 ^ (8 * (j - 8)) % 256) (2598590230823504137 / 2 ^ (8 * (j - 8)) % 256)
-      × (0 < 289077008711876865 / 2 ^ (8 * (j - 8)) % 256)
+-- the row i leads the five bits of j, and its codes have n bits
+abbrev leads : Form → ℕ → ℕ → ℕ → Bool
+leads f j i n = both (both (ltb i (length (tableOf f))) (begins (getD (tableOf f) i noRow .prefix) (bitsOf 5 j))) (eqb n (codeLength (getD (tableOf f) i noRow)))
+
+-- after a first bit 0 it is the first row, with codes of one bit, and else another
+abbrev leadsAt : Form → ℕ → Bool
+leadsAt f j = cond (ltb j 16) (leads f j 0 1) (both (ltb 0 (rowBy f j)) (leads f j (rowBy f j) (lenBy f j)))
+
+abbrev numbersOf : Form → Bool
+numbersOf f = both (allBelow (length (tableOf f)) (λ (i : ℕ). isPrefix (getD (tableOf f) i noRow) (byteOf (valuesOf f) i) (byteOf (lensOf f) i))) (allBelow 32 (leadsAt f))
+
+numbers-are : (f : Form) → numbersOf f ≡ true
+unfolding rows wideRows begins same digitsOf
+numbers-are Old = refl
+numbers-are Wide = refl
+
+-- ---- its parts
+
+prefix-at : (f : Form) (i : ℕ) → i < length (tableOf f) → PrefixIs (getD (tableOf f) i noRow) (byteOf (valuesOf f) i) (byteOf (lensOf f) i)
+prefix-at f i h =
+    let n = length (tableOf f) in
+    let x = byteOf (valuesOf f) i in
+    let p = byteOf (lensOf f) i in
+    let all = both-true (allBelow n (λ (j : ℕ). isPrefix (getD (tableOf f) j noRow) (byteOf (valuesOf f) j) (byteOf (lensOf f) j))) _ (numbers-are f) .0 in
+    let t = both-true (both (ltb 0 p) (leb p 64)) _ (all-at n _ all i h) in
+    let a = both-true (ltb 0 p) _ (t .0) in
+    let b = both-true (ltb x (2 ^ p)) _ (t .1) in
+    record { prefixed = ltb-true _ _ (a .0); short = leb-true _ _ (a .1); fits = ltb-true _ _ (b .0); bits = same-is _ _ (b .1) }
+
+pub old-prefix : (i : ℕ) → i < length rows → PrefixIs (getD rows i noRow) (byteOf 64659784192 i) (byteOf 17247175169 i)
+old-prefix = prefix-at Old
+
+pub wide-prefix : (i : ℕ) → i < length wideRows → PrefixIs (getD wideRows i noRow) (byteOf 34213944754688 i) (byteOf 5519100281345 i)
+wide-prefix = prefix-at Wide
+
+led-by : (f : Form) (j i n : ℕ) → leads f j i n ≡ true → Leads (tableOf f) (bitsOf 5 j) i n
+led-by f j i n e =
+    let p = both-true (both (ltb i (length (tableOf f))) (begins (getD (tableOf f) i noRow .prefix) (bitsOf 5 j))) _ e in
+    let q = both-true (ltb i (length (tableOf f))) _ (p .0) in
+    record { row = ltb-true _ _ (q .0); front = q .1; len = eqb-true _ _ (p .1) }
+
+module _ (f : Form) (j : ℕ) (h : j < 32) where
+  at-lead : leadsAt f j ≡ true
+  at-lead =
+      let e = both-true (allBelow (length (tableOf f)) (λ (i : ℕ). isPrefix (getD (tableOf f) i noRow) (byteOf (valuesOf f) i) (byteOf (lensOf f) i))) _ (numbers-are f) .1 in
+      all-at 32 (leadsAt f) e j h
+
+  pub lead-zero : j < 16 → Leads (tableOf f) (bitsOf 5 j) 0 1
+  lead-zero l = led-by f j 0 1 (rw (lt-ltb j 16 l) at at-lead)
+
+  lead-more : 16 ≤ j → Leads (tableOf f) (bitsOf 5 j) (rowBy f j) (lenBy f j) × (0 < rowBy f j)
   lead-more l =
-      let e = le-ltb j 8 l in
-      (rw e at (led-by j h .0), ltb-true 0 _ (rw e at (led-by j h .1)))
+      let p = both-true (ltb 0 (rowBy f j)) _ (rw (le-ltb j 16 l) at at-lead) in
+      (led-by f j (rowBy f j) (lenBy f j) (p .1), ltb-true _ _ (p .0))
+
+module _ (j : ℕ) (h : j < 32) (l : 16 ≤ j) where
+  pub old-leads : Leads rows (bitsOf 5 j) (byteOf 289077008711876865 (j / 2 - 8)) (byteOf 2598590230823504137 (j / 2 - 8)) × (0 < byteOf 289077008711876865 (j / 2 - 8))
+  old-leads = lead-more Old j h l
+
+  pub last-leads : j ≡ 31 → Leads wideRows (bitsOf 5 j) 5 69 × (_<_ 0 5)
+  last-leads e = rw (eq-eqb j 31 e) at (lead-more Wide j h l)
+
+  pub wide-leads : (j ≡ 31 → ⊥) → Leads wideRows (bitsOf 5 j) (byteOf 289077008711876865 (j / 2 - 8)) (byteOf 2670647824861432073 (j / 2 - 8)) × (0 < byteOf 289077008711876865 (j / 2 - 8))
+  wide-leads d = rw (ne-eqb j 31 d) at (lead-more Wide j h l)

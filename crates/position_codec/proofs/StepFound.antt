@@ -1,28 +1,30 @@
 -- Laws of a step found at the front of bits, for any table that passes the test of a table and whose prefixes are short: by the row that the
 -- first bits lead to.
-use mathlib.Core.Bool.{Bool, true, false}
+use mathlib.Core.Bool.{true, false}
 use mathlib.Core.List.{List}
 use mathlib.Core.Path.{_≡_, refl, sym, ap, ap₂, _∙_}
 use Prim.Native.Nat.{ℕ, _+_, _-_, _/_, _%_, _^_, _≤_, _<_}
 use native.Mathlib.Omega.{arith}
-use borrow.Author.Tests.{leb-true}
-use lib.Dec.{leb}
 use lib.IntN.{ℤ, pos}
 use lib.ListN.{length, getD, take, drop, length-append}
 use lib.Seq.{drop-drop}
 use Rattle.lists.specs.Below.{Below}
 use Rattle.lists.specs.Compare.{begins}
 use Rattle.lists.proofs.Compare.{begins-rest}
-use Rattle.lists.proofs.Lists.{every}
 use Rattle.bits.specs.Digits.{bitsOf, numberOf}
 use Rattle.bits.specs.Packing.{bits, ahead}
 use Rattle.bits.proofs.Ahead.{take-ahead, ahead-first, ahead-field}
-use Rattle.position_format.specs.Rows.{Row, holds, inTable, reading, code, codeLength, noRow, rowOf}
-use Rattle.position_format.proofs.Lists.{not-so, every-at}
+use Rattle.position_format.specs.declared.Form.{Form}
+use Rattle.position_format.specs.declared.Form.the-variants.{Old, Wide}
+use Rattle.position_format.specs.Rows.{Row, rows, wideRows, holds, inTable, reading, code, codeLength, noRow, rowOf}
+use Rattle.position_format.specs.Tables.{tableOf}
+use Rattle.position_format.proofs.Lists.{not-so}
 use Rattle.position_format.proofs.Prefixes.{begins-take, take-begins, begins-short}
 use Rattle.position_format.proofs.Rows.{goodTable, good-full, reading-held}
 use Rattle.position_format.proofs.Ranges.{widening, row-before, row-first}
-use Rattle.position_format.proofs.Codes.{inTable-row, length-code, lengths, code-within}
+use Rattle.position_format.proofs.Codes.{inTable-row, row-inTable, length-code, lengths, code-within}
+use Rattle.position_format.proofs.Tables.{shortPrefixes, prefix-short}
+use Rattle.position_format.proofs.Wide.{rows-count, same-range, old-row, old-index}
 use Rattle.position_format.proofs.Decoding.{code-begins, prefix-one, front-step, front-table, front-code}
 use Rattle.position_codec.specs.declared.table.GotStep.{GotStep}
 use Rattle.position_codec.specs.declared.table.GotStep.the-variants.{Step, Nothing}
@@ -64,14 +66,19 @@ module _ (rs : List Row) (good : goodTable rs ≡ true) (wide : widening rs ≡ 
       let r = getD rs i noRow in
       (is, ap (rowOf rs) is ∙ row-first rs good wide (reading r x) i nonzero i< e (reading-held r (good-full noRow rs good i i<) x x<), refl)
 
+-- ---- the same by the table of a form, of which the wide table has every row
+
+pub read-form : (f : Form) (i : ℕ) → i < length (tableOf f) → (n x : ℕ) (g : GotStep) → ReadBy wideRows i n x g → ReadBy (tableOf f) i n x g
+read-form Wide i h n x g e = e
+read-form Old i h n x (Step z m) e =
+    (e .0 ∙ sym (ap (λ (r : Row). reading r x) (same-range Old i h)), old-row z i (omega (arith, rows-count)) (e .1), e .2)
+read-form Old i h n x Nothing e =
+    λ is.
+    let same : reading (getD rows i noRow) x ≡ reading (getD wideRows i noRow) x = ap (λ (r : Row). reading r x) (same-range Old i h) in
+    let z = reading (getD rows i noRow) x in
+    e (ap (rowOf wideRows) (sym same) ∙ old-index z (row-inTable rows z (omega arith)) ∙ is)
+
 -- ---- prefixes of at most q bits
-
--- the test
-abbrev pub shortPrefixes : ℕ → List Row → Bool
-shortPrefixes q rs = every (λ (r : Row). leb (length (r .prefix)) q) rs
-
-prefix-short : (q : ℕ) (rs : List Row) → shortPrefixes q rs ≡ true → (i : ℕ) → i < length rs → length (getD rs i noRow .prefix) ≤ q
-prefix-short q rs e i h = leb-true (length (getD rs i noRow .prefix)) q (every-at (λ (r : Row). leb (length (r .prefix)) q) rs noRow e i h)
 
 -- bits and those ahead begin with the same prefixes, where there are so many
 begins-ahead : (q : ℕ) (p ds : List ℕ) → length p ≤ q → begins p ds ≡ true → begins p (ahead q ds) ≡ true

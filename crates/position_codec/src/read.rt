@@ -1,14 +1,15 @@
 // Positions read: point by point, each in the one form that it is written in, and then the fill.
 ghost use mathlib.Core.List.{List};
 ghost use mathlib.Core.Path.{_≡_};
-ghost use Prim.Native.Nat.{ℕ, _-_, _*_, _/_, _%_, _^_, _≤_, _<_};
-ghost use lib.ListN.{length, getD, take, drop, replicate};
+ghost use Prim.Native.Nat.{ℕ, _+_, _-_, _*_, _/_, _%_, _^_, _≤_, _<_};
+ghost use lib.ListN.{length, take, drop, replicate};
 ghost use Rattle.lists.specs.Compare.{same};
 ghost use Rattle.bits.specs.Digits.{numberOf};
 ghost use Rattle.bits.specs.Packing.{bits, fillOf};
 ghost use Rattle.limits.specs.Points.{maxPoints};
 ghost use Rattle.outputs.specs.Outputs.{Filled};
-ghost use Rattle.position_format.specs.Rows.{Row, rows, noRow, codeLength};
+ghost use Rattle.position_format.specs.Rows.{Row};
+ghost use Rattle.position_format.specs.Tables.{tableOf};
 ghost use Rattle.position_format.specs.Positions.{readPositions};
 ghost use Rattle.position_codec.specs.Found.{InBody, Ahead, StepFound, PositionFound, PointFound};
 use crate::table::GotStep;
@@ -18,9 +19,10 @@ use crate::table::step_by;
 use crate::table::width_of;
 use crate::table::within;
 use limits::MAX_POSITION;
+use position_format::Form;
 
-// The most bytes that the coding of 4,096 positions has.
-const MAX_BYTES: usize = 18439;
+// The most bytes that the coding of 4,096 positions has in either form.
+const MAX_BYTES: usize = 35327;
 
 // The position at which a step leads.
 pub enum GotPosition {
@@ -34,54 +36,53 @@ pub enum GotPoint {
     Nothing,
 }
 
-// The number of the bits after the prefix of a code of n bits by the row, which stands at the front of the word w.
-fn field_ahead(w: u64, row: usize, n: usize) -> u64
-    requires { ⌜ (row < 5) × (n ≡ codeLength (getD rows row noRow)) × (n ≤ 57) ⌝ }
-    ensures { λ r. ⌜ r ≡ w / 2 ^ (64 - n) % 2 ^ getD rows row noRow .width ⌝ }
+// The last `width` of the first n bits of the word w.
+fn field_ahead(w: u64, n: usize, width: usize) -> u64
+    requires { ⌜ (0 < n) × (n ≤ 57) × (width ≤ n) ⌝ }
+    ensures { λ r. ⌜ r ≡ w / 2 ^ (64 - n) % 2 ^ width ⌝ }
 {
-    (w >> (64 - n)) % (1 << width_of(row))
+    (w >> (64 - n)) % (1 << width)
 }
 
-// The same of a code which stands at the bit offset `at`.
-fn field_at(body: &[u8], at: usize, row: usize, n: usize) -> u64
-    requires { ⌜ InBody (now body) at × (row < 5) × (n ≡ codeLength (getD rows row noRow)) × (n ≤ length (drop at (bits (now body)))) ⌝ }
-    ensures { λ r. ⌜ (r ≡ numberOf 2 (take (getD rows row noRow .width) (drop (length (getD rows row noRow .prefix)) (drop at (bits (now (body .entry)))))))
-        × (r < 2 ^ getD rows row noRow .width) ⌝ }
+// The last `width` of the n bits that stand at the bit offset `at`.
+fn field_at(body: &[u8], at: usize, n: usize, width: usize) -> u64
+    requires { ⌜ InBody (now body) at × (0 < n) × (n ≤ length (drop at (bits (now body)))) × (width ≤ n) × (width ≤ 64) ⌝ }
+    ensures { λ r. ⌜ (r ≡ numberOf 2 (take width (drop (at + (n - width)) (bits (now (body .entry)))))) × (r < 2 ^ width) ⌝ }
 {
-    let width = width_of(row);
     bits::get_bits(body, at + (n - width), width)
 }
 
-// The step whose code stands at the bit offset `at`, by the word w of the bits ahead: one bit, 0, for the step 0, or by the row of its first
-// four bits, if there are as many bits as its codes have. The word is sure to hold a code of 57 bits; a longer one is read from the body.
-fn step_ahead(body: &[u8], at: usize, w: u64) -> GotStep
+// The step whose code by a form's table stands at the bit offset `at`, by the word w of the bits ahead: one bit, 0, for the step 0, or by the row of
+// its first five bits, if there are as many bits as its codes have. The word is sure to hold a code of 57 bits; a longer one is read from the body.
+fn step_ahead(form: Form, body: &[u8], at: usize, w: u64) -> GotStep
     requires { ⌜ InBody (now body) at × Ahead (now body) at w × (at < 8 * length (now body)) ⌝ }
-    ensures { λ r. ⌜ StepFound rows (drop at (bits (now (body .entry)))) r ⌝ }
+    ensures { λ r. ⌜ StepFound (tableOf form) (drop at (bits (now (body .entry)))) r ⌝ }
 {
     if w < 9223372036854775808 {
         return GotStep::Step(0, 1);
     }
-    let l = lead_of(w >> 60);
+    let l = lead_of(form, w >> 59);
     let row = l.row;
     let n = l.len;
     if 8 * body.len() - at < n {
         return GotStep::Nothing;
     }
+    let width = width_of(row);
     if n <= 57 {
-        return short_step(row, n, field_ahead(w, row, n));
+        return short_step(row, n, field_ahead(w, n, width));
     }
-    step_by(row, n, field_at(body, at, row, n))
+    step_by(row, n, field_at(body, at, n, width))
 }
 
 // The step whose code stands at the bit offset `at`.
-fn get_step(body: &[u8], at: usize) -> GotStep
+fn get_step(form: Form, body: &[u8], at: usize) -> GotStep
     requires { ⌜ InBody (now body) at × (128 ≤ at) ⌝ }
-    ensures { λ r. ⌜ StepFound rows (drop at (bits (now (body .entry)))) r ⌝ }
+    ensures { λ r. ⌜ StepFound (tableOf form) (drop at (bits (now (body .entry)))) r ⌝ }
 {
     if at == 8 * body.len() {
         return GotStep::Nothing;
     }
-    step_ahead(body, at, bits::get_ahead(body, at))
+    step_ahead(form, body, at, bits::get_ahead(body, at))
 }
 
 // The position after a and b whose step is z, any i64. Where z is 0 the position fits an i64, and z is compared with the room on either
@@ -114,14 +115,14 @@ fn get_raw(body: &[u8], i: usize) -> GotPoint
 }
 
 // The position of point i, which stands at the bit offset `at`, after the positions a and b.
-fn get_point(body: &[u8], at: usize, i: usize, a: u64, b: u64) -> GotPoint
+fn get_point(form: Form, body: &[u8], at: usize, i: usize, a: u64, b: u64) -> GotPoint
     requires { ⌜ InBody (now body) at × (i < 2 → at ≡ 64 * i) × (2 ≤ i → 128 ≤ at) × (a < 2 ^ 62) × (b < 2 ^ 62) ⌝ }
-    ensures { λ r. ⌜ PointFound rows i a b (drop at (bits (now (body .entry)))) r ⌝ }
+    ensures { λ r. ⌜ PointFound (tableOf form) i a b (drop at (bits (now (body .entry)))) r ⌝ }
 {
     if i < 2 {
         return get_raw(body, i);
     }
-    let GotStep::Step(z, n) = get_step(body, at) else {
+    let GotStep::Step(z, n) = get_step(form, body, at) else {
         return GotPoint::Nothing;
     };
     let GotPosition::At(t) = next_position(a, b, z) else {
@@ -142,10 +143,11 @@ fn is_fill(body: &[u8], at: usize) -> bool
     bits::get_bits(body, at, left) == 0
 }
 
-// The positions that the body is the coding of are put at the front of the output, whose rest stays; or the body is no coding of so many.
-pub fn get_positions(body: &[u8], count: usize, out: &mut [u64]) -> bool
+// The positions that the body is the coding of, in a form, are put at the front of the output, whose rest stays; or the body is no coding of so
+// many.
+pub fn get_positions(form: Form, body: &[u8], count: usize, out: &mut [u64]) -> bool
     requires { ⌜ (count ≤ length (now out)) × (count ≤ maxPoints) ⌝ }
-    ensures { λ r. ⌜ Filled (readPositions rows count (now (body .entry))) r (now (out .entry)) (now (out .exit)) ⌝ }
+    ensures { λ r. ⌜ Filled (readPositions (tableOf form) count (now (body .entry))) r (now (out .entry)) (now (out .exit)) ⌝ }
 {
     if MAX_BYTES < body.len() {
         return false;
@@ -155,7 +157,7 @@ pub fn get_positions(body: &[u8], count: usize, out: &mut [u64]) -> bool
     let mut b = 0;
     let mut i = 0;
     while i < count {
-        let GotPoint::Point(t, n) = get_point(body, at, i, a, b) else {
+        let GotPoint::Point(t, n) = get_point(form, body, at, i, a, b) else {
             return false;
         };
         out[i] = t;

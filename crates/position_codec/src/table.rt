@@ -1,35 +1,53 @@
-// The table of steps: its data, the first row that holds a step, a step's code, and the step that a code's bits stand for. A code may have
-// 64 bits after its prefix, and a row's range may be any that holds 0; rows of at most 57 bits have a quicker way at the end.
+// The tables of steps: their data, the first row that holds a step, a step's code, and the step that a code's bits stand for. The wide table
+// has every row: document 01's has the first five, with the same ranges and widths, and another prefix for the last. A code may have 64 bits
+// after its prefix, and a row's range may be any that holds 0; rows of at most 57 bits have a quicker way at the end.
 ghost use mathlib.Core.Bool.{true};
 ghost use mathlib.Core.Path.{_≡_};
-ghost use Prim.Native.Nat.{_-_, _^_, _≤_, _<_};
-ghost use lib.ListN.{getD};
+ghost use Prim.Native.Nat.{ℕ, _-_, _^_, _≤_, _<_};
+ghost use lib.ListN.{length, getD};
 ghost use lib.Signed.{leZ};
 ghost use Rattle.lists.specs.Compare.{both};
 ghost use Rattle.bits.specs.Digits.{bitsOf};
-ghost use Rattle.position_format.specs.Rows.{rows, holds, inTable, residue, reading, noRow, rowOf};
-ghost use Rattle.position_codec.specs.Codes.{Coded};
+ghost use Rattle.position_format.specs.Rows.{rows, wideRows, holds, inTable, residue, reading, noRow, rowOf};
+ghost use Rattle.position_format.specs.Tables.{tableOf};
+ghost use Rattle.position_codec.specs.Codes.{byteOf, PrefixIs, Coded};
 ghost use Rattle.position_codec.specs.Found.{Leads, ReadBy};
+use position_format::Form;
 
-// How many rows there are, and of each row the lowest and the highest step.
+// How many rows document 01's table has. The wide one has a last row more, which holds every step.
 const ROWS: usize = 5;
 
-const LOW: [i64; 5] = [0, -63, -255, -2047, -2147483647];
+// Of each row of the wide table the lowest and the highest step.
+const LOW: [i64; 6] = [0, -63, -255, -2047, -2147483647, -9223372036854775808];
 
-const HIGH: [i64; 5] = [0, 64, 256, 2048, 2147483648];
+const HIGH: [i64; 6] = [0, 64, 256, 2048, 2147483648, 9223372036854775807];
 
 // Small tables as one word, a byte for each entry from the lowest on: an array would be put together anew wherever it is read.
-// By the row the prefix, how many bits it has, and how many follow it.
+// By the row how many bits follow the prefix.
+const WIDTHS: u64 = 0x40200c090700;
+
+// By the row the prefix, and how many bits it has: in document 01's table, and in the wide one.
 const PREFIXES: u64 = 0x0f0e060200;
 
 const PREFIX_LENS: u64 = 0x0404030201;
 
-const WIDTHS: u64 = 0x200c090700;
+const WIDE_PREFIXES: u64 = 0x1f1e0e060200;
 
-// Where a code begins, by the three bits after a first bit 1: its row, and how many bits it has.
+const WIDE_PREFIX_LENS: u64 = 0x050504030201;
+
+// Where a code begins, by the three bits after a first bit 1: its row, and how many bits it has in each table. Five bits 1 are the prefix of the
+// wide table's last row, whose codes have 69.
 const ROWS_BY: u64 = 0x0403020201010101;
 
 const LENS_BY: u64 = 0x24100c0c09090909;
+
+const WIDE_LENS_BY: u64 = 0x25100c0c09090909;
+
+// The prefixes of a table's rows as words: their values, and how many bits each has.
+pub struct Prefixes {
+    pub values: u64,
+    pub lens: u64,
+}
 
 // A code: the `size` bits of the prefix, and then the `width` bits of `rest`.
 pub struct Code {
@@ -60,15 +78,15 @@ pub(crate) fn within(z: i64, low: i64, high: i64) -> bool
 
 // Whether the row holds z.
 fn in_row(row: usize, z: i64) -> bool
-    requires { ⌜ row < 5 ⌝ }
-    ensures { λ r. ⌜ r ≡ holds (getD rows row noRow) z ⌝ }
+    requires { ⌜ row < 6 ⌝ }
+    ensures { λ r. ⌜ r ≡ holds (getD wideRows row noRow) z ⌝ }
 {
     within(z, LOW[row], HIGH[row])
 }
 
-// The index of the first row that holds z; the number of rows where none does.
+// The index of the first row that holds z: of the wide table's last row where no row of document 01's table does.
 fn row_of(z: i64) -> usize
-    ensures { λ r. ⌜ r ≡ rowOf rows z ⌝ }
+    ensures { λ r. ⌜ r ≡ rowOf wideRows z ⌝ }
 {
     let mut row = 0;
     while row < ROWS {
@@ -80,7 +98,7 @@ fn row_of(z: i64) -> usize
     ROWS
 }
 
-// Whether a row holds z.
+// Whether a row of document 01's table holds z.
 pub(crate) fn in_table(z: i64) -> bool
     ensures { λ r. ⌜ r ≡ inTable rows z ⌝ }
 {
@@ -89,8 +107,8 @@ pub(crate) fn in_table(z: i64) -> bool
 
 // How many bits follow the row's prefix.
 pub(crate) fn width_of(row: usize) -> usize
-    requires { ⌜ row < 5 ⌝ }
-    ensures { λ r. ⌜ r ≡ getD rows row noRow .width ⌝ }
+    requires { ⌜ row < 6 ⌝ }
+    ensures { λ r. ⌜ r ≡ getD wideRows row noRow .width ⌝ }
 {
     ((WIDTHS >> (8 * row)) % 256) as usize
 }
@@ -117,51 +135,95 @@ fn modulo(z: i64, k: usize) -> u64
     y
 }
 
-// The code of z by the row, which is the first that holds it.
-fn code_in(row: usize, z: i64) -> Code
-    requires { ⌜ (inTable rows z ≡ true) × (rowOf rows z ≡ row) ⌝ }
-    ensures { λ r. ⌜ Coded rows z r ⌝ }
+// The prefixes of the rows of a form's table.
+fn prefixes_of(form: Form) -> Prefixes
+    ensures { λ r. ⌜ ((i : ℕ) → i < length (tableOf form) → PrefixIs (getD (tableOf form) i noRow) (byteOf (r .values) i) (byteOf (r .lens) i)) ⌝ }
+{
+    match form {
+        Form::Old => Prefixes {
+            values: PREFIXES,
+            lens: PREFIX_LENS,
+        },
+        Form::Wide => Prefixes {
+            values: WIDE_PREFIXES,
+            lens: WIDE_PREFIX_LENS,
+        },
+    }
+}
+
+// The code of z by the row, which is the first of the form's table that holds it.
+fn code_in(form: Form, row: usize, z: i64) -> Code
+    requires { ⌜ (inTable (tableOf form) z ≡ true) × (rowOf (tableOf form) z ≡ row) ⌝ }
+    ensures { λ r. ⌜ Coded (tableOf form) z r ⌝ }
 {
     let width = width_of(row);
+    let prefixes = prefixes_of(form);
     Code {
-        size: ((PREFIX_LENS >> (8 * row)) % 256) as usize,
-        prefix: (PREFIXES >> (8 * row)) % 256,
+        size: ((prefixes.lens >> (8 * row)) % 256) as usize,
+        prefix: (prefixes.values >> (8 * row)) % 256,
         width,
         rest: modulo(z, width),
     }
 }
 
-// The code of z, which the table holds. Each row has a call of its own, whose numbers are then known.
-pub(crate) fn code_of(z: i64) -> Code
-    requires { ⌜ inTable rows z ≡ true ⌝ }
-    ensures { λ r. ⌜ Coded rows z r ⌝ }
+// The code of z, which the form's table holds. Each row has a call of its own, whose numbers are then known.
+pub(crate) fn code_of(form: Form, z: i64) -> Code
+    requires { ⌜ inTable (tableOf form) z ≡ true ⌝ }
+    ensures { λ r. ⌜ Coded (tableOf form) z r ⌝ }
 {
     let row = row_of(z);
     match row {
-        0 => code_in(0, z),
-        1 => code_in(1, z),
-        2 => code_in(2, z),
-        3 => code_in(3, z),
-        _ => code_in(4, z),
+        0 => code_in(form, 0, z),
+        1 => code_in(form, 1, z),
+        2 => code_in(form, 2, z),
+        3 => code_in(form, 3, z),
+        4 => code_in(form, 4, z),
+        _ => code_in(form, 5, z),
     }
 }
 
-// The row of a code of more than one bit by its first four bits.
-pub(crate) fn lead_of(four: u64) -> Lead
-    requires { ⌜ (8 ≤ four) × (four < 16) ⌝ }
-    ensures { λ r. ⌜ Leads rows (bitsOf 4 four) (r .row) (r .len) × (0 < r .row) ⌝ }
+// The row of a code of document 01's table that has more than one bit, by its first five bits: the fifth plays no part.
+fn old_lead(five: u64) -> Lead
+    requires { ⌜ (16 ≤ five) × (five < 32) ⌝ }
+    ensures { λ r. ⌜ Leads rows (bitsOf 5 five) (r .row) (r .len) × (0 < r .row) ⌝ }
 {
-    let top = four - 8;
+    let top = five / 2 - 8;
     Lead {
         row: ((ROWS_BY >> (8 * top)) % 256) as usize,
         len: ((LENS_BY >> (8 * top)) % 256) as usize,
     }
 }
 
+// The same of the wide table.
+fn wide_lead(five: u64) -> Lead
+    requires { ⌜ (16 ≤ five) × (five < 32) ⌝ }
+    ensures { λ r. ⌜ Leads wideRows (bitsOf 5 five) (r .row) (r .len) × (0 < r .row) ⌝ }
+{
+    if five == 31 {
+        return Lead { row: 5, len: 69 };
+    }
+    let top = five / 2 - 8;
+    Lead {
+        row: ((ROWS_BY >> (8 * top)) % 256) as usize,
+        len: ((WIDE_LENS_BY >> (8 * top)) % 256) as usize,
+    }
+}
+
+// The same of a form's table.
+pub(crate) fn lead_of(form: Form, five: u64) -> Lead
+    requires { ⌜ (16 ≤ five) × (five < 32) ⌝ }
+    ensures { λ r. ⌜ Leads (tableOf form) (bitsOf 5 five) (r .row) (r .len) × (0 < r .row) ⌝ }
+{
+    match form {
+        Form::Old => old_lead(five),
+        Form::Wide => wide_lead(five),
+    }
+}
+
 // The one number in a row's range that is x modulo 2^width: x, or where that is too high as far below 0 as x is below 2^width.
 fn reading_in(row: usize, x: u64) -> i64
-    requires { ⌜ (row < 5) × (x < 2 ^ getD rows row noRow .width) ⌝ }
-    ensures { λ r. ⌜ r ≡ reading (getD rows row noRow) x ⌝ }
+    requires { ⌜ (row < 6) × (x < 2 ^ getD wideRows row noRow .width) ⌝ }
+    ensures { λ r. ⌜ r ≡ reading (getD wideRows row noRow) x ⌝ }
 {
     let high = HIGH[row] as u64;
     if x <= high {
@@ -173,8 +235,8 @@ fn reading_in(row: usize, x: u64) -> i64
 // The step that the bits x stand for in a row but the first, whose codes have n bits: if the row before that one, whose range lies within
 // its range, does not hold it, and so no earlier one.
 pub(crate) fn step_by(row: usize, n: usize, x: u64) -> GotStep
-    requires { ⌜ (0 < row) × (row < 5) × (x < 2 ^ getD rows row noRow .width) ⌝ }
-    ensures { λ r. ⌜ ReadBy rows row n x r ⌝ }
+    requires { ⌜ (0 < row) × (row < 6) × (x < 2 ^ getD wideRows row noRow .width) ⌝ }
+    ensures { λ r. ⌜ ReadBy wideRows row n x r ⌝ }
 {
     let z = reading_in(row, x);
     if in_row(row - 1, z) {
@@ -185,8 +247,8 @@ pub(crate) fn step_by(row: usize, n: usize, x: u64) -> GotStep
 
 // How many steps a row of at most 57 bits holds: 2^width.
 fn size_of(row: usize) -> u64
-    requires { ⌜ (row < 5) × (getD rows row noRow .width ≤ 57) ⌝ }
-    ensures { λ r. ⌜ (r ≡ 2 ^ getD rows row noRow .width) × (0 < r) × (r ≤ 2 ^ 57) ⌝ }
+    requires { ⌜ (row < 6) × (getD wideRows row noRow .width ≤ 57) ⌝ }
+    ensures { λ r. ⌜ (r ≡ 2 ^ getD wideRows row noRow .width) × (0 < r) × (r ≤ 2 ^ 57) ⌝ }
 {
     1 << width_of(row)
 }
@@ -194,8 +256,8 @@ fn size_of(row: usize) -> u64
 // `reading_in` for a row of at most 57 bits, whose range is even around 0: counted from its lowest step, and not by a test of x, which is
 // hard to foretell.
 fn short_reading(row: usize, x: u64) -> i64
-    requires { ⌜ (row < 5) × (x < 2 ^ getD rows row noRow .width) × (getD rows row noRow .width ≤ 57) ⌝ }
-    ensures { λ r. ⌜ r ≡ reading (getD rows row noRow) x ⌝ }
+    requires { ⌜ (row < 6) × (x < 2 ^ getD wideRows row noRow .width) × (getD wideRows row noRow .width ≤ 57) ⌝ }
+    ensures { λ r. ⌜ r ≡ reading (getD wideRows row noRow) x ⌝ }
 {
     let size = size_of(row);
     let below = (size - 1) / 2;
@@ -205,8 +267,8 @@ fn short_reading(row: usize, x: u64) -> i64
 
 // Whether the row before such a row holds that number too.
 fn short_early(row: usize, x: u64) -> bool
-    requires { ⌜ (0 < row) × (row < 5) × (x < 2 ^ getD rows row noRow .width) × (getD rows row noRow .width ≤ 57) ⌝ }
-    ensures { λ r. ⌜ r ≡ holds (getD rows (row - 1) noRow) (reading (getD rows row noRow) x) ⌝ }
+    requires { ⌜ (0 < row) × (row < 6) × (x < 2 ^ getD wideRows row noRow .width) × (getD wideRows row noRow .width ≤ 57) ⌝ }
+    ensures { λ r. ⌜ r ≡ holds (getD wideRows (row - 1) noRow) (reading (getD wideRows row noRow) x) ⌝ }
 {
     let size = size_of(row);
     let before = size_of(row - 1);
@@ -215,8 +277,8 @@ fn short_early(row: usize, x: u64) -> bool
 
 // `step_by` for such a row.
 pub(crate) fn short_step(row: usize, n: usize, x: u64) -> GotStep
-    requires { ⌜ (0 < row) × (row < 5) × (x < 2 ^ getD rows row noRow .width) × (getD rows row noRow .width ≤ 57) ⌝ }
-    ensures { λ r. ⌜ ReadBy rows row n x r ⌝ }
+    requires { ⌜ (0 < row) × (row < 6) × (x < 2 ^ getD wideRows row noRow .width) × (getD wideRows row noRow .width ≤ 57) ⌝ }
+    ensures { λ r. ⌜ ReadBy wideRows row n x r ⌝ }
 {
     if short_early(row, x) {
         return GotStep::Nothing;

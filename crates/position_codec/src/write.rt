@@ -7,14 +7,16 @@ ghost use lib.ListN.{length, take};
 ghost use Rattle.bits.specs.Sinks.{Sound, Held, PlacedBits};
 ghost use Rattle.outputs.specs.Outputs.{Placed};
 ghost use Rattle.limits.specs.Points.{maxPoints, firstHigh};
-ghost use Rattle.position_format.specs.Rows.{rows};
+ghost use Rattle.position_format.specs.Rows.{Row, rows};
 ghost use Rattle.position_format.specs.Steps.{stepOf, firstOutside, stepHere};
+ghost use Rattle.position_format.specs.Tables.{tableOf};
 ghost use Rattle.position_format.specs.Positions.{positionBits, codedPositions, validPositions};
 ghost use Rattle.position_codec.specs.Codes.{Point};
 use crate::table::code_of;
 use crate::table::in_table;
 use bits::Sink;
 use outputs::Wrote;
+use position_format::Form;
 
 // The step at the point t after the points a and b.
 fn step(a: u64, b: u64, t: u64) -> i64
@@ -32,7 +34,7 @@ fn step_at(positions: &[u64], i: usize) -> i64
     step(positions[i - 2], positions[i - 1], positions[i])
 }
 
-// The index of the first point whose step the table does not hold; where there is none, the number of points, or 2 if that is more.
+// The index of the first point whose step document 01's table does not hold; where there is none, the number of points, or 2 if that is more.
 pub fn first_outside(positions: &[u64]) -> usize
     requires { ⌜ (length (now positions) ≤ firstHigh (now positions)) × (length (now positions) ≤ maxPoints) ⌝ }
     ensures { λ r. ⌜ r ≡ firstOutside rows (now (positions .entry)) ⌝ }
@@ -47,10 +49,10 @@ pub fn first_outside(positions: &[u64]) -> usize
     i
 }
 
-// The bits of the first two points, 64 for each, or of so many as there are.
+// The bits of the first two points, 64 for each, or of so many as there are: no table has a part in them.
 fn put_first(positions: &[u64], out: &mut [u8]) -> Sink
-    ensures { λ r. ⌜ Sound r × Held (positionBits rows (take 2 (now (positions .entry)))) r
-        × PlacedBits (positionBits rows (take 2 (now (positions .entry)))) (r .at) (now (out .entry)) (now (out .exit)) ⌝ }
+    ensures { λ r. ⌜ Sound r × ((rs : List Row) → Held (positionBits rs (take 2 (now (positions .entry)))) r
+        × PlacedBits (positionBits rs (take 2 (now (positions .entry)))) (r .at) (now (out .entry)) (now (out .exit))) ⌝ }
 {
     let empty = Sink {
         at: 0,
@@ -70,29 +72,29 @@ fn put_first(positions: &[u64], out: &mut [u8]) -> Sink
 
 // The bits of point i, from the third on, come after those of the points before it: the code of its step. The step 0 is the usual one, and
 // its code one bit.
-fn put_point(positions: &[u64], i: usize, out: &mut [u8], s: Sink) -> Sink
-    requires { ⌜ (2 ≤ i) × Point rows (now positions) i × Sound s × Held (positionBits rows (take i (now positions))) s ⌝ }
-    ensures { λ r. ⌜ Sound r × Held (positionBits rows (take (i + 1) (now (positions .entry)))) r
-        × ((o : List ℕ) → PlacedBits (positionBits rows (take i (now (positions .entry)))) (s .at) o (now (out .entry))
-        → PlacedBits (positionBits rows (take (i + 1) (now (positions .entry)))) (r .at) o (now (out .exit))) ⌝ }
+fn put_point(form: Form, positions: &[u64], i: usize, out: &mut [u8], s: Sink) -> Sink
+    requires { ⌜ (2 ≤ i) × Point (tableOf form) (now positions) i × Sound s × Held (positionBits (tableOf form) (take i (now positions))) s ⌝ }
+    ensures { λ r. ⌜ Sound r × Held (positionBits (tableOf form) (take (i + 1) (now (positions .entry)))) r
+        × ((o : List ℕ) → PlacedBits (positionBits (tableOf form) (take i (now (positions .entry)))) (s .at) o (now (out .entry))
+        → PlacedBits (positionBits (tableOf form) (take (i + 1) (now (positions .entry)))) (r .at) o (now (out .exit))) ⌝ }
 {
     let z = step_at(positions, i);
     if z == 0 {
         return bits::lay(out, s, 1, 0);
     }
-    let c = code_of(z);
+    let c = code_of(form, z);
     bits::lay_both(out, s, c.size, c.prefix, c.width, c.rest)
 }
 
-// The coding of the positions is written at the front of the output, whose rest stays, if there is room.
-pub fn put_positions(positions: &[u64], out: &mut [u8]) -> Wrote
-    requires { ⌜ (validPositions rows (now positions) ≡ true) × (length (now positions) ≤ maxPoints) ⌝ }
-    ensures { λ r. ⌜ Placed (codedPositions rows (now (positions .entry))) r (now (out .entry)) (now (out .exit)) ⌝ }
+// The coding of the positions in a form is written at the front of the output, whose rest stays, if there is room.
+pub fn put_positions(form: Form, positions: &[u64], out: &mut [u8]) -> Wrote
+    requires { ⌜ (validPositions (tableOf form) (now positions) ≡ true) × (length (now positions) ≤ maxPoints) ⌝ }
+    ensures { λ r. ⌜ Placed (codedPositions (tableOf form) (now (positions .entry))) r (now (out .entry)) (now (out .exit)) ⌝ }
 {
     let mut s = put_first(positions, out);
     let mut i = 2;
     while i < positions.len() {
-        s = put_point(positions, i, out, s);
+        s = put_point(form, positions, i, out, s);
         i += 1;
     }
     bits::put_last(out, s)

@@ -13,9 +13,10 @@ use mir.ValLaws.{toZ-ofZ}
 use Rattle.lists.specs.Compare.{begins}
 use Rattle.bits.specs.Packing.{bits}
 use Rattle.limits.specs.Points.{maxPosition}
-use Rattle.position_format.specs.Rows.{rows, inTable, code}
+use Rattle.position_format.specs.Rows.{Row, inTable, code}
 use Rattle.position_format.specs.Steps.{stepOf}
-use Rattle.position_format.proofs.Rows.{rows-good}
+use Rattle.position_format.specs.Tables.{tableOf}
+use Rattle.position_format.proofs.Tables.{table-good}
 use Rattle.position_format.proofs.Stands.{step-none, step-high, step-stands}
 use Rattle.position_codec.specs.declared.table.GotStep.{GotStep}
 use Rattle.position_codec.specs.declared.read.GotPosition.{GotPosition}
@@ -23,7 +24,10 @@ use Rattle.position_codec.specs.Found.{StepFound, PositionFound, PointFo
 use Rattle.position_codec.proofs.read.get_point.Statement.{statement}
 use Rattle.position_codec.proofs.read.get_point.Tie as tie
 
--- the bits from the offset on
+-- the form's table, and the bits from the offset on
+abbrev table : tie.Start → List Row
+table s = tableOf (s .args .form)
+
 abbrev left : tie.Start → List ℕ
 left s = drop (s .args .at) (bits (s .args .body .now))
 
@@ -37,7 +41,7 @@ returns : tie.Need-returns
 returns c =
     let s = c .before .before .before in
     let a = s .args in
-    subst (λ (n : ℕ). PointFound rows (a .i) (a .a) (a .b) (drop n (bits (a .body .now))) (c .get-raw .result)) (sym (s .pre .1 (c .before .if1 .taken))) (c .get-raw .ensures rows (a .a) (a .b))
+    subst (λ (n : ℕ). PointFound (table s) (a .i) (a .a) (a .b) (drop n (bits (a .body .now))) (c .get-raw .result)) (sym (s .pre .1 (c .before .if1 .taken))) (c .get-raw .ensures (table s) (a .a) (a .b))
 
 get-step-requires : tie.Need-get-step-requires
 get-step-requires c κs = let p = c .before .before .pre in (p .0, p .2 (c .if1 .left))
@@ -54,7 +58,7 @@ returns-2 c =
     let late = got .before in
     let s = late .before .before in
     let a = s .args in
-    step-none rows rows-good (a .i) (a .a) (a .b) (late .if1 .left) (left s) (subst (λ (r : GotStep). StepFound rows (left s) r) (c .enum-told .given .1) (got .get-step .ensures))
+    step-none (table s) (table-good (a .form)) (a .i) (a .a) (a .b) (late .if1 .left) (left s) (subst (λ (r : GotStep). StepFound (table s) (left s) r) (c .enum-told .given .1) (got .get-step .ensures))
 
 -- where the step is known: the call that found it, the start, the step, and how many bits its code has
 abbrev got : tie.After-known-told → tie.After-get-step
@@ -69,8 +73,8 @@ step c = c .before .z .given .0 .0
 abbrev size : tie.After-known-told → ℕ
 size c = c .before .z .given .0 .1 .0
 
-found : (c : tie.After-known-told) → (inTable rows (step c) ≡ true) × (begins (code rows (step c)) (left (start c)) ≡ true) × (size c ≡ length (code rows (step c)))
-found c = subst (λ (r : GotStep). StepFound rows (left (start c)) r) (c .before .z .given .1) (got c .get-step .ensures)
+found : (c : tie.After-known-told) → (inTable (table (start c)) (step c) ≡ true) × (begins (code (table (start c)) (step c)) (left (start c)) ≡ true) × (size c ≡ length (code (table (start c)) (step c)))
+found c = subst (λ (r : GotStep). StepFound (table (start c)) (left (start c)) r) (c .before .z .given .1) (got c .get-step .ensures)
 
 -- it is read back from its bits as it is
 back : (c : tie.After-known-told) → toZ w64 (ofZ w64 (step c)) ≡ step c
@@ -94,7 +98,7 @@ returns-3 c =
     let k = next .before in
     let a = start k .args in
     let f = found k in
-    step-high rows rows-good (a .i) (a .a) (a .b) (two k) (left (start k)) (step k) (f .0) (f .1)
+    step-high (table (start k)) (table-good (a .form)) (a .i) (a .a) (a .b) (two k) (left (start k)) (step k) (f .0) (f .1)
     (rw (back k) at (subst (λ (r : GotPosition). PositionFound (a .a) (a .b) (toZ w64 (ofZ w64 (step k))) r) (c .enum-told2 .given .1) (next .next-position .ensures)))
 
 returns-4 : tie.Need-returns-4
@@ -106,7 +110,7 @@ returns-4 c =
     let t = c .before .t .given .0 .0 in
     let q : (t ≤ maxPosition) × (stepOf (a .a) (a .b) t ≡ toZ w64 (ofZ w64 (step k))) =
     subst (λ (r : GotPosition). PositionFound (a .a) (a .b) (toZ w64 (ofZ w64 (step k))) r) (c .before .t .given .1) (next .next-position .ensures) in
-    step-stands rows rows-good (a .i) (a .a) (a .b) (two k) (left (start k)) (step k) (f .0) (f .1) t (size k) (q .0) (q .1 ∙ back k) (f .2)
+    step-stands (table (start k)) (table-good (a .form)) (a .i) (a .a) (a .b) (two k) (left (start k)) (step k) (f .0) (f .1) t (size k) (q .0) (q .1 ∙ back k) (f .2)
 
 pub get-point-spec : {M : Type 1} → statement M
 get-point-spec =

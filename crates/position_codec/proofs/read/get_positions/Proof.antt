@@ -11,11 +11,12 @@ use lib.ListN.{length, take, drop, set}
 use Rattle.lists.proofs.Below.{below-of}
 use Rattle.bits.specs.Packing.{bits}
 use Rattle.outputs.specs.Outputs.{Filled}
-use Rattle.position_format.specs.Rows.{rows}
+use Rattle.position_format.specs.declared.Form.{Form}
+use Rattle.position_format.specs.Tables.{tableOf}
 use Rattle.position_format.specs.Positions.{readPositions}
 use Rattle.position_format.specs.Points.{nextBits, Stands}
-use Rattle.position_format.proofs.Rows.{rows-good}
-use Rattle.position_format.proofs.Sizes.{rows-size}
+use Rattle.position_format.proofs.Tables.{table-good}
+use Rattle.position_format.proofs.Sizes.{length-coded, bits-few}
 use Rattle.position_format.proofs.Reading.{read-long, read-inside}
 use Rattle.position_codec.specs.declared.read.GotPoint.{GotPoint}
 use Rattle.position_codec.specs.Found.{InBody, PointFound}
@@ -24,23 +25,25 @@ use Rattle.position_codec.proofs.read.get_positions.Statement.{statemen
 use Rattle.position_codec.proofs.read.get_positions.Tie as tie
 
 abbrev Inv-loop : tie.InvT-loop
-Inv-loop body count out₀ at₀ a₀ b₀ i₀ out at a b i = State rows count body out₀ out at a b i
+Inv-loop form body count out₀ at₀ a₀ b₀ i₀ out at a b i = State (tableOf form) count body out₀ out at a b i
 
 abbrev μ-loop : tie.MeasureT-loop
-μ-loop body count out₀ at₀ a₀ b₀ i₀ out at a b i = count - i
+μ-loop form body count out₀ at₀ a₀ b₀ i₀ out at a b i = count - i
 
 -- a refusal
-off : (n : ℕ) (body o p : List ℕ) → readPositions rows n body ≡ none → Filled (readPositions rows n body) false o p
-off n body o p e = rw e refl
+off : (f : Form) (n : ℕ) (body o p : List ℕ) → readPositions (tableOf f) n body ≡ none → Filled (readPositions (tableOf f) n body) false o p
+off f n body o p e = rw e refl
 
 returns : tie.Need-returns Inv-loop μ-loop
 returns c =
     let s = c .before .before .before in
-    off (s .args .count) (s .args .body .now) _ _
-    (read-long rows rows-good (s .args .count) (s .args .body .now) (λ ts v l. omega (arith, s .pre .1, c .if1 .taken, rows-size ts v (omega (arith, s .pre .1)))))
+    let f = s .args .form in
+    off f (s .args .count) (s .args .body .now) _ _
+    (read-long (tableOf f) (table-good f) (s .args .count) (s .args .body .now)
+    (λ ts v l. omega (arith, s .pre .1, c .if1 .taken, length-coded (tableOf f) ts, bits-few f ts v (omega (arith, s .pre .1)))))
 
 loop-holds : tie.Need-loop-holds Inv-loop μ-loop
-loop-holds c = let s = c .before .before .before in state-start rows rows-good (s .args .count) (s .args .body .now) (s .args .out .now) (s .pre .0)
+loop-holds c = let s = c .before .before .before in state-start (tableOf (s .args .form)) (table-good (s .args .form)) (s .args .count) (s .args .body .now) (s .args .out .now) (s .pre .0)
 
 -- at the loop's head: the start, and that the offset is in the body
 abbrev start : tie.At-loop Inv-loop μ-loop → tie.Start Inv-loop μ-loop
@@ -50,7 +53,7 @@ inside : (c : tie.At-loop Inv-loop μ-loop) → InBody (start c .args .body .now
 inside c =
     let a = start c .args in
     let l = c .loop in
-    record { short = omega (arith, c .before .if1 .left); inside = read-inside rows rows-good (a .count) (a .body .now) (take (l .i) (l .out)) (l .at) (l .inv .read) }
+    record { short = omega (arith, c .before .if1 .left); inside = read-inside (tableOf (a .form)) (table-good (a .form)) (a .count) (a .body .now) (take (l .i) (l .out)) (l .at) (l .inv .read) }
 
 get-point-requires : tie.Need-get-point-requires Inv-loop μ-loop
 get-point-requires c κs =
@@ -59,8 +62,8 @@ get-point-requires c κs =
     let a = s .args in
     let l = head .loop in (
       inside head,
-      state-raw rows rows-good (a .count) (a .body .now) (a .out .now) (s .pre .0) (l .out) (l .at) (l .a) (l .b) (l .i) (l .inv),
-      state-far rows rows-good (a .count) (a .body .now) (a .out .now) (s .pre .0) (l .out) (l .at) (l .a) (l .b) (l .i) (l .inv),
+      state-raw (tableOf (a .form)) (table-good (a .form)) (a .count) (a .body .now) (a .out .now) (s .pre .0) (l .out) (l .at) (l .a) (l .b) (l .i) (l .inv),
+      state-far (tableOf (a .form)) (table-good (a .form)) (a .count) (a .body .now) (a .out .now) (s .pre .0) (l .out) (l .at) (l .a) (l .b) (l .i) (l .inv),
       l .inv .a-small,
       l .inv .b-small,
     )
@@ -81,9 +84,9 @@ returns-2 c =
     let s = start head in
     let a = s .args in
     let l = head .loop in
-    off (a .count) (a .body .now) _ _
-    (state-none rows rows-good (a .count) (a .body .now) (a .out .now) (s .pre .0) (l .out) (l .at) (l .a) (l .b) (l .i) (l .inv) (got .before .loop-test .taken)
-    (subst (λ (r : GotPoint). PointFound rows (l .i) (l .a) (l .b) (drop (l .at) (bits (a .body .now))) r) (c .enum-told .given .1) (got .get-point .ensures)))
+    off (a .form) (a .count) (a .body .now) _ _
+    (state-none (tableOf (a .form)) (table-good (a .form)) (a .count) (a .body .now) (a .out .now) (s .pre .0) (l .out) (l .at) (l .a) (l .b) (l .i) (l .inv) (got .before .loop-test .taken)
+    (subst (λ (r : GotPoint). PointFound (tableOf (a .form)) (l .i) (l .a) (l .b) (drop (l .at) (bits (a .body .now))) r) (c .enum-told .given .1) (got .get-point .ensures)))
 
 -- in a turn: the loop's test, its head, the position read, and how many bits it takes
 abbrev tested : tie.After-known-told Inv-loop μ-loop → tie.In-loop Inv-loop μ-loop
@@ -100,14 +103,14 @@ size c = c .before .t .given .0 .1 .0
 
 -- the state after it
 next : (c : tie.After-known-told Inv-loop μ-loop) → let a = start (head c) .args in let l = head c .loop in
-    State rows (a .count) (a .body .now) (a .out .now) (set (l .out) (l .i) (position c)) (l .at + size c) (l .b) (position c) (l .i + 1)
+    State (tableOf (a .form)) (a .count) (a .body .now) (a .out .now) (set (l .out) (l .i) (position c)) (l .at + size c) (l .b) (position c) (l .i + 1)
 next c =
     let s = start (head c) in
     let a = s .args in
     let l = head c .loop in
-    let f : Stands rows (l .i) (l .a) (l .b) (drop (l .at) (bits (a .body .now))) (position c) × (size c ≡ length (nextBits rows (l .i) (l .a) (l .b) (position c))) =
-    subst (λ (r : GotPoint). PointFound rows (l .i) (l .a) (l .b) (drop (l .at) (bits (a .body .now))) r) (c .before .t .given .1) (c .before .before .before .get-point .ensures) in
-    state-more rows rows-good (a .count) (a .body .now) (a .out .now) (s .pre .0) (l .out) (l .at) (l .a) (l .b) (l .i) (l .inv) (tested c .loop-test .taken) (position c) (size c) (f .0) (f .1)
+    let f : Stands (tableOf (a .form)) (l .i) (l .a) (l .b) (drop (l .at) (bits (a .body .now))) (position c) × (size c ≡ length (nextBits (tableOf (a .form)) (l .i) (l .a) (l .b) (position c))) =
+    subst (λ (r : GotPoint). PointFound (tableOf (a .form)) (l .i) (l .a) (l .b) (drop (l .at) (bits (a .body .now))) r) (c .before .t .given .1) (c .before .before .before .get-point .ensures) in
+    state-more (tableOf (a .form)) (table-good (a .form)) (a .count) (a .body .now) (a .out .now) (s .pre .0) (l .out) (l .at) (l .a) (l .b) (l .i) (l .inv) (tested c .loop-test .taken) (position c) (size c) (f .0) (f .1)
 
 mul-out : tie.Need-mul-out Inv-loop μ-loop
 mul-out c = omega arith
@@ -118,7 +121,7 @@ slice-write-out c = omega (arith, start (head c) .pre .0, head c .loop .inv .len
 add-at : tie.Need-add-at Inv-loop μ-loop
 add-at c =
     let a = start (head c) .args in
-    omega (arith, read-inside rows rows-good (a .count) (a .body .now) _ _ (next c .read), head c .before .if1 .left)
+    omega (arith, read-inside (tableOf (a .form)) (table-good (a .form)) (a .count) (a .body .now) _ _ (next c .read), head c .before .if1 .left)
 
 add-i : tie.Need-add-i Inv-loop μ-loop
 add-i c = omega arith
@@ -141,7 +144,7 @@ returns-3 c =
     let s = start head in
     let a = s .args in
     let l = head .loop in
-    state-end rows rows-good (a .count) (a .body .now) (a .out .now) (s .pre .0) (l .out) (l .at) (l .a) (l .b) (l .i) (l .inv) (c .before .loop-test .left)
+    state-end (tableOf (a .form)) (table-good (a .form)) (a .count) (a .body .now) (a .out .now) (s .pre .0) (l .out) (l .at) (l .a) (l .b) (l .i) (l .inv) (c .before .loop-test .left)
     (below-of 256 (a .body .now) (λ j. head .before .before .before .shared-slice-known .given j .fits)) (c .is-fill .result) (c .is-fill .ensures)
 
 pub get-positions-spec : {M : Type 1} → statement M

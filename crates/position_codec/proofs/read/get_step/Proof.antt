@@ -4,8 +4,8 @@ use borrow.Author.Needs.{needs}
 use lib.ListN.{drop}
 use Rattle.bits.specs.Packing.{bits}
 use Rattle.bits.proofs.Packing.{length-left}
-use Rattle.position_format.specs.Rows.{rows}
-use Rattle.position_codec.proofs.Rows.{rows-lengths}
+use Rattle.position_format.specs.Tables.{tableOf}
+use Rattle.position_format.proofs.Tables.{mostBits, form-sound}
 use Rattle.position_codec.proofs.StepFound.{found-none}
 use Rattle.position_codec.proofs.read.get_step.Statement.{statement}
 use Rattle.position_codec.proofs.read.get_step.Tie as tie
@@ -16,7 +16,7 @@ mul-if1 c = search needs
 returns : tie.Need-returns
 returns c =
     let a = c .before .before .args in
-    found-none 1 69 rows rows-lengths (omega arith) (drop (a .at) (bits (a .body .now))) (omega (arith, length-left (a .body .now) (a .at)))
+    found-none 1 (mostBits (a .form)) (tableOf (a .form)) (form-sound (a .form) .lengths) (omega arith) (drop (a .at) (bits (a .body .now))) (omega (arith, length-left (a .body .now) (a .at)))
 
 get-ahead-requires : tie.Need-get-ahead-requires
 get-ahead-requires c κs = search needs

@@ -1,51 +1,78 @@
--- `code_in` meets its contract: the tables hold the row's prefix and width.
+-- `code_in` meets its contract: the words hold the row's prefix and width.
 use mathlib.Core.Path.{sym, ap, _∙_}
 use Prim.Native.Nat.{_<_}
 use native.Mathlib.Omega.{arith}
+use borrow.Author.Needs.{needs}
+use lib.ListN.{length}
 use mir.Syntax.{w64}
 use mir.ValLaws.{toZ-ofZ}
-use Rattle.position_format.specs.Rows.{Row, rows, residue}
+use Rattle.position_format.specs.Rows.{Row, residue}
+use Rattle.position_format.specs.Tables.{tableOf}
 use Rattle.position_format.proofs.Codes.{inTable-row}
+use Rattle.position_format.proofs.Wide.{same-range, form-count}
 use Rattle.position_codec.proofs.Codes.{coded-by}
-use Rattle.position_codec.proofs.Rows.{rows-count, prefixOf, prefixLenOf, row-at, row-small, row-narrow}
+use Rattle.position_codec.proofs.Rows.{row-narrow}
 use Rattle.position_codec.proofs.table.code_in.Statement.{statement}
 use Rattle.position_codec.proofs.table.code_in.Tie as tie
 
--- the row is one of the five
-inside : (s : tie.Start) → s .args .row < 5
-inside s = omega (arith, s .pre .1, inTable-row rows (s .args .z) (s .pre .0), rows-count)
+-- the row is one of the table's
+inside : (s : tie.Start) → s .args .row < length (tableOf (s .args .form))
+inside s = omega (arith, s .pre .1, inTable-row (tableOf (s .args .form)) (s .args .z) (s .pre .0))
+
+small : (s : tie.Start) → s .args .row < 6
+small s = omega (arith, inside s, form-count (s .args .form))
 
 width-of-requires : tie.Need-width-of-requires
-width-of-requires c κs = inside c
+width-of-requires c κs = small c
 
-mul-t4 : tie.Need-mul-t4
-mul-t4 c = omega (arith, inside (c .before))
+prefixes-of-requires : tie.Need-prefixes-of-requires
+prefixes-of-requires c κs = search needs
 
-shr-t6 : tie.Need-shr-t6
-shr-t6 c = omega (arith, inside (c .before))
+-- where the words are known
+abbrev start : tie.After-prefixes-of → tie.Start
+start c = c .before .before
 
-mul-t9 : tie.Need-mul-t9
-mul-t9 c = omega (arith, inside (c .before))
+mul-t6 : tie.Need-mul-t6
+mul-t6 c = omega (arith, small (start c))
 
-shr-t11 : tie.Need-shr-t11
-shr-t11 c = omega (arith, inside (c .before))
+shr-t8 : tie.Need-shr-t8
+shr-t8 c = omega (arith, small (start (c .before)))
+
+mul-t11 : tie.Need-mul-t11
+mul-t11 c = omega (arith, small (start (c .before)))
+
+shr-t13 : tie.Need-shr-t13
+shr-t13 c = omega (arith, small (start (c .before .before)))
 
 modulo-requires : tie.Need-modulo-requires
-modulo-requires c κs = omega (arith, c .width-of .ensures, row-narrow (c .before .args .row) (inside (c .before)))
+modulo-requires c κs =
+    let words = c .before .before in
+    let s = start words in
+    omega (arith, words .before .width-of .ensures, row-narrow (s .args .row) (small s))
 
 returns : tie.Need-returns
 returns c =
-    let start = c .before .before in
-    let i = start .args .row in
-    let z = start .args .z in
-    let k = c .before .width-of in
-    let small = row-small i (inside start) in
-    let narrow = row-narrow i (inside start) in
-    coded-by rows z (start .pre .0) i (start .pre .1) (prefixLenOf i) (prefixOf i) (k .result) (c .modulo .result)
-    (small .prefixed) (omega (arith, small .short)) (small .prefix) (omega (arith, k .ensures))
-    (ap (λ (r : Row). r .prefix) (row-at i (inside start))) (sym (k .ensures))
-    (c .modulo .ensures ∙ ap (residue (k .result)) (toZ-ofZ w64 z (start .fits .z)))
+    let words = c .before .before .before in
+    let s = start words in
+    let f = s .args .form in
+    let z = s .args .z in
+    let i = s .args .row in
+    let w = words .before .width-of in
+    let p = words .prefixes-of .ensures i (inside s) in
+    coded-by (tableOf f) z (s .pre .0) i (s .pre .1) _ _ (w .result) (c .modulo .result)
+    (p .prefixed) (p .short) (p .fits) (omega (arith, w .ensures, row-narrow i (small s)))
+    (p .bits) (ap (λ (r : Row). r .width) (same-range f i (inside s)) ∙ sym (w .ensures))
+    (c .modulo .ensures ∙ ap (residue (w .result)) (toZ-ofZ w64 z (s .fits .z)))
 
 pub code-in-spec : {M : Type 1} → statement M
 code-in-spec =
-    tie.close (tie.spec width-of-requires mul-t4 shr-t6 mul-t9 shr-t11 modulo-requires returns)
+    tie.close
+    (tie.spec
+    width-of-requires
+    prefixes-of-requires
+    mul-t6
+    shr-t8
+    mul-t11
+    shr-t13
+    modulo-requires
+    returns)

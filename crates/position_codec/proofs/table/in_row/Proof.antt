@@ -4,7 +4,7 @@ use borrow.Author.Needs.{needs}
 use mir.Syntax.{w64}
 use mir.Val.{toZ, ofZ}
 use mir.ValLaws.{toZ-ofZ}
-use Rattle.position_format.specs.Rows.{Row, rows, holds, noRow}
+use Rattle.position_format.specs.Rows.{Row, wideRows, holds, noRow}
 use lib.ListN.{getD}
 use Rattle.position_codec.proofs.Rows.{row-at}
 use Rattle.position_codec.proofs.table.in_row.Statement.{statement}
@@ -28,7 +28,7 @@ within-requires c κs = search needs
 returns : tie.Need-returns
 returns c =
     let s = c .before .before .before in
-    c .within .ensures ∙ ap (λ (r : Row). holds r (toZ w64 (ofZ w64 (s .args .z)))) (sym (row-at (s .args .row) (s .pre))) ∙ ap (holds (getD rows (s .args .row) noRow)) (toZ-ofZ w64 (s .args .z) (s .fits .z))
+    c .within .ensures ∙ ap (λ (r : Row). holds r (toZ w64 (ofZ w64 (s .args .z)))) (sym (row-at (s .args .row) (s .pre))) ∙ ap (holds (getD wideRows (s .args .row) noRow)) (toZ-ofZ w64 (s .args .z) (s .fits .z))
 
 pub in-row-spec : {M : Type 1} → statement M
 in-row-spec =

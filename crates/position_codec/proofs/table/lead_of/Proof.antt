@@ -1,26 +1,27 @@
--- `lead_of` meets its contract: the rows by four bits stand in one word, and the lengths of their codes in another.
+-- `lead_of` meets its contract, by the form.
 use borrow.Author.Needs.{needs}
-use Rattle.position_codec.proofs.Rows.{lead-more}
 use Rattle.position_codec.proofs.table.lead_of.Statement.{statement}
 use Rattle.position_codec.proofs.table.lead_of.Tie as tie
 
-sub-top : tie.Need-sub-top
-sub-top c = search needs
+enum-told : tie.Need-enum-told
+enum-told c = search needs
 
-mul-t3 : tie.Need-mul-t3
-mul-t3 c = search needs
+old-lead-requires : tie.Need-old-lead-requires
+old-lead-requires c κs = search needs
 
-shr-t4 : tie.Need-shr-t4
-shr-t4 c = search needs
+enum-told-2 : tie.Need-enum-told-2
+enum-told-2 c = search needs
 
-mul-t7 : tie.Need-mul-t7
-mul-t7 c = search needs
-
-shr-t8 : tie.Need-shr-t8
-shr-t8 c = search needs
+wide-lead-requires : tie.Need-wide-lead-requires
+wide-lead-requires c κs = search needs
 
 returns : tie.Need-returns
-returns c = lead-more (c .args .four) (c .pre .1) (c .pre .0)
+returns c = rw (c .before .enum-told .given .1) (c .old-lead .ensures)
+
+returns-2 : tie.Need-returns-2
+returns-2 c = rw (c .before .enum-told2 .given .1) (c .wide-lead .ensures)
 
 pub lead-of-spec : {M : Type 1} → statement M
-lead-of-spec = tie.close (tie.spec sub-top mul-t3 shr-t4 mul-t7 shr-t8 returns)
+lead-of-spec =
+    tie.close
+    (tie.spec enum-told old-lead-requires enum-told-2 wide-lead-requires returns returns-2)

@@ -7,16 +7,19 @@ use lib.Dec.{T}
 use lib.IntN.{ℤ, natAbs}
 use lib.ListN.{getD}
 use lib.Signed.{nonNeg}
-use Rattle.position_format.specs.Rows.{Row, rows, noRow}
-use Rattle.position_format.proofs.Rows.{full, rows-good, good-full}
-use Rattle.position_codec.proofs.Rows.{rows-count, highOf, Ends, row-at, row-narrow, row-ends}
+use Rattle.position_format.specs.declared.Form.the-variants.{Wide}
+use Rattle.position_format.specs.Rows.{Row, wideRows, noRow}
+use Rattle.position_format.proofs.Rows.{good-full}
+use Rattle.position_format.proofs.Tables.{form-sound}
+use Rattle.position_format.proofs.Wide.{wide-count}
+use Rattle.position_codec.proofs.Rows.{highOf, Ends, row-at, row-narrow, row-ends}
 use Rattle.position_codec.proofs.Residues.{Fitted, reading-low, some-bits, lacks-from, lacks-small, below-fits, reading-high}
 use Rattle.position_codec.proofs.table.reading_in.Statement.{statement}
 use Rattle.position_codec.proofs.table.reading_in.Tie as tie
 
 -- the row, and its highest step as a number
 abbrev row : tie.Start → Row
-row s = getD rows (s .args .row) noRow
+row s = getD wideRows (s .args .row) noRow
 
 abbrev top : tie.Start → ℕ
 top s = natAbs (highOf (s .args .row))
@@ -30,7 +33,7 @@ fitted s =
     let e = ends s in
     let is = row-at i (s .pre .0) in
     record {
-      full = good-full noRow rows rows-good i (omega (arith, s .pre .0, rows-count));
+      full = good-full noRow wideRows (form-sound Wide .good) i (omega (arith, s .pre .0, wide-count));
       width = row-narrow i (s .pre .0);
       high = ap (λ (r : Row). r .high) is ∙ e .high;
       high-fits = e .high-fits;

@@ -1,4 +1,4 @@
--- `row_of` meets its contract. The loop's invariant: no row passed holds the step. The measure is how many rows are left.
+-- `row_of` meets its contract. The loop's invariant: no row passed holds the step; the last row holds every one. The measure is how many rows are left.
 use mathlib.Core.Path.{_≡_, sym, ap, _∙_}
 use Prim.Native.Nat.{_-_, _≤_, _<_}
 use native.Mathlib.Numerals.{add-one}
@@ -8,14 +8,14 @@ use lib.ListN.{length, getD}
 use mir.Syntax.{w64}
 use mir.Val.{toZ, ofZ}
 use mir.ValLaws.{toZ-ofZ}
-use Rattle.position_format.specs.Rows.{rows, holds, noRow, rowOf}
-use Rattle.position_format.proofs.Codes.{row-found, row-later, row-none}
-use Rattle.position_codec.proofs.Rows.{rows-count}
+use Rattle.position_format.specs.Rows.{wideRows, holds, noRow, rowOf}
+use Rattle.position_format.proofs.Codes.{row-found, row-later}
+use Rattle.position_format.proofs.Wide.{wide-count, last-holds}
 use Rattle.position_codec.proofs.table.row_of.Statement.{statement}
 use Rattle.position_codec.proofs.table.row_of.Tie as tie
 
 abbrev Inv-loop : tie.InvT-loop
-Inv-loop z row₀ row = row ≤ rowOf rows (toZ w64 z)
+Inv-loop z row₀ row = row ≤ rowOf wideRows (toZ w64 z)
 
 abbrev μ-loop : tie.MeasureT-loop
 μ-loop z row₀ row = 5 - row
@@ -38,19 +38,19 @@ abbrev start : tie.After-in-row Inv-loop μ-loop → tie.Start Inv-loop μ-loop
 start c = head c .before
 
 -- it is a row of the table, and the test is whether it holds the step
-inside : (c : tie.After-in-row Inv-loop μ-loop) → head c .loop .row < length rows
-inside c = omega (arith, c .before .loop-test .taken, rows-count)
+inside : (c : tie.After-in-row Inv-loop μ-loop) → head c .loop .row < length wideRows
+inside c = omega (arith, c .before .loop-test .taken, wide-count)
 
-tested : (c : tie.After-in-row Inv-loop μ-loop) → c .in-row .result ≡ holds (getD rows (head c .loop .row) noRow) (start c .args .z)
-tested c = c .in-row .ensures ∙ ap (holds (getD rows (head c .loop .row) noRow)) (step-is (start c))
+tested : (c : tie.After-in-row Inv-loop μ-loop) → c .in-row .result ≡ holds (getD wideRows (head c .loop .row) noRow) (start c .args .z)
+tested c = c .in-row .ensures ∙ ap (holds (getD wideRows (head c .loop .row) noRow)) (step-is (start c))
 
-so-far : (c : tie.After-in-row Inv-loop μ-loop) → head c .loop .row ≤ rowOf rows (start c .args .z)
+so-far : (c : tie.After-in-row Inv-loop μ-loop) → head c .loop .row ≤ rowOf wideRows (start c .args .z)
 so-far c = rw (step-is (start c)) at (head c .loop .inv)
 
 returns : tie.Need-returns Inv-loop μ-loop
 returns c =
     let asked = c .before in
-    row-found rows (start asked .args .z) (head asked .loop .row) (so-far asked) (inside asked) (sym (tested asked) ∙ c .if1 .taken)
+    row-found wideRows (start asked .args .z) (head asked .loop .row) (so-far asked) (inside asked) (sym (tested asked) ∙ c .if1 .taken)
 
 add-row : tie.Need-add-row Inv-loop μ-loop
 add-row c = omega arith
@@ -61,12 +61,13 @@ loop-less c = omega arith
 loop-again : tie.Need-loop-again Inv-loop μ-loop
 loop-again c =
     let asked = c .before in
-    rw (add-one, step-is (start asked)) (row-later rows (start asked .args .z) (head asked .loop .row) (so-far asked) (inside asked) (sym (tested asked) ∙ c .if1 .left))
+    rw (add-one, step-is (start asked)) (row-later wideRows (start asked .args .z) (head asked .loop .row) (so-far asked) (inside asked) (sym (tested asked) ∙ c .if1 .left))
 
 returns-2 : tie.Need-returns-2 Inv-loop μ-loop
 returns-2 c =
     let start = c .before .before in
-    row-none rows (start .args .z) 5 (omega (arith, rw (step-is start) at (c .before .loop .inv), c .loop-test .left)) (omega (arith, rows-count))
+    row-found wideRows (start .args .z) 5 (omega (arith, rw (step-is start) at (c .before .loop .inv), c .loop-test .left)) (omega (arith, wide-count))
+    (last-holds (start .args .z) (start .fits .z .sfits))
 
 pub row-of-spec : {M : Type 1} → statement M
 row-of-spec =

@@ -3,10 +3,11 @@ use mathlib.Core.Path.{ap₂, _∙_}
 use Prim.Native.Nat.{ℕ, _+_, _-_, _/_, _%_}
 use lib.Dec.{ltb}
 use native.Mathlib.Omega.{arith}
-use Rattle.position_format.specs.Rows.{rows}
-use Rattle.position_format.proofs.Rows.{rows-good}
+use Rattle.position_format.specs.declared.Form.the-variants.{Wide}
+use Rattle.position_format.specs.Rows.{wideRows}
+use Rattle.position_format.proofs.Tables.{form-sound}
 use Rattle.position_format.proofs.Ranges.{before-counted, width-before}
-use Rattle.position_codec.proofs.Rows.{rows-count, rows-widening, rows-even}
+use Rattle.position_format.proofs.Wide.{wide-count}
 use borrow.Author.Needs.{needs}
 use Rattle.position_codec.proofs.table.short_early.Statement.{statement}
 use Rattle.position_codec.proofs.table.short_early.Tie as tie
@@ -20,7 +21,7 @@ sub-size-of c = search needs
 size-of-requires-2 : tie.Need-size-of-requires-2
 size-of-requires-2 c κs =
     let s = c .before in
-    (omega (arith, s .pre .1), width-before rows rows-good rows-widening (s .args .row) 57 (s .pre .0) (omega (arith, s .pre .1, rows-count)) (s .pre .3))
+    (omega (arith, s .pre .1), width-before wideRows (form-sound Wide .good) (form-sound Wide .widens) (s .args .row) 57 (s .pre .0) (omega (arith, s .pre .1, wide-count)) (s .pre .3))
 
 sub-result : tie.Need-sub-result
 sub-result c = search needs
@@ -36,7 +37,7 @@ returns c =
     let s = c .before .before in
     let a = s .args in
     ap₂ (λ (m n : ℕ). ltb ((a .x + (n - 1) / 2) % m) n) (c .before .size-of .ensures .0) (c .size-of2 .ensures .0)
-    ∙ before-counted rows rows-good 57 rows-even (a .row) (omega (arith, s .pre .1, rows-count)) (a .x) (s .pre .2) (s .pre .3) rows-widening (s .pre .0)
+    ∙ before-counted wideRows (form-sound Wide .good) 57 (form-sound Wide .even) (a .row) (omega (arith, s .pre .1, wide-count)) (a .x) (s .pre .2) (s .pre .3) (form-sound Wide .widens) (s .pre .0)
 
 pub short-early-spec : {M : Type 1} → statement M
 short-early-spec =

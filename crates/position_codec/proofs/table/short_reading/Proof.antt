@@ -5,10 +5,11 @@ use native.Mathlib.Nat.{mod-lt, le-trans, lt-of-lt-of-le, sub-le}
 use native.Mathlib.Omega.{arith}
 use lib.IntN.{pos, _-ℤ_}
 use Rattle.position_codec.proofs.Differences.{diff-fits, diff-back}
-use Rattle.position_format.specs.Rows.{rows}
-use Rattle.position_format.proofs.Rows.{rows-good}
+use Rattle.position_format.specs.declared.Form.the-variants.{Wide}
+use Rattle.position_format.specs.Rows.{wideRows}
+use Rattle.position_format.proofs.Tables.{form-sound}
 use Rattle.position_format.proofs.Ranges.{reading-counted}
-use Rattle.position_codec.proofs.Rows.{rows-count, rows-even}
+use Rattle.position_format.proofs.Wide.{wide-count}
 use borrow.Author.Needs.{needs}
 use Rattle.position_codec.proofs.table.short_reading.Statement.{statement}
 use Rattle.position_codec.proofs.table.short_reading.Tie as tie
@@ -47,7 +48,7 @@ returns c =
     let e = c .size-of .ensures in
     diff-back _ _ (counted-lt _ (e .1) (e .2)) (half-lt (le-trans (sub-le _ _) (e .2)))
     ∙ ap (λ (m : ℕ). pos ((s .args .x + (m - 1) / 2) % m) -ℤ pos ((m - 1) / 2)) (e .0)
-    ∙ reading-counted rows rows-good 57 rows-even (s .args .row) (omega (arith, s .pre .0, rows-count)) (s .args .x) (s .pre .1) (s .pre .2)
+    ∙ reading-counted wideRows (form-sound Wide .good) 57 (form-sound Wide .even) (s .args .row) (omega (arith, s .pre .0, wide-count)) (s .args .x) (s .pre .1) (s .pre .2)
 
 pub short-reading-spec : {M : Type 1} → statement M
 short-reading-spec =

@@ -6,9 +6,10 @@ use lib.ListN.{length}
 use mir.Syntax.{w64}
 use mir.ValLaws.{toZ-ofZ}
 use Prim.Native.Nat.{_<_}
-use Rattle.position_format.specs.Rows.{rows}
-use Rattle.position_format.proofs.Rows.{rows-good}
-use Rattle.position_codec.proofs.Rows.{rows-count, rows-widening}
+use Rattle.position_format.specs.declared.Form.the-variants.{Wide}
+use Rattle.position_format.specs.Rows.{wideRows}
+use Rattle.position_format.proofs.Tables.{form-sound}
+use Rattle.position_format.proofs.Wide.{wide-count}
 use Rattle.position_codec.proofs.StepFound.{read-early, read-first}
 use Rattle.position_codec.proofs.table.short_step.Statement.{statement}
 use Rattle.position_codec.proofs.table.short_step.Tie as tie
@@ -17,13 +18,13 @@ short-early-requires : tie.Need-short-early-requires
 short-early-requires c κs = search needs
 
 -- the row is one of the table's
-inside : (s : tie.Start) → s .args .row < length rows
-inside s = omega (arith, s .pre .1, rows-count)
+inside : (s : tie.Start) → s .args .row < length wideRows
+inside s = omega (arith, s .pre .1, wide-count)
 
 returns : tie.Need-returns
 returns c =
     let s = c .before .before in
-    read-early rows rows-good rows-widening (s .args .row) (s .pre .0) (inside s) (s .args .x) (s .pre .2) (s .args .n) (sym (c .before .short-early .ensures) ∙ c .if1 .taken)
+    read-early wideRows (form-sound Wide .good) (form-sound Wide .widens) (s .args .row) (s .pre .0) (inside s) (s .args .x) (s .pre .2) (s .args .n) (sym (c .before .short-early .ensures) ∙ c .if1 .taken)
 
 short-reading-requires : tie.Need-short-reading-requires
 short-reading-requires c κs = search needs
@@ -32,7 +33,7 @@ returns-2 : tie.Need-returns-2
 returns-2 c =
     let tested = c .before .before in
     let s = tested .before in
-    read-first rows rows-good rows-widening (s .args .row) (s .pre .0) (inside s) (s .args .x) (s .pre .2) (s .args .n) (sym (tested .short-early .ensures) ∙ c .before .if1 .left)
+    read-first wideRows (form-sound Wide .good) (form-sound Wide .widens) (s .args .row) (s .pre .0) (inside s) (s .args .x) (s .pre .2) (s .args .n) (sym (tested .short-early .ensures) ∙ c .before .if1 .left)
     _ (toZ-ofZ w64 (c .short-reading .result) (record { sfits = c .short-reading .ok }) ∙ c .short-reading .ensures)
 
 pub short-step-spec : {M : Type 1} → statement M

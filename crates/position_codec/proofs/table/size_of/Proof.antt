@@ -5,7 +5,7 @@ use native.Mathlib.Omega.{arith}
 use lib.ListN.{getD}
 use lib.Pow.{pow-pos, pow-mono}
 use Rattle.bits.proofs.Word.{mask}
-use Rattle.position_format.specs.Rows.{rows, noRow}
+use Rattle.position_format.specs.Rows.{wideRows, noRow}
 use Rattle.position_codec.proofs.table.size_of.Statement.{statement}
 use Rattle.position_codec.proofs.table.size_of.Tie as tie
 
@@ -18,7 +18,7 @@ shl-result c = omega (arith, c .width-of .ensures, c .before .pre .1)
 returns : tie.Need-returns
 returns c =
     let i = c .before .args .row in
-    let k = getD rows i noRow .width in
+    let k = getD wideRows i noRow .width in
     let narrow : k ≤ 57 = c .before .pre .1 in
     let e = ap (λ (n : ℕ). 1 * 2 ^ n % 2 ^ 64) (c .width-of .ensures) ∙ mask k (omega arith) in
     (e, rw e (pow-pos k), rw e (pow-mono narrow))

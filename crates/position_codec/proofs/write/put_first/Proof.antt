@@ -5,7 +5,6 @@ use borrow.Author.Needs.{needs}
 use lib.ListN.{getD}
 use Rattle.bits.specs.Digits.{bitsOf}
 use Rattle.bits.proofs.Sinks.{start-sound, start-held, start-placed}
-use Rattle.position_format.specs.Rows.{rows}
 use Rattle.position_format.proofs.Points.{first-none, first-one, first-two}
 use Rattle.position_codec.proofs.write.put_first.Statement.{statement}
 use Rattle.position_codec.proofs.write.put_first.Tie as tie
@@ -13,7 +12,7 @@ use Rattle.position_codec.proofs.write.put_first.Tie as tie
 returns : tie.Need-returns
 returns c =
     let a = c .before .before .before .args in
-    rw (first-none rows (a .positions .now) (c .if1 .taken)) (start-sound, start-held, start-placed (a .out .now))
+    (start-sound, λ rs. rw (first-none rs (a .positions .now) (c .if1 .taken)) (start-held, start-placed (a .out .now)))
 
 shared-slice-read-lay : tie.Need-shared-slice-read-lay
 shared-slice-read-lay c = search needs
@@ -37,7 +36,7 @@ returns-2 c =
     let a = start first .args in
     let e = first .lay .ensures in
     let f = e .2 [] start-held in
-    rw (first-one rows (a .positions .now) (c .if2 .taken)) (e .1, f .0, f .1 (a .out .now) (start-placed (a .out .now)))
+    (e .1, λ rs. rw (first-one rs (a .positions .now) (c .if2 .taken)) (f .0, f .1 (a .out .now) (start-placed (a .out .now))))
 
 shared-slice-read-lay-2 : tie.Need-shared-slice-read-lay-2
 shared-slice-read-lay-2 c = search needs
@@ -64,7 +63,7 @@ returns-3 c =
     let f = e .2 [] start-held in
     let g = second .lay2 .ensures in
     let h = g .2 (bitsOf 64 (getD ts 0 0)) (f .0) in
-    rw (first-two rows ts (omega arith)) (g .1, h .0, h .1 o (f .1 o (start-placed o)))
+    (g .1, λ rs. rw (first-two rs ts (omega arith)) (h .0, h .1 o (f .1 o (start-placed o))))
 
 pub put-first-spec : {M : Type 1} → statement M
 put-first-spec =

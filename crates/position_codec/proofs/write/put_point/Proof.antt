@@ -10,34 +10,38 @@ use mir.Syntax.{w64}
 use mir.Val.{toZ, ofZ}
 use mir.ValLaws.{toZ-ofZ}
 use Rattle.bits.specs.Digits.{bitsOf}
-use Rattle.position_format.specs.Rows.{rows, inTable, code}
+use Rattle.position_format.specs.Rows.{Row, inTable, code}
 use Rattle.position_format.specs.Steps.{stepHere}
 use Rattle.position_format.specs.Positions.{positionBits}
+use Rattle.position_format.specs.Tables.{tableOf}
+use Rattle.position_format.proofs.Tables.{mostBits, form-sound, zero-row}
 use Rattle.position_format.proofs.Valid.{valid-parts}
-use Rattle.position_format.proofs.Sizes.{bits-most}
+use Rattle.position_format.proofs.Sizes.{bits-few}
 use Rattle.position_format.proofs.Points.{valid-here, point-step, point-place}
-use Rattle.position_codec.proofs.Rows.{rows-lengths, rows-zero-code}
 use Rattle.position_codec.proofs.write.put_point.Statement.{statement}
 use Rattle.position_codec.proofs.write.put_point.Tie as tie
 
--- the positions, and the bits of those before the point
+-- the form's table, the positions, and the bits of those before the point
+abbrev table : tie.Start → List Row
+table s = tableOf (s .args .form)
+
 abbrev positions : tie.Start → List ℕ
 positions s = s .args .positions .now
 
 abbrev before-it : tie.Start → List ℕ
-before-it s = positionBits rows (take (s .args .i) (positions s))
+before-it s = positionBits (table s) (take (s .args .i) (positions s))
 
 -- there are not too many bits
 small : (s : tie.Start) → s .args .s .at + 8 ≤ 2 ^ 32
 small s =
     let p = s .pre .1 in
-    omega (arith, s .pre .3 .size, p .many, point-place rows (positions s) (s .args .i) (omega (arith, p .here)), bits-most 1 69 rows rows-lengths (positions s) (p .valid))
+    omega (arith, s .pre .3 .size, p .many, point-place (table s) (positions s) (s .args .i) (omega (arith, p .here)), bits-few (s .args .form) (positions s) (p .valid) (p .many))
 
 step-at-requires : tie.Need-step-at-requires
 step-at-requires c κs =
     let s = c .before .before in
     let p = s .pre .1 in
-    (s .pre .0, p .here, omega (arith, valid-parts rows (positions s) (p .valid) .0))
+    (s .pre .0, p .here, omega (arith, valid-parts (table s) (positions s) (p .valid) .0))
 
 -- where the step is known: the start, and the step, read back from its bits
 abbrev start : tie.After-step-at → tie.Start
@@ -47,8 +51,8 @@ step-is : (c : tie.After-step-at) → toZ w64 (ofZ w64 (c .step-at .result)) ≡
 step-is c = toZ-ofZ w64 (c .step-at .result) (record { sfits = c .step-at .ok }) ∙ c .step-at .ensures
 
 -- its code comes after the bits before it
-after-it : (c : tie.After-step-at) → let s = start c in positionBits rows (take (s .args .i + 1) (positions s)) ≡ before-it s ++ code rows (stepHere (positions s) (s .args .i))
-after-it c = let s = start c in point-step rows (positions s) (s .args .i) (s .pre .0) (s .pre .1 .here)
+after-it : (c : tie.After-step-at) → let s = start c in positionBits (table s) (take (s .args .i + 1) (positions s)) ≡ before-it s ++ code (table s) (stepHere (positions s) (s .args .i))
+after-it c = let s = start c in point-step (table s) (positions s) (s .args .i) (s .pre .0) (s .pre .1 .here)
 
 lay-requires : tie.Need-lay-requires
 lay-requires c κs = let s = start (c .before .before) in (omega (arith, small s), s .pre .2, omega arith, omega arith)
@@ -64,7 +68,7 @@ returns c =
     let s = start k in
     let e = laid .lay .ensures in
     let zero : pos 0 ≡ stepHere (positions s) (s .args .i) = sym (ap (toZ w64) (at-test .if1 .taken)) ∙ step-is k in
-    let bits : bitsOf 1 0 ≡ code rows (stepHere (positions s) (s .args .i)) = rows-zero-code ∙ ap (code rows) zero in
+    let bits : bitsOf 1 0 ≡ code (table s) (stepHere (positions s) (s .args .i)) = zero-row (mostBits (s .args .form)) (table s) (form-sound (s .args .form)) .code ∙ ap (code (table s)) zero in
     let f = rw (bits, ← after-it k) at (e .2 (before-it s) (s .pre .3)) in
     (e .1, f .0, f .1)
 
@@ -72,7 +76,7 @@ code-of-requires : tie.Need-code-of-requires
 code-of-requires c κs =
     let k = c .before in
     let s = start k in
-    ap (inTable rows) (step-is k) ∙ valid-here (positions s) (s .args .i) (s .pre .0) (s .pre .1 .here) rows (s .pre .1 .valid)
+    ap (inTable (table s)) (step-is k) ∙ valid-here (positions s) (s .args .i) (s .pre .0) (s .pre .1 .here) (table s) (s .pre .1 .valid)
 
 lay-both-requires : tie.Need-lay-both-requires
 lay-both-requires c κs =

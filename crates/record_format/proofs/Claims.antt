@@ -4,40 +4,101 @@ use mathlib.Core.Bool.{Bool, true, false, not, cond}
 use mathlib.Core.List.{List, [], _∷_, _++_, append-nil}
 use mathlib.Core.Logic.{_⊎_, inl, inr}
 use mathlib.Core.Option.{Option}
-use Prim.Native.Nat.{ℕ, zero, suc, _≤_, _<_}
+use Prim.Native.Nat.{ℕ, zero, suc, _≤_}
 use native.Mathlib.Omega.{arith}
-use borrow.Author.Tests.{eqb-true, eq-eqb, le-ltb, not-false}
-use lib.Dec.{eqb, lit<, lit≤}
-use lib.ListN.{length, drop}
+use borrow.Author.Tests.{eqb-true, eqb-false, eq-eqb, le-ltb, leb-true, leb-false, not-false}
+use lib.Dec.{eqb, leb, lit<, lit≤}
+use lib.ListN.{length, drop, replicate}
 use Rattle.lists.specs.Below.{Below}
 use Rattle.lists.specs.Compare.{both}
 use Rattle.bits.specs.Digits.{bytesOf, numberOf}
 use Rattle.bits.proofs.Digits.{number-digits-lt}
 use Rattle.limits.proofs.Rates.{rate-high}
-use Rattle.refusals.specs.Tests.{firstOf}
+use Rattle.refusals.specs.declared.Refusal.{Refusal}
+use Rattle.refusals.specs.Tests.{Test, firstOf}
 use Rattle.refusals.proofs.Tests.{first-skip, first-clear}
-use Rattle.position_format.specs.Rows.{rows}
+use Rattle.outputs.specs.Outputs.{over}
+use Rattle.position_format.specs.declared.Form.{Form}
+use Rattle.position_format.specs.declared.Form.the-variants.{Old, Wide}
 use Rattle.position_format.specs.Positions.{codedPositions, readPositions}
-use Rattle.position_format.proofs.Rows.{rows-good}
+use Rattle.position_format.specs.Tables.{tableOf}
 use Rattle.position_format.proofs.Positions.{read-coded}
+use Rattle.position_format.proofs.Tables.{table-good}
 use Rattle.ratio_format.specs.Windows.{windowSize}
 use Rattle.ratio_format.specs.Bodies.{codedRatios, openRatios, strictRatios}
 use Rattle.ratio_format.proofs.Bodies.{nine-bytes}
 use Rattle.ratio_format.proofs.ReadFrom.{open-coded}
 use Rattle.ratio_format.proofs.Shortest.{shortest}
 use Rattle.ratio_format.proofs.Strict.{strict-coded}
-use Rattle.record_format.specs.Fields.{Field, fieldBytes, laid}
-use Rattle.record_format.specs.Runs.{Run, run, ratiosTag, rateSize, countSize, sideFields, recordOf}
-use Rattle.record_format.specs.Reading.{Answer, recordAnswer, readTests, readWith, readStrict, readOpen, listOf, otherRate}
-use Rattle.record_format.specs.Claims.{Accepted, AllAccepted, joined, ownTests, ownAnswer, runAnswer, ReadsBack, ReadsOnly, AcceptsExactly, OpenAgrees, ReadsFront, PrefixFree, ListsApart, TrailingBytes, Shortest, NineEach, Demand3}
+use Rattle.record_format.specs.Fields.{Field, fieldOf, fieldBytes, laid}
+use Rattle.record_format.specs.Runs.{Run, run, positionsTag, formOf, ratiosTag, rateSize, countSize, sideFields, recordOf}
+use Rattle.record_format.specs.declared.WriteAnswer.{WriteAnswer}
+use Rattle.record_format.specs.Writing.{runTests, accepts, writeAnswer, writeOutput}
+use Rattle.record_format.specs.Reading.{Answer, refusalAnswer, recordAnswer, answerBy, readTests, readWith, readStrict, readOpen, formIn, listOf, otherRate}
+use Rattle.record_format.specs.Claims.{Accepted, AllAccepted, joined, ownTests, ownAnswer, runAnswer, ReadsBack, ReadsOnly, AcceptsExactly, OpenAgrees, WritesRun, Writes, ReadsWhole, ReadsFront, PrefixFree, ListsApart, TrailingBytes, Shortest, NineEach, Demand3}
 use Rattle.record_format.proofs.Fields.{fieldIn, closed, laid-same}
-use Rattle.record_format.proofs.Reading.{room-enough, answer-clear, answer-good}
-use Rattle.record_format.proofs.Runs.{rateField, pointFields, flatFields, record-flat, countIndex, positionsIndex, ratiosIndex, fields-small}
+use Rattle.record_format.proofs.Reading.{refusal, room-enough, answer-clear, answer-good}
+use Rattle.record_format.proofs.Runs.{form-of, rateField, pointFields, flatFields, record-flat, countIndex, positionsIndex, ratiosIndex, fields-small}
 use Rattle.record_format.proofs.Sides.{sides-same}
 use Rattle.record_format.proofs.ReadsBack.{read-record}
 use Rattle.record_format.proofs.ReadsOnly.{front-stands, accepted-begins}
 use Rattle.record_format.proofs.Followed.{followed}
-use Rattle.record_format.proofs.Writing.{accepted-fits, fitting-accepted}
+use Rattle.record_format.proofs.Writing.{accepted-fits, fitting-accepted, fitting-few, accepts-clear, clear-accepts, refusedWriting, run-refused, run-no-room, run-written}
+
+-- ---- demand 1, and writing
+
+module _ (r : Run) (o : List ℕ) where
+  -- a refusal with a number
+  refused-writing : (f : Refusal) → (f .number ≡ 0 → ⊥) → (refusedWriting f ≡ writeAnswer r o) × (replicate (length o) 0 ≡ writeOutput r o)
+      → ((accepts r ≡ true) × (length (recordOf r) ≤ length o) → ⊥) → WritesRun r o
+  refused-writing f d h not-both =
+      let n = ap (λ (a : WriteAnswer). a .number) (h .0) in
+      let other : (writeAnswer r o .number ≡ 0 → ⊥) = λ z. d (n ∙ z) in
+      ((λ z. absurd (other z), λ p. absurd (not-both p)), λ z. absurd (other z), λ _. (sym (ap (λ (a : WriteAnswer). a .length) (h .0)), sym (h .1)))
+
+  write-clear : firstOf (runTests r) .number ≡ 0 → WritesRun r o
+  write-clear z = go (leb (length (recordOf r)) (length o)) refl
+    where
+      go : (b : Bool) → leb (length (recordOf r)) (length o) ≡ b → WritesRun r o
+      go true e =
+          let room = leb-true (length (recordOf r)) (length o) e in
+          let h = run-written r o z room in
+          let n = sym (ap (λ (a : WriteAnswer). a .number) (h .0)) in (
+            (λ _. (clear-accepts r z, room), λ _. n),
+            λ _. (sym (ap (λ (a : WriteAnswer). a .place) (h .0)), sym (ap (λ (a : WriteAnswer). a .length) (h .0)), sym (h .1)),
+            λ d. absurd (d n),
+          )
+      go false e =
+          let short = leb-false (length (recordOf r)) (length o) e in
+          refused-writing (refusal 6 0) (λ q. omega arith) (run-no-room r o z short) (λ p. omega (arith, p .1))
+
+  writes-run : WritesRun r o
+  writes-run = go (eqb (firstOf (runTests r) .number) 0) refl
+    where
+      go : (b : Bool) → eqb (firstOf (runTests r) .number) 0 ≡ b → WritesRun r o
+      go true e = write-clear (eqb-true _ _ e)
+      go false e =
+          let d = eqb-false (firstOf (runTests r) .number) 0 e in
+          refused-writing (firstOf (runTests r)) d (run-refused r o (firstOf (runTests r)) refl d) (λ p. d (accepts-clear r (p .0)))
+
+pub writes : Writes
+writes = writes-run
+
+-- a refused reading is the answer of its refusal
+refused-reading : (tests : List Test) (a : Answer) (ts vs : List ℕ) → (answerBy tests a ts vs .answer .number ≡ 0 → ⊥) → a .answer .number ≡ 0
+    → answerBy tests a ts vs ≡ refusalAnswer (firstOf tests) ts vs
+refused-reading tests a ts vs d z = go (eqb (firstOf tests .number) 0) refl
+  where
+    go : (b : Bool) → eqb (firstOf tests .number) 0 ≡ b → answerBy tests a ts vs ≡ refusalAnswer (firstOf tests) ts vs
+    go true e = absurd (d (rw e z))
+    go false e = rw e
+
+pub reads-whole : ReadsWhole
+unfolding readWith
+reads-whole k e s ts vs d =
+    let tests = readTests k e s (length ts) (length vs) in
+    let q = refused-reading tests (recordAnswer k s ts vs) ts vs d refl in
+    rw q (refl, refl, refl)
 
 -- ---- demand 2
 
@@ -134,7 +195,9 @@ record-of k e s ts vs z = rw z
 pub reads-front : ReadsFront
 reads-front k e s ts vs bytes h =
     let clear = reading-clear k e s ts vs h in
-    rw (record-of k e s ts vs clear) (front-stands k e s (length ts) (length vs) bytes clear)
+    let f = front-stands k e s (length ts) (length vs) bytes clear in
+    rw (record-of k e s ts vs clear)
+    (formIn s, f .points, refl, f .many, ap (λ (o : Option (List ℕ)). over (listOf o) ts) (f .read), f .listed, f .sided, f .few, f .valid, (f .rest, f .splits))
 
 -- ---- demand 3
 
@@ -143,8 +206,11 @@ isLast : ℕ → Bool
 isLast tag = eqb tag ratiosTag
 
 -- a run is its parts
-same-run : (r q : Run) → r .rate ≡ q .rate → r .side ≡ q .side → r .positions ≡ q .positions → r .ratios ≡ q .ratios → r ≡ q
-same-run r q a d b c = ap₂ (λ (x y : ℕ). run x y (r .positions) (r .ratios)) a d ∙ ap₂ (λ (x y : List ℕ). run (q .rate) (q .side) x y) b c
+same-run : (r q : Run) → r .rate ≡ q .rate → r .side ≡ q .side → r .form ≡ q .form → r .positions ≡ q .positions → r .ratios ≡ q .ratios → r ≡ q
+same-run r q a d f b c =
+    ap₂ (λ (x y : ℕ). run x y (r .form) (r .positions) (r .ratios)) a d
+    ∙ ap (λ (x : Form). run (q .rate) (q .side) x (r .positions) (r .ratios)) f
+    ∙ ap₂ (λ (x y : List ℕ). run (q .rate) (q .side) (q .form) x y) b c
 
 -- the body of one of the fields
 abbrev body-of : ℕ → List Field → List ℕ
@@ -158,27 +224,35 @@ same-fields r q a b e =
     let rates : bytesOf rateSize (r .rate) ≡ bytesOf rateSize (q .rate) = ap (body-of 0) e in
     let d = sides-same (r .side) (q .side) (f .sided) (g .sided) _ _ _ _ refl refl (ap (drop 1) e) in
     let counts : bytesOf countSize (length (r .positions)) ≡ bytesOf countSize (length (q .positions)) = ap (body-of countIndex) (d .1) in
-    let bodies : codedPositions rows (r .positions) ≡ codedPositions rows (q .positions) = ap (body-of positionsIndex) (d .1) in
+    let forms : r .form ≡ q .form = sym (form-of (r .form)) ∙ ap (λ (fs : List Field). formOf (fieldIn fs positionsIndex .tag)) (d .1) ∙ form-of (q .form) in
+    let bodies : codedPositions (tableOf (r .form)) (r .positions) ≡ codedPositions (tableOf (q .form)) (q .positions) = ap (body-of positionsIndex) (d .1) in
     let codes : codedRatios (r .ratios) ≡ codedRatios (q .ratios) = ap (body-of ratiosIndex) (d .1) in
     let n : length (r .positions) ≡ length (q .positions) =
-    sym (number-digits-lt (lit< tt) countSize (omega (arith, f .few))) ∙ ap (numberOf 256) counts ∙ number-digits-lt (lit< tt) countSize (omega (arith, g .few)) in
+    sym (number-digits-lt (lit< tt) countSize (omega (arith, fitting-few r f))) ∙ ap (numberOf 256) counts ∙ number-digits-lt (lit< tt) countSize (omega (arith, fitting-few q g)) in
     same-run r q
     (sym (number-digits-lt (lit< tt) rateSize (omega (arith, rate-high (r .rate) (f .listed)))) ∙ ap (numberOf 256) rates
     ∙ number-digits-lt (lit< tt) rateSize (omega (arith, rate-high (q .rate) (g .listed))))
     (d .0)
+    forms
     (ap listOf
-    (sym (read-coded rows rows-good (r .positions) (f .valid)) ∙ ap₂ (readPositions rows) n bodies ∙ read-coded rows rows-good (q .positions) (g .valid)))
+    (sym (read-coded (tableOf (r .form)) (table-good (r .form)) (r .positions) (f .valid))
+    ∙ ap (λ (x : Form). readPositions (tableOf x) (length (r .positions)) (codedPositions (tableOf (r .form)) (r .positions))) forms
+    ∙ ap₂ (readPositions (tableOf (q .form))) n bodies
+    ∙ read-coded (tableOf (q .form)) (table-good (q .form)) (q .positions) (g .valid)))
     (ap listOf
     (sym (strict-coded (r .ratios) (a .words)) ∙ ap₂ strictRatios (f .paired ∙ n ∙ sym (g .paired)) codes ∙ strict-coded (q .ratios) (b .words)))
 
--- a record's fields end with that of the ratios, with a side and without
+-- a record's fields end with that of the ratios, with a side and without, in either form
 fields-closed : (r : Run) → closed isLast (flatFields r) ≡ true
 unfolding isLast
-fields-closed r = go (r .side)
+fields-closed r = go (r .side) (r .form) (codedPositions (tableOf (r .form)) (r .positions))
   where
-    go : (n : ℕ) → closed isLast (rateField r ∷ (sideFields n ++ pointFields r)) ≡ true
-    go zero = refl
-    go (suc n) = refl
+    go : (n : ℕ) (f : Form) (body : List ℕ)
+        → closed isLast (rateField r ∷ (sideFields n ++ (fieldIn (pointFields r) countIndex ∷ fieldOf (positionsTag f) body ∷ fieldIn (pointFields r) ratiosIndex ∷ []))) ≡ true
+    go zero Old b = refl
+    go zero Wide b = refl
+    go (suc n) Old b = refl
+    go (suc n) Wide b = refl
 
 -- bytes that begin with the records of two runs: the runs are the same, and so is what follows
 pub unique : (r q : Run) → Accepted r → Accepted q → (x y : List ℕ) → recordOf r ++ x ≡ recordOf q ++ y → (r ≡ q) × (x ≡ y)

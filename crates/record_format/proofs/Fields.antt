@@ -110,6 +110,17 @@ module _ (before : List ℕ) (f : Field) (rest : List ℕ) (small : length (f .b
     next = next-at;
   }
 
+-- a head that stands in bytes, with or without a whole body behind it
+pub head-stands : (before : List ℕ) (tag l : ℕ) (rest : List ℕ) → l < 256 ^ 2
+    → let s = before ++ ((tag ∷ bytesOf 2 l) ++ rest) in (tagAt s (length before) ≡ tag) × (lengthAt s (length before) ≡ l)
+unfolding tagAt lengthAt
+head-stands before tag l rest small =
+    let s = before ++ ((tag ∷ bytesOf 2 l) ++ rest) in (
+      getD-append-seam before tag (bytesOf 2 l ++ rest) 0,
+      ap (λ (x : List ℕ). numberOf 256 (take 2 x)) (sym (drop-drop 1 (length before) s) ∙ ap (drop 1) (drop-append-seam before ((tag ∷ bytesOf 2 l) ++ rest)))
+          ∙ ap (numberOf 256) (take-at (bytesOf 2 l) rest 2 (length-digits 256 2 l)) ∙ number-digits-lt (lit< tt) 2 small,
+    )
+
 -- ---- fields laid end to end
 
 -- bodies whose length two bytes can state

@@ -2,7 +2,7 @@
 use mathlib.Core.Path.{_≡_, refl, ap, ap₂, _∙_, subst}
 use mathlib.Core.Bool.{Bool, true, false, not, cond}
 use mathlib.Core.List.{List, [], _∷_, _++_}
-use mathlib.Core.Option.{Option, none, some}
+use mathlib.Core.Option.{Option, some}
 use Prim.Native.Nat.{ℕ, _≤_, _<_}
 use native.Mathlib.Omega.{arith}
 use lib.Dec.{ltb, eqb, lit<, lit≤}
@@ -12,14 +12,16 @@ use Rattle.limits.specs.Points.{maxPoints}
 use Rattle.limits.specs.Rates.{isRate}
 use Rattle.limits.specs.Sides.{isSide}
 use Rattle.refusals.specs.Tests.{Test, test}
-use Rattle.position_format.specs.Rows.{rows}
+use Rattle.position_format.specs.declared.Form.{Form}
+use Rattle.position_format.specs.declared.Form.the-variants.{Old, Wide}
 use Rattle.position_format.specs.Positions.{readPositions}
-use Rattle.record_format.specs.Fields.{tagAt, bodyAt, nextAt, fieldTests}
-use Rattle.record_format.specs.Runs.{rateTag, sideTag, countTag, positionsTag, ratiosTag, rateSize, sideSize, countSize}
-use Rattle.record_format.specs.Reading.{Answer, recordAnswer, answerBy, readTests, readWith, rateAt, sideAt, hasSide, countAt, endAt, rateIn, sideIn, countIn, positionsIn, ratiosIn, missing, otherRate, lacksRoom, codedTests, rateTests, sideTests, countTests, roomTests, positionsTests, ratiosTests}
+use Rattle.position_format.specs.Tables.{tableOf, pointsOf}
+use Rattle.record_format.specs.Fields.{tagAt, bodyAt, nextAt, headTests, bodyTests, fieldTests}
+use Rattle.record_format.specs.Runs.{rateTag, sideTag, countTag, positionsTag, formOf, ratiosTag, rateSize, sideSize, countSize}
+use Rattle.record_format.specs.Reading.{Answer, recordAnswer, answerBy, readTests, readWith, rateAt, sideAt, hasSide, countAt, endAt, rateIn, sideIn, countIn, formIn, positionsIn, ratiosIn, missing, otherRate, lacksRoom, contentsTests, rateTests, sideTests, countTests, roomTests, manyTests, positionsTests, ratiosTests}
 use Rattle.record_format.specs.Claims.{Followed}
 use Rattle.record_format.proofs.Fields.{fieldAt, tag-same, next-same, head-within, body-same, next-later, field-whole, field-at-same}
-use Rattle.record_format.proofs.Reading.{field-tests-same}
+use Rattle.record_format.proofs.Reading.{head-tests-same, body-tests-same, field-tests-same}
 use Rattle.record_format.proofs.Runs.{countIndex, positionsIndex, ratiosIndex, pointFieldCount}
 use Rattle.record_format.proofs.Sides.{absent-count, present-count}
 
@@ -37,11 +39,15 @@ module _ (s rest : List ℕ) (p q : ℕ) (at : q ≡ p) (whole : nextAt s p ≤ 
   tests-at : (tags : List ℕ) (n : Option ℕ) → fieldTests (s ++ rest) tags n q ≡ fieldTests s tags n p
   tests-at tags n = ap (fieldTests (s ++ rest) tags n) at ∙ field-tests-same s rest p whole tags n
 
+  head-tests-at : (tags : List ℕ) → headTests (s ++ rest) tags q ≡ headTests s tags p
+  head-tests-at tags = ap (headTests (s ++ rest) tags) at ∙ head-tests-same s rest p whole tags
+
   -- of coded numbers, where the reading of the body is the same
-  coded-at : (tags : List ℕ) (j k : List ℕ → Option (List ℕ)) (x : ℕ) → j ≡ k → codedTests (s ++ rest) tags j x q ≡ codedTests s tags k x p
-  coded-at tags j k x e =
-      ap₂ (λ (l : List Test) (o : Option (List ℕ)). l ++ (test (missing o) x q ∷ [])) (tests-at tags none) (ap₂ (λ (f : List ℕ → Option (List ℕ)) (b : List ℕ). f b) e body-at)
-      ∙ ap (λ (y : ℕ). fieldTests s tags none p ++ (test (missing (k (bodyAt s p))) x y ∷ [])) at
+  contents-at : (j k : List ℕ → Option (List ℕ)) (x : ℕ) → j ≡ k → contentsTests (s ++ rest) j x q ≡ contentsTests s k x p
+  contents-at j k x e =
+      ap₂ (λ (l : List Test) (o : Option (List ℕ)). l ++ (test (missing o) x q ∷ []))
+      (ap (bodyTests (s ++ rest)) at ∙ body-tests-same s rest p whole) (ap₂ (λ (f : List ℕ → Option (List ℕ)) (b : List ℕ). f b) e body-at)
+      ∙ ap (λ (y : ℕ). bodyTests s p ++ (test (missing (k (bodyAt s p))) x y ∷ [])) at
 
 -- the fields of a record: each is whole in s, and stands at the same offset where s is followed by more
 module _ (s rest : List ℕ) (framed : endAt s ≤ length s) where
@@ -86,9 +92,15 @@ module _ (s rest : List ℕ) (framed : endAt s ≤ length s) where
         → fieldTests (s ++ rest) tags n (fieldAt (s ++ rest) (countAt (s ++ rest)) i) ≡ fieldTests s tags n (fieldAt s (countAt s) i)
     later-tests = tests-at s rest _ _ (later-at i (omega arith)) (later-whole i h)
 
-    later-coded : (tags : List ℕ) (j k : List ℕ → Option (List ℕ)) (x : ℕ) → j ≡ k
-        → codedTests (s ++ rest) tags j x (fieldAt (s ++ rest) (countAt (s ++ rest)) i) ≡ codedTests s tags k x (fieldAt s (countAt s) i)
-    later-coded = coded-at s rest _ _ (later-at i (omega arith)) (later-whole i h)
+    later-tag : tagAt (s ++ rest) (fieldAt (s ++ rest) (countAt (s ++ rest)) i) ≡ tagAt s (fieldAt s (countAt s) i)
+    later-tag = tag-at s rest _ _ (later-at i (omega arith)) (later-whole i h)
+
+    later-head : (tags : List ℕ) → headTests (s ++ rest) tags (fieldAt (s ++ rest) (countAt (s ++ rest)) i) ≡ headTests s tags (fieldAt s (countAt s) i)
+    later-head = head-tests-at s rest _ _ (later-at i (omega arith)) (later-whole i h)
+
+    later-contents : (j k : List ℕ → Option (List ℕ)) (x : ℕ) → j ≡ k
+        → contentsTests (s ++ rest) j x (fieldAt (s ++ rest) (countAt (s ++ rest)) i) ≡ contentsTests s k x (fieldAt s (countAt s) i)
+    later-contents = contents-at s rest _ _ (later-at i (omega arith)) (later-whole i h)
 
 module _ (k : ℕ → List ℕ → Option (List ℕ)) (e : ℕ) (s rest ts vs : List ℕ) (framed : endAt s ≤ length s) where
   end-at : endAt (s ++ rest) ≡ endAt s
@@ -106,8 +118,14 @@ module _ (k : ℕ → List ℕ → Option (List ℕ)) (e : ℕ) (s rest ts vs : 
   count-in : countIn (s ++ rest) ≡ countIn s
   count-in = ap (numberOf 256) (later-body s rest framed countIndex (lit< tt))
 
+  form-in : formIn (s ++ rest) ≡ formIn s
+  form-in = ap formOf (later-tag s rest framed positionsIndex (lit< tt))
+
+  reading-in : readPositions (tableOf (formIn (s ++ rest))) (countIn (s ++ rest)) ≡ readPositions (tableOf (formIn s)) (countIn s)
+  reading-in = ap₂ (λ (f : Form) (c : ℕ). readPositions (tableOf f) c) form-in count-in
+
   positions-in : positionsIn (s ++ rest) ≡ positionsIn s
-  positions-in = ap₂ (readPositions rows) count-in (later-body s rest framed positionsIndex (lit< tt))
+  positions-in = ap₂ (λ (f : List ℕ → Option (List ℕ)) (b : List ℕ). f b) reading-in (later-body s rest framed positionsIndex (lit< tt))
 
   ratios-in : ratiosIn k (s ++ rest) ≡ ratiosIn k s
   ratios-in = ap₂ k count-in (later-body s rest framed ratiosIndex (lit< tt))
@@ -132,14 +150,21 @@ module _ (k : ℕ → List ℕ → Option (List ℕ)) (e : ℕ) (s rest ts vs : 
   room-tests : roomTests (s ++ rest) (length ts) (length vs) ≡ roomTests s (length ts) (length vs)
   room-tests = ap₂ (λ (c p : ℕ). test (lacksRoom (length ts) (length vs) c) 16 p ∷ []) count-in (count-at s rest framed)
 
+  many-tests : manyTests (s ++ rest) ≡ manyTests s
+  many-tests =
+      ap₂ (λ (f : Form) (c : ℕ). test (ltb (pointsOf f) c) 15 (countAt (s ++ rest)) ∷ []) form-in count-in
+      ∙ ap (λ (p : ℕ). test (ltb (pointsOf (formIn s)) (countIn s)) 15 p ∷ []) (count-at s rest framed)
+
   positions-tests : positionsTests (s ++ rest) ≡ positionsTests s
   positions-tests =
-      later-coded s rest framed positionsIndex (lit< tt) (positionsTag ∷ [])
-      (readPositions rows (countIn (s ++ rest))) (readPositions rows (countIn s)) 17 (ap (readPositions rows) count-in)
+      ap₂ (λ (a b : List Test). a ++ b) (later-head s rest framed positionsIndex (lit< tt) (positionsTag Old ∷ positionsTag Wide ∷ []))
+      (ap₂ (λ (a b : List Test). a ++ b) many-tests
+      (later-contents s rest framed positionsIndex (lit< tt) (readPositions (tableOf (formIn (s ++ rest))) (countIn (s ++ rest))) (readPositions (tableOf (formIn s)) (countIn s)) 17 reading-in))
 
   ratios-tests : ratiosTests k (s ++ rest) ≡ ratiosTests k s
   ratios-tests =
-      later-coded s rest framed ratiosIndex (lit< tt) (ratiosTag ∷ []) (k (countIn (s ++ rest))) (k (countIn s)) 18 (ap k count-in)
+      ap₂ (λ (a b : List Test). a ++ b) (later-head s rest framed ratiosIndex (lit< tt) (ratiosTag ∷ []))
+      (later-contents s rest framed ratiosIndex (lit< tt) (k (countIn (s ++ rest))) (k (countIn s)) 18 (ap k count-in))
 
   tests-same : readTests k e (s ++ rest) (length ts) (length vs) ≡ readTests k e s (length ts) (length vs)
   tests-same =
@@ -155,6 +180,7 @@ module _ (k : ℕ → List ℕ → Option (List ℕ)) (e : ℕ) (s rest ts vs : 
       let c = end-at in
       let d = positions-in in
       let f = ratios-in in
+      let h = form-in in
       cc
 
   read-followed : readWith k e (s ++ rest) ts vs ≡ readWith k e s ts vs

@@ -3,11 +3,13 @@ pub mod Reading
 pub mod Writing
 pub mod Runs
 pub mod Sides
+pub mod Fronts
 pub mod ReadsBack
 pub mod ReadsOnly
 pub mod Followed
 pub mod Claims
 pub mod SideClaims
+pub mod WideClaims
 pub mod FourFields
 pub mod Longest
 pub mod Sizes

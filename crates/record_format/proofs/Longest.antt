@@ -1,4 +1,5 @@
--- The longest run on each side: it is accepted, each of its steps takes 36 bits, and each of its ratios nine bytes.
+-- The longest run in each form and on each side: it is accepted, each of its steps takes as many bits as a code can have, 36 or 69, and each of its
+-- ratios nine bytes.
 use mathlib.Core.Bool.{Bool, true, false, not}
 use mathlib.Core.List.{List, _∷_}
 use mathlib.Core.Path.{_≡_, refl, sym, ap, _∙_}
@@ -6,25 +7,29 @@ use Prim.Native.Nat.{ℕ, zero, suc, _+_, _-_, _*_, _/_, _%_, _^_, _≤_, _<_}
 use native.Mathlib.Nat.{mul-suc, mul-zero}
 use native.Mathlib.Omega.{arith}
 use borrow.Author.Tests.{le-ltb}
-use lib.IntN.{ℤ, pos}
+use lib.IntN.{ℤ}
 use lib.ListN.{length, getD, length-append}
 use Rattle.lists.specs.Below.{Below}
 use Rattle.bits.specs.Digits.{digitsOf}
 use Rattle.lists.specs.Lists.{member, firstIndex}
 use Rattle.limits.specs.Rates.{rates, isRate}
-use Rattle.limits.specs.Points.{maxPoints, maxPosition, tooHigh}
+use Rattle.limits.specs.Points.{maxPoints, maxWidePoints, maxPosition, tooHigh}
 use Rattle.limits.specs.Sides.{maxSide}
-use Rattle.position_format.specs.Rows.{Row, rows, neg, inTable, code}
+use Rattle.position_format.specs.declared.Form.{Form}
+use Rattle.position_format.specs.declared.Form.the-variants.{Old, Wide}
+use Rattle.position_format.specs.Rows.{Row, rows, wideRows, inTable, code}
 use Rattle.position_format.specs.Steps.{stepOf, stepsFrom, steps, outside}
 use Rattle.position_format.specs.Positions.{stepBits, positionBits, codedPositions, validPositions}
+use Rattle.position_format.specs.Tables.{tableOf, pointsOf}
 use Rattle.position_format.proofs.Lists.{cons-none}
 use Rattle.position_format.proofs.Valid.{valid-of}
 use Rattle.position_format.proofs.Sizes.{length-coded, length-raw}
+use Rattle.position_format.proofs.Tables.{mostBits}
 use Rattle.ratio_format.specs.Windows.{windowSize}
 use Rattle.ratio_format.specs.Bodies.{codedRatios}
 use Rattle.ratio_format.proofs.Exceptions.{Apart, all-nine}
 use Rattle.record_format.specs.Claims.{Accepted}
-use Rattle.record_format.specs.Sizes.{firstValues, swing, twoEnds, longest}
+use Rattle.record_format.specs.Sizes.{maxPositionsBody, maxRatiosBody, firstValues, farOf, swing, twoEnds, longest}
 use Rattle.record_format.proofs.Writing.{Fitting, fitting-accepted}
 
 -- ---- the first values of a function
@@ -87,28 +92,36 @@ module _ (rs : List Row) where
 
 -- ---- the positions of the longest run
 
-swing-step : (P : ℤ → Type 0) → P (neg 10000) → P (pos 10000) → (i : ℕ) → P (stepAfter swing i)
-swing-step P a b i =
+-- each step is twice as far as the positions swing, down or up
+swing-step : (n : ℕ) (P : ℤ → Type 0) → P (stepOf (0 * n) (1 * n) (0 * n)) → P (stepOf (1 * n) (0 * n) (1 * n)) → (i : ℕ) → P (stepAfter (λ (j : ℕ). j % 2 * n) i)
+swing-step n P a b i =
     let one : suc i % 2 ≡ 1 - i % 2 = omega arith in
     let two : suc (suc i) % 2 ≡ i % 2 = omega arith in
     rw (one, two) (go (i % 2) (omega arith))
   where
-    go : (x : ℕ) → x < 2 → P (stepOf (x * 5000) ((1 - x) * 5000) (x * 5000))
+    go : (x : ℕ) → x < 2 → P (stepOf (x * n) ((1 - x) * n) (x * n))
     go zero h = a
     go (suc zero) h = b
     go (suc (suc x)) h = absurd (omega arith)
 
-wide-step : (i : ℕ) → length (code rows (stepAfter swing i)) ≡ 36
-unfolding rows code digitsOf
-wide-step = swing-step (λ z. length (code rows z) ≡ 36) refl refl
+long-step : (f : Form) (i : ℕ) → length (code (tableOf f) (stepAfter (swing f) i)) ≡ mostBits f
+unfolding rows wideRows code digitsOf
+long-step Old = swing-step (farOf Old) (λ z. length (code rows z) ≡ 36) refl refl
+long-step Wide = swing-step (farOf Wide) (λ z. length (code wideRows z) ≡ 69) refl refl
 
-held-step : (i : ℕ) → inTable rows (stepAfter swing i) ≡ true
-unfolding rows inTable
-held-step = swing-step (λ z. inTable rows z ≡ true) refl refl
+held-step : (f : Form) (i : ℕ) → inTable (tableOf f) (stepAfter (swing f) i) ≡ true
+unfolding rows wideRows inTable
+held-step Old = swing-step (farOf Old) (λ z. inTable rows z ≡ true) refl refl
+held-step Wide = swing-step (farOf Wide) (λ z. inTable wideRows z ≡ true) refl refl
 
-pub longest-positions : (d : ℕ) → length (codedPositions rows (longest d .positions)) ≡ 18439
+swing-low : (f : Form) (i : ℕ) → swing f i ≤ maxPosition
+swing-low Old i = omega arith
+swing-low Wide i = omega arith
+
+pub longest-positions : (f : Form) (d : ℕ) → length (codedPositions (tableOf f) (longest f d .positions)) ≡ maxPositionsBody f
 unfolding longest
-longest-positions d = omega (arith, length-coded rows (firstValues swing maxPoints), positions-bits rows swing 4094 36 wide-step)
+longest-positions Old d = omega (arith, length-coded rows (firstValues (swing Old) maxPoints), positions-bits rows (swing Old) 4094 36 (long-step Old))
+longest-positions Wide d = omega (arith, length-coded wideRows (firstValues (swing Wide) maxWidePoints), positions-bits wideRows (swing Wide) 3498 69 (long-step Wide))
 
 -- ---- its ratios
 
@@ -125,30 +138,34 @@ two-ends i j h g =
     let n : j % 128 < 128 = omega arith in
     (λ e. other (sym (top-end (i % 128) m) ∙ e ∙ top-end (j % 128) n), λ e. other (sym (low-end (i % 128) m) ∙ e ∙ low-end (j % 128) n))
 
-longest-words : (d : ℕ) → Below (2 ^ 64) (longest d .ratios)
+longest-words : (f : Form) (d : ℕ) → Below (2 ^ 64) (longest f d .ratios)
 unfolding longest
-longest-words d = values-below (2 ^ 64) twoEnds maxPoints (λ i. omega arith)
+longest-words f d = values-below (2 ^ 64) twoEnds (pointsOf f) (λ i. omega arith)
 
-pub longest-ratios : (d : ℕ) → length (codedRatios (longest d .ratios)) ≡ 36864
+pub longest-ratios : (f : Form) (d : ℕ) → length (codedRatios (longest f d .ratios)) ≡ maxRatiosBody f
 unfolding longest
-longest-ratios d =
-    all-nine windowSize (firstValues twoEnds maxPoints) (longest-words d)
+longest-ratios f d =
+    all-nine windowSize (firstValues twoEnds (pointsOf f)) (longest-words f d)
     (λ i j h g k.
-    let n : length (firstValues twoEnds maxPoints) ≡ maxPoints = length-values twoEnds maxPoints in
-    rw (values-at twoEnds maxPoints 0 i (omega arith), values-at twoEnds maxPoints 0 j (omega arith)) (two-ends i j g k))
-    ∙ ap (λ (n : ℕ). 9 * n) (length-values twoEnds maxPoints)
+    let n : length (firstValues twoEnds (pointsOf f)) ≡ pointsOf f = length-values twoEnds (pointsOf f) in
+    rw (values-at twoEnds (pointsOf f) 0 i (omega arith), values-at twoEnds (pointsOf f) 0 j (omega arith)) (two-ends i j g k))
+    ∙ ap (λ (n : ℕ). 9 * n) (length-values twoEnds (pointsOf f))
 
 -- ---- the run
 
-pub longest-fits : (d : ℕ) → d ≤ maxSide → Fitting (longest d)
+longest-valid : (f : Form) → validPositions (tableOf f) (firstValues (swing f) (pointsOf f)) ≡ true
+longest-valid Old = positions-valid rows (swing Old) 4094 (swing-low Old) (held-step Old)
+longest-valid Wide = positions-valid wideRows (swing Wide) 3498 (swing-low Wide) (held-step Wide)
+
+pub longest-fits : (f : Form) (d : ℕ) → d ≤ maxSide → Fitting (longest f d)
 unfolding longest isRate rates member
-longest-fits d h = record {
+longest-fits f d h = record {
   listed = refl;
   sided = h;
-  paired = length-values twoEnds maxPoints ∙ sym (length-values swing maxPoints);
-  few = omega (arith, length-values swing maxPoints);
-  valid = positions-valid rows swing 4094 (λ i. omega arith) held-step;
+  paired = length-values twoEnds (pointsOf f) ∙ sym (length-values (swing f) (pointsOf f));
+  few = omega (arith, length-values (swing f) (pointsOf f));
+  valid = longest-valid f;
 }
 
-pub longest-accepted : (d : ℕ) → d ≤ maxSide → Accepted (longest d)
-longest-accepted d h = record { words = longest-words d; passes = fitting-accepted (longest d) (longest-fits d h) }
+pub longest-accepted : (f : Form) (d : ℕ) → d ≤ maxSide → Accepted (longest f d)
+longest-accepted f d h = record { words = longest-words f d; passes = fitting-accepted (longest f d) (longest-fits f d h) }

@@ -13,13 +13,16 @@ use Rattle.lists.specs.Below.{Below}
 use Rattle.lists.specs.Lists.{member}
 use Rattle.bits.specs.Digits.{bytesOf, digitsOf, numberOf}
 use Rattle.bits.proofs.Digits.{digits-number}
+use Rattle.limits.specs.Points.{maxPoints}
 use Rattle.limits.specs.Sides.{isSide}
 use Rattle.refusals.specs.declared.Refusal.{Refusal}
 use Rattle.refusals.specs.Tests.{Test, test, firstOf, refused}
 use Rattle.refusals.proofs.Tests.{numbered, first-here, first-skip, first-clear, first-end}
-use Rattle.record_format.specs.Fields.{Field, fieldOf, headSize, fieldBytes, tagAt, lengthAt, bodyAt, nextAt, lengthTests, fieldTests}
-use Rattle.record_format.specs.Reading.{Answer, refusalAnswer, answerBy, missing, sideAt, hasSide, sideIn, lacksRoom, rateTests, sideTests, countTests, frontTests, roomTests, positionsTests, ratiosTests, readTests}
-use Rattle.record_format.specs.Runs.{sideTag, sideSize}
+use Rattle.position_format.specs.declared.Form.the-variants.{Old, Wide}
+use Rattle.position_format.specs.Tables.{pointsOf}
+use Rattle.record_format.specs.Fields.{Field, fieldOf, headSize, fieldBytes, tagAt, lengthAt, bodyAt, nextAt, headTests, lengthTests, bodyTests, fieldTests}
+use Rattle.record_format.specs.Reading.{Answer, refusalAnswer, answerBy, missing, sideAt, hasSide, countAt, positionsAt, sideIn, countIn, formIn, positionsIn, lacksRoom, rateTests, sideTests, countTests, frontTests, roomTests, positionsTests, ratiosTests, readTests}
+use Rattle.record_format.specs.Runs.{sideTag, positionsTag, formOf, sideSize}
 use Rattle.record_format.proofs.Fields.{FieldStands, length-body, field-here, below-body, tag-same, length-same, next-same, head-within}
 
 -- a refusal by its number and place
@@ -149,21 +152,51 @@ room-enough m n c e = go (ltb m c) refl e
 -- ---- bytes after a field change none of its tests
 
 module _ (s rest : List ℕ) (p : ℕ) (whole : nextAt s p ≤ length s) where
+  head : p + headSize ≤ length s
+  head = head-within s rest p whole
+
+  pub head-tests-same : (tags : List ℕ) → headTests (s ++ rest) tags p ≡ headTests s tags p
+  head-tests-same tags =
+      ap₂ (λ (a : Bool) (t : ℕ). test a 10 p ∷ test (not (member t tags)) 11 p ∷ [])
+      (le-ltb (length (s ++ rest)) (p + headSize) (omega (arith, head, length-append s rest)) ∙ sym (le-ltb (length s) (p + headSize) head))
+      (tag-same s rest p head)
+
+  pub body-tests-same : bodyTests (s ++ rest) p ≡ bodyTests s p
+  body-tests-same =
+      ap (λ (b : Bool). test b 10 p ∷ [])
+      (le-ltb (length (s ++ rest)) (nextAt (s ++ rest) p) (omega (arith, next-same s rest p head, length-append s rest)) ∙ sym (le-ltb (length s) (nextAt s p) whole))
+
   pub field-tests-same : (tags : List ℕ) (n : Option ℕ) → fieldTests (s ++ rest) tags n p ≡ fieldTests s tags n p
-  field-tests-same tags n =
-      let h = head-within s rest p whole in
-      let l = length-append s rest in
-      ap₂ (λ (a : Bool) (t : ℕ). test a 10 p ∷ test (not (member t tags)) 11 p ∷ (lengthTests (s ++ rest) n p ++ (test (ltb (length (s ++ rest)) (nextAt (s ++ rest) p)) 10 p ∷ [])))
-      (le-ltb (length (s ++ rest)) (p + headSize) (omega arith) ∙ sym (le-ltb (length s) (p + headSize) h))
-      (tag-same s rest p h)
-      ∙ ap₂ (λ (m : List Test) (b : Bool). test (ltb (length s) (p + headSize)) 10 p ∷ test (not (member (tagAt s p) tags)) 11 p ∷ (m ++ (test b 10 p ∷ [])))
-      (lengths n)
-      (le-ltb (length (s ++ rest)) (nextAt (s ++ rest) p) (subst (λ (m : ℕ). m ≤ length (s ++ rest)) (sym (next-same s rest p h)) (omega arith))
-      ∙ sym (le-ltb (length s) (nextAt s p) whole))
+  field-tests-same tags n = ap₂ (λ (a b : List Test). a ++ b) (head-tests-same tags) (ap₂ (λ (a b : List Test). a ++ b) (lengths n) body-tests-same)
     where
       lengths : (m : Option ℕ) → lengthTests (s ++ rest) m p ≡ lengthTests s m p
       lengths none = refl
       lengths (some k) = ap (λ (l : ℕ). test (not (eqb l k)) 12 p ∷ []) (length-same s rest p (head-within s rest p whole))
+
+-- ---- the tests of the positions' field
+
+abbrev positions-tags : List ℕ
+positions-tags = positionsTag Old ∷ positionsTag Wide ∷ []
+
+-- where there are not too many points for the form they are those of any field of coded numbers
+pub positions-few : (s : List ℕ) (ts : List Test) → ltb (pointsOf (formIn s)) (countIn s) ≡ false
+    → firstOf (positionsTests s ++ ts) ≡ firstOf (fieldTests s positions-tags none (positionsAt s) ++ (test (missing (positionsIn s)) 17 (positionsAt s) ∷ ts))
+unfolding firstOf
+positions-few s ts few = rw few
+
+-- and where there are, past a good tag, they are refused before the body
+pub positions-many : (s : List ℕ) (ts : List Test) → positionsAt s + headSize ≤ length s → member (tagAt s (positionsAt s)) positions-tags ≡ true
+    → ltb (pointsOf (formIn s)) (countIn s) ≡ true → refusal 15 (countAt s) ≡ firstOf (positionsTests s ++ ts)
+positions-many s ts head tagged many = sym (first-skip _ _ (le-ltb _ _ head) ∙ first-skip _ _ (ap not tagged) ∙ first-here _ _ many)
+
+-- which is so in the wide form alone, whose tag is good
+pub many-tag : (t c : ℕ) → c ≤ maxPoints → pointsOf (formOf t) < c → member t positions-tags ≡ true
+unfolding member
+many-tag t c few many = go (eqb t (positionsTag Wide)) refl
+  where
+    go : (b : Bool) → eqb t (positionsTag Wide) ≡ b → member t positions-tags ≡ true
+    go true q = rw (eqb-true t (positionsTag Wide) q)
+    go false q = absurd (let n : maxPoints < c = rw q at many in omega arith)
 
 -- ---- the tests of reading
 

@@ -1,8 +1,8 @@
--- What is accepted: by any reading, bytes that begin with the fields of the rate, the side and the count that it answers; by strict reading,
--- bytes that begin with the record of a run that the writer accepts.
+-- What is accepted: by any reading, bytes that begin with the fields of the rate, the side, the count and the positions that it answers; by
+-- strict reading, bytes that begin with the record of a run that the writer accepts.
 use mathlib.Core.Path.{_≡_, sym, ap, _∙_, subst}
 use mathlib.Core.Bool.{true, not}
-use mathlib.Core.List.{List, [], _∷_, _++_}
+use mathlib.Core.List.{List, [], _∷_, _++_, append-assoc}
 use mathlib.Core.Option.{Option, none, some}
 use Prim.Native.Nat.{ℕ, _≤_, _^_}
 use borrow.Author.Tests.{ltb-false, not-false}
@@ -15,16 +15,17 @@ use Rattle.limits.specs.Points.{maxPoints}
 use Rattle.limits.specs.Sides.{maxSide}
 use Rattle.refusals.specs.Tests.{Test, test, firstOf}
 use Rattle.refusals.proofs.Tests.{first-clear}
-use Rattle.position_format.specs.Rows.{rows}
+use Rattle.position_format.specs.Positions.{codedPositions, validPositions}
+use Rattle.position_format.specs.Tables.{tableOf, pointsOf}
 use Rattle.position_format.proofs.Positions.{read-only}
-use Rattle.ratio_format.specs.Bodies.{strictRatios}
+use Rattle.ratio_format.specs.Bodies.{codedRatios, strictRatios}
 use Rattle.ratio_format.proofs.Strict.{strict-only-body, strict-below}
-use Rattle.record_format.specs.Fields.{Field, fieldOf, bodyAt, laid}
+use Rattle.record_format.specs.Fields.{Field, fieldOf, tagAt, bodyAt, laid}
 use Rattle.record_format.specs.Runs.{Run, run, rateTag, countTag, positionsTag, ratiosTag, rateSize, countSize, sideFields, frontFields, recordOf}
-use Rattle.record_format.specs.Reading.{recordAnswer, readTests, readStrict, readWith, rateAt, sideAt, countAt, positionsAt, ratiosAt, rateIn, sideIn, countIn, positionsIn, ratiosIn, missing, otherRate, sideTests, countTests, roomTests, positionsTests, ratiosTests}
+use Rattle.record_format.specs.Reading.{recordAnswer, readTests, readStrict, readWith, rateAt, sideAt, countAt, positionsAt, ratiosAt, rateIn, sideIn, countIn, formIn, positionsIn, ratiosIn, missing, otherRate, sideTests, countTests, roomTests, positionsTests, ratiosTests}
 use Rattle.record_format.proofs.Fields.{Follow, pastAll, follow-laid, follow-append}
 use Rattle.record_format.proofs.Reading.{FieldSound, field-clear, sound-follows, sound-below, sound-number, missing-some, tests-flat, answer-clear}
-use Rattle.record_format.proofs.Runs.{pointFields, flatFields, record-flat}
+use Rattle.record_format.proofs.Runs.{tag-named, flatFields, record-flat}
 use Rattle.record_format.proofs.Sides.{SideSound, side-clear, side-follows}
 use Rattle.record_format.proofs.Writing.{Fitting}
 
@@ -34,8 +35,8 @@ record Read (k : ℕ → List ℕ → Option (List ℕ)) (s : List ℕ) : Type 0
   listed : isRate (rateIn s) ≡ true
   side : SideSound s
   count : FieldSound s (countTag ∷ []) (some countSize) (countAt s)
-  few : countIn s ≤ maxPoints
-  positions : FieldSound s (positionsTag ∷ []) none (positionsAt s)
+  positions : FieldSound s (positionsTag (formIn s) ∷ []) none (positionsAt s)
+  few : countIn s ≤ pointsOf (formIn s)
   points : (ts : List ℕ) × (positionsIn s ≡ some ts)
   ratios : FieldSound s (ratiosTag ∷ []) none (ratiosAt s)
   values : (vs : List ℕ) × (ratiosIn k s ≡ some vs)
@@ -54,8 +55,11 @@ passed k e s m n clear =
     let b = field-clear s (countTag ∷ []) (some countSize) (countAt s) (test (ltb maxPoints (countIn s)) 15 (countAt s) ∷ from-room) (a20 .1) in
     let b15 = first-clear _ _ (lit< tt) (b .1) in
     let b16 = first-clear _ _ (lit< tt) (b15 .1) in
-    let c = field-clear s (positionsTag ∷ []) none (positionsAt s) (test (missing (positionsIn s)) 17 (positionsAt s) ∷ from-ratios) (b16 .1) in
-    let c17 = first-clear _ _ (lit< tt) (c .1) in
+    let head = first-clear _ _ (lit< tt) (b16 .1) in
+    let tag = first-clear _ _ (lit< tt) (head .1) in
+    let c15 = first-clear _ _ (lit< tt) (tag .1) in
+    let body = first-clear _ _ (lit< tt) (c15 .1) in
+    let c17 = first-clear _ _ (lit< tt) (body .1) in
     let d = field-clear s (ratiosTag ∷ []) none (ratiosAt s) (test (missing (ratiosIn k s)) 18 (ratiosAt s) ∷ []) (c17 .1) in
     let d18 = first-clear _ _ (lit< tt) (d .1) in
     record {
@@ -63,8 +67,8 @@ passed k e s m n clear =
       listed = not-false _ (a13 .0);
       side = a20 .0;
       count = b .0;
-      few = ltb-false _ _ (b15 .0);
-      positions = c .0;
+      positions = record { head = ltb-false _ _ (head .0); tagged = tag-named (tagAt s (positionsAt s)) (not-false _ (tag .0)); stated = tt; whole = ltb-false _ _ (body .0) };
+      few = ltb-false _ _ (c15 .0);
       points = missing-some (positionsIn s) (c17 .0);
       ratios = d .0;
       values = missing-some (ratiosIn k s) (d18 .0);
@@ -79,13 +83,50 @@ front-follows s bytes k h fs later =
     let d = side-follows s bytes (h .side) in
     (sound-follows bytes (h .rate) _ (sound-number bytes (h .rate)), follow-append s (sideAt s) (sideFields (sideIn s)) fs (d .follows) (subst (λ (p : ℕ). Follow s p fs) (sym (d .past)) later))
 
-pub front-stands : (k : ℕ → List ℕ → Option (List ℕ)) (e : ℕ) (s : List ℕ) (m n : ℕ) → Below 256 s → firstOf (readTests k e s m n) .number ≡ 0
-    → (isRate (rateIn s) ≡ true) × (sideIn s ≤ maxSide) × (countIn s ≤ maxPoints) × ((t : List ℕ) × (s ≡ laid (frontFields (rateIn s) (sideIn s) (countIn s)) ++ t))
+-- and with the positions, as they are read in their form
+positions-follow : (s : List ℕ) → Below 256 s → (k : ℕ → List ℕ → Option (List ℕ)) → (h : Read k s) → (fs : List Field) → Follow s (ratiosAt s) fs
+    → Follow s rateAt
+    (fieldOf rateTag (bytesOf rateSize (rateIn s))
+    ∷ (sideFields (sideIn s)
+    ++ (fieldOf countTag (bytesOf countSize (length (h .points .0))) ∷ fieldOf (positionsTag (formIn s)) (codedPositions (tableOf (formIn s)) (h .points .0)) ∷ fs)))
+positions-follow s bytes k h fs later =
+    let p = read-only (tableOf (formIn s)) (countIn s) (bodyAt s (positionsAt s)) (h .points .0) (h .points .1) in
+    front-follows s bytes k h _
+    (sound-follows bytes (h .count) _ (sound-number bytes (h .count) ∙ ap (bytesOf countSize) (sym (p .2))), (sound-follows bytes (h .positions) _ (p .0), later))
+
+-- the front and the positions of bytes that are not refused
+pub record FrontStands (s : List ℕ) : Type 0 where
+  pub listed : isRate (rateIn s) ≡ true
+  pub sided : sideIn s ≤ maxSide
+  pub points : List ℕ
+  pub read : positionsIn s ≡ some points
+  pub many : countIn s ≡ length points
+  pub few : length points ≤ pointsOf (formIn s)
+  pub valid : validPositions (tableOf (formIn s)) points ≡ true
+  pub rest : List ℕ
+  pub splits : s ≡ laid (frontFields (rateIn s) (sideIn s) (length points) ++ (fieldOf (positionsTag (formIn s)) (codedPositions (tableOf (formIn s)) points) ∷ [])) ++ rest
+
+pub front-stands : (k : ℕ → List ℕ → Option (List ℕ)) (e : ℕ) (s : List ℕ) (m n : ℕ) → Below 256 s → firstOf (readTests k e s m n) .number ≡ 0 → FrontStands s
 front-stands k e s m n bytes clear =
     let h = passed k e s m n clear in
-    let count = sound-follows bytes (h .count) _ (sound-number bytes (h .count)) in
-    let follow = front-follows s bytes k h (fieldOf countTag (bytesOf countSize (countIn s)) ∷ []) (count, tt) in
-    (h .listed, side-follows s bytes (h .side) .sided, h .few, (_, follow-laid s rateAt (frontFields (rateIn s) (sideIn s) (countIn s)) follow))
+    let ps = h .points .0 in
+    let p = read-only (tableOf (formIn s)) (countIn s) (bodyAt s (positionsAt s)) ps (h .points .1) in
+    let body = fieldOf (positionsTag (formIn s)) (codedPositions (tableOf (formIn s)) ps) in
+    let count = fieldOf countTag (bytesOf countSize (length ps)) in
+    let flat = fieldOf rateTag (bytesOf rateSize (rateIn s)) ∷ (sideFields (sideIn s) ++ (count ∷ body ∷ [])) in
+    let follow : Follow s rateAt flat = positions-follow s bytes k h [] tt in
+    record {
+      listed = h .listed;
+      sided = side-follows s bytes (h .side) .sided;
+      points = ps;
+      read = h .points .1;
+      many = sym (p .2);
+      few = subst (λ (c : ℕ). c ≤ pointsOf (formIn s)) (sym (p .2)) (h .few);
+      valid = p .1;
+      rest = drop (pastAll s rateAt flat) s;
+      splits = follow-laid s rateAt flat follow
+          ∙ ap (λ (l : List Field). laid (fieldOf rateTag (bytesOf rateSize (rateIn s)) ∷ l) ++ drop (pastAll s rateAt flat) s) (sym (append-assoc (sideFields (sideIn s)) (count ∷ []) (body ∷ [])));
+    }
 
 -- ---- the whole record, by strict reading
 
@@ -101,24 +142,17 @@ begins : (s : List ℕ) → Below 256 s → Read strictRatios s → Begins s
 begins s bytes h =
     let ts = h .points .0 in
     let vs = h .values .0 in
-    let p = read-only rows (countIn s) (bodyAt s (positionsAt s)) ts (h .points .1) in
+    let p = read-only (tableOf (formIn s)) (countIn s) (bodyAt s (positionsAt s)) ts (h .points .1) in
     let q = strict-only-body (countIn s) (bodyAt s (ratiosAt s)) vs (h .values .1) in
-    let r = run (rateIn s) (sideIn s) ts vs in
-    let later : Follow s (countAt s) (pointFields r) = (
-      sound-follows bytes (h .count) _ (sound-number bytes (h .count) ∙ ap (bytesOf countSize) (sym (p .2))),
-      (
-        sound-follows bytes (h .positions) _ (p .0),
-        (sound-follows bytes (h .ratios) _ (q .0), tt),
-      ),
-    ) in
-    let follow : Follow s rateAt (flatFields r) = front-follows s bytes strictRatios h (pointFields r) later in
+    let r = run (rateIn s) (sideIn s) (formIn s) ts vs in
+    let follow : Follow s rateAt (flatFields r) = positions-follow s bytes strictRatios h (fieldOf ratiosTag (codedRatios vs) ∷ []) (sound-follows bytes (h .ratios) _ (q .0), tt) in
     record {
       own = r;
       fits = record {
         listed = h .listed;
         sided = side-follows s bytes (h .side) .sided;
         paired = q .1 ∙ sym (p .2);
-        few = subst (λ (k : ℕ). k ≤ maxPoints) (sym (p .2)) (h .few);
+        few = subst (λ (k : ℕ). k ≤ pointsOf (formIn s)) (sym (p .2)) (h .few);
         valid = p .1;
       };
       ratios = strict-below (countIn s) (bodyAt s (ratiosAt s)) vs (sound-below bytes (h .ratios)) (h .values .1);

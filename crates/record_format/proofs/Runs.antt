@@ -1,22 +1,49 @@
--- Laws of a run's record: which field is which, how long the bodies of its fields are, and how long it is.
+-- Laws of a run's record: the forms and their tags, which field is which, how long the bodies of its fields are, and how long it is.
+use mathlib.Core.Bool.{Bool, true, false, false≢true}
 use mathlib.Core.List.{List, [], _∷_, _++_, append-assoc}
-use mathlib.Core.Path.{_≡_, ap, _∙_}
+use mathlib.Core.Path.{_≡_, refl, ap, _∙_}
 use Prim.Native.Nat.{ℕ, zero, suc, _+_, _≤_}
 use native.Mathlib.Omega.{arith}
+use lib.Dec.{eqb, lit≤}
 use lib.ListN.{length, length-append}
+use Rattle.lists.specs.Lists.{member}
 use Rattle.bits.specs.Digits.{bytesOf}
 use Rattle.bits.proofs.Digits.{length-digits}
-use Rattle.position_format.specs.Rows.{rows}
-use Rattle.position_format.specs.Positions.{codedPositions}
-use Rattle.position_format.proofs.Sizes.{rows-size}
+use Rattle.position_format.specs.declared.Form.{Form}
+use Rattle.position_format.specs.declared.Form.the-variants.{Old, Wide}
+use Rattle.position_format.specs.Positions.{codedPositions, validPositions}
+use Rattle.position_format.specs.Tables.{tableOf, pointsOf}
+use Rattle.position_format.proofs.Sizes.{form-size}
 use Rattle.ratio_format.specs.Windows.{windowSize}
 use Rattle.ratio_format.specs.Bodies.{codedRatios}
 use Rattle.ratio_format.proofs.Bodies.{nine-bytes}
-use Rattle.record_format.specs.Fields.{Field, fieldOf, laid}
-use Rattle.record_format.specs.Runs.{Run, rateTag, countTag, positionsTag, ratiosTag, rateSize, sideSize, countSize, sideFields, sideLength, recordOf}
-use Rattle.record_format.specs.Sizes.{minRecord}
+use Rattle.record_format.specs.Fields.{Field, fieldOf, maxBody, laid}
+use Rattle.record_format.specs.Runs.{Run, rateTag, countTag, positionsTag, formOf, ratiosTag, rateSize, sideSize, countSize, sideFields, sideLength, recordOf}
+use Rattle.record_format.specs.Sizes.{minRecord, maxPositionsBody, maxRatiosBody}
 use Rattle.record_format.proofs.Fields.{Small, length-laid, laid-append, small-append}
 use Rattle.record_format.proofs.Writing.{Fitting}
+
+-- ---- the forms and their tags
+
+pub form-of : (f : Form) → formOf (positionsTag f) ≡ f
+form-of Old = refl
+form-of Wide = refl
+
+-- the tag of either form is good
+pub tag-good : (f : Form) → member (positionsTag f) (positionsTag Old ∷ positionsTag Wide ∷ []) ≡ true
+unfolding member
+tag-good Old = refl
+tag-good Wide = refl
+
+-- and a good tag is that of the form that it names
+pub tag-named : (t : ℕ) → member t (positionsTag Old ∷ positionsTag Wide ∷ []) ≡ true → member t (positionsTag (formOf t) ∷ []) ≡ true
+unfolding member
+tag-named t e = go (eqb t (positionsTag Wide)) refl (eqb t (positionsTag Old)) refl
+  where
+    go : (b : Bool) → eqb t (positionsTag Wide) ≡ b → (c : Bool) → eqb t (positionsTag Old) ≡ c → member t (positionsTag (formOf t) ∷ []) ≡ true
+    go true q c u = rw (q, q)
+    go false q true u = rw (q, u)
+    go false q false u = absurd (false≢true (rw (q, u) at e))
 
 -- ---- its fields: the rate's, the side's if there is one, and those past it
 
@@ -26,7 +53,7 @@ rateField r = fieldOf rateTag (bytesOf rateSize (r .rate))
 abbrev pub pointFields : Run → List Field
 pointFields r =
     fieldOf countTag (bytesOf countSize (length (r .positions)))
-    ∷ fieldOf positionsTag (codedPositions rows (r .positions))
+    ∷ fieldOf (positionsTag (r .form)) (codedPositions (tableOf (r .form)) (r .positions))
     ∷ fieldOf ratiosTag (codedRatios (r .ratios))
     ∷ []
 
@@ -58,27 +85,40 @@ pub length-side : (n : ℕ) → length (laid (sideFields n)) ≡ sideLength n
 length-side zero = length-laid []
 length-side (suc n) = length-laid (sideFields (suc n)) ∙ omega (arith, length-digits 256 sideSize (suc n))
 
-side-small : (n : ℕ) → Small (sideFields n)
+pub side-small : (n : ℕ) → Small (sideFields n)
 side-small zero = tt
 side-small (suc n) = (omega (arith, length-digits 256 sideSize (suc n)), tt)
 
 -- ---- its length
 
-module _ (r : Run) (fit : Fitting r) where
-  pub positions-size : length (codedPositions rows (r .positions)) ≤ 18439
-  positions-size = rows-size (r .positions) (fit .valid) (fit .few)
+-- the most bytes of the positions in a form
+pub coded-size : (f : Form) (ts : List ℕ) → validPositions (tableOf f) ts ≡ true → length ts ≤ pointsOf f → length (codedPositions (tableOf f) ts) ≤ maxPositionsBody f
+coded-size Old ts v h = form-size Old ts v h
+coded-size Wide ts v h = form-size Wide ts v h
 
-  pub ratios-size : length (codedRatios (r .ratios)) ≤ 36864
+-- and the length of each body takes two bytes
+pub form-bodies : (f : Form) → (maxPositionsBody f ≤ maxBody) × (maxRatiosBody f ≤ maxBody)
+form-bodies Old = (lit≤ tt, lit≤ tt)
+form-bodies Wide = (lit≤ tt, lit≤ tt)
+
+module _ (r : Run) (fit : Fitting r) where
+  pub positions-size : length (codedPositions (tableOf (r .form)) (r .positions)) ≤ maxPositionsBody (r .form)
+  positions-size = coded-size (r .form) (r .positions) (fit .valid) (fit .few)
+
+  pub ratios-size : length (codedRatios (r .ratios)) ≤ maxRatiosBody (r .form)
   ratios-size = omega (arith, nine-bytes windowSize [] (r .ratios), fit .paired, fit .few)
+
+  pub bodies-small : (length (codedPositions (tableOf (r .form)) (r .positions)) ≤ maxBody) × (length (codedRatios (r .ratios)) ≤ maxBody)
+  bodies-small = let m = form-bodies (r .form) in (omega (arith, positions-size, m .0), omega (arith, ratios-size, m .1))
 
   pub fields-small : Small (flatFields r)
   fields-small = (
     omega (arith, length-digits 256 rateSize (r .rate)),
     small-append (sideFields (r .side)) (pointFields r) (side-small (r .side))
-        (omega (arith, length-digits 256 countSize (length (r .positions))), (omega (arith, positions-size), (omega (arith, ratios-size), tt))),
+        (omega (arith, length-digits 256 countSize (length (r .positions))), (bodies-small .0, (bodies-small .1, tt))),
   )
 
-pub length-record : (r : Run) → length (recordOf r) ≡ minRecord + sideLength (r .side) + length (codedPositions rows (r .positions)) + length (codedRatios (r .ratios))
+pub length-record : (r : Run) → length (recordOf r) ≡ minRecord + sideLength (r .side) + length (codedPositions (tableOf (r .form)) (r .positions)) + length (codedRatios (r .ratios))
 length-record r =
     ap length (record-flat r ∙ laid-append (rateField r ∷ sideFields (r .side)) (pointFields r))
     ∙ length-append (laid (rateField r ∷ sideFields (r .side))) (laid (pointFields r))

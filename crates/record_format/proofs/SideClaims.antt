@@ -7,10 +7,10 @@ use mathlib.Core.Option.{Option, none, some}
 use Prim.Native.Nat.{ℕ, _+_, _-_, _^_, _≤_, _<_}
 use native.Mathlib.Nat.{add-zero}
 use native.Mathlib.Omega.{arith}
-use borrow.Author.Tests.{eqb-false, ne-eqb, ltb-true, ltb-false, lt-ltb, le-ltb, le-leb, lt-leb}
+use borrow.Author.Tests.{eqb-false, eq-eqb, ne-eqb, ltb-true, ltb-false, lt-ltb, le-ltb, le-leb, lt-leb}
 use lib.Dec.{ltb, eqb, lit<}
 use lib.ListN.{length, take, drop, getD, length-append}
-use lib.Seq.{take-at, drop-append-add, getD-drop, getD-append-add}
+use lib.Seq.{drop-append-add, getD-drop, getD-append-add}
 use Rattle.lists.specs.Compare.{both}
 use Rattle.lists.specs.Lists.{member}
 use Rattle.bits.specs.Digits.{bytesOf, numberOf}
@@ -23,13 +23,15 @@ use Rattle.limits.proofs.Sides.{side-in}
 use Rattle.refusals.specs.declared.Refusal.{Refusal}
 use Rattle.refusals.specs.Tests.{Test, test, firstOf, refused}
 use Rattle.refusals.proofs.Tests.{first-here, first-skip}
-use Rattle.position_format.specs.Rows.{rows}
+use Rattle.position_format.specs.declared.Form.{Form}
+use Rattle.position_format.specs.declared.Form.the-variants.{Old, Wide}
 use Rattle.position_format.specs.Positions.{readPositions}
-use Rattle.record_format.specs.Fields.{Field, fieldOf, headSize, tagAt, lengthAt, bodyAt, nextAt, fieldTests}
-use Rattle.record_format.specs.Runs.{rateTag, sideTag, countTag, positionsTag, ratiosTag, rateSize, sideSize, countSize}
-use Rattle.record_format.specs.Reading.{Answer, refusalAnswer, recordAnswer, readTests, readWith, rateAt, sideAt, hasSide, countAt, positionsAt, ratiosAt, endAt, rateIn, sideIn, countIn, positionsIn, ratiosIn, otherRate, lacksRoom, missing, codedTests, sideTests, countTests, roomTests, positionsTests, ratiosTests}
-use Rattle.record_format.specs.SideClaims.{rateBytes, sideBytes, Expects, refusedBy, RateFirst, HeadCut, TagRefused, LengthRefused, BodyCut, SideRefused, moved, SideMoves}
-use Rattle.record_format.proofs.Fields.{FieldStands, length-field, stands}
+use Rattle.position_format.specs.Tables.{tableOf, pointsOf}
+use Rattle.record_format.specs.Fields.{Field, fieldOf, headSize, tagAt, lengthAt, bodyAt, nextAt, headTests, lengthTests, bodyTests, fieldTests}
+use Rattle.record_format.specs.Runs.{rateTag, sideTag, countTag, positionsTag, formOf, ratiosTag, rateSize, sideSize, countSize}
+use Rattle.record_format.specs.Reading.{Answer, refusalAnswer, recordAnswer, readTests, readWith, rateAt, sideAt, hasSide, countAt, positionsAt, ratiosAt, endAt, rateIn, sideIn, countIn, formIn, positionsIn, ratiosIn, otherRate, lacksRoom, missing, contentsTests, sideTests, countTests, roomTests, manyTests, positionsTests, ratiosTests}
+use Rattle.record_format.specs.SideClaims.{rateBytes, sideBytes, Expects, refusedBy, RateFirst, HeadCut, TagRefused, LengthRefused, BodyCut, SideRefused, CountRefused, moved, SideMoves}
+use Rattle.record_format.proofs.Fields.{FieldStands, length-field, stands, head-stands}
 use Rattle.record_format.proofs.Reading.{refusal, head-short, tag-other, length-other, body-short, field-passes, tests-flat, answer-refused}
 use Rattle.record_format.proofs.Sides.{absent-count, absent-tests, present-count, present-side, present-tests}
 use Rattle.record_format.proofs.Claims.{no-other, other-none}
@@ -139,45 +141,83 @@ module _ (k : ℕ → List ℕ → Option (List ℕ)) (e r : ℕ) (rest ts vs : 
         (not-one _ _ (λ z. two (sym tag-rest ∙ ap (tagAt s) (sym at) ∙ z))))
         ∙ ap (refusal 11) (at ∙ at-side))
 
-    -- a side's tag and a length
-    module _ (l : ℕ) (t : List ℕ) (is : rest ≡ (6 ∷ bytesOf 2 l) ++ t) (small : l < 256 ^ 2) where
-      six : tagAt s (sideAt s) ≡ 6
-      unfolding tagAt
-      six = tag-rest ∙ ap (λ (x : List ℕ). getD x 0 0) is
+    -- a tag and a length
+    module _ (tag l : ℕ) (t : List ℕ) (is : rest ≡ (tag ∷ bytesOf 2 l) ++ t) (small : l < 256 ^ 2) where
+      headed : (tagAt s (sideAt s) ≡ tag) × (lengthAt s (sideAt s) ≡ l)
+      headed =
+          subst (λ (p : ℕ). (tagAt s p ≡ tag) × (lengthAt s p ≡ l)) (length-rate ∙ sym at-side)
+          (subst (λ (x : List ℕ). (tagAt (rateBytes r ++ x) (length (rateBytes r)) ≡ tag) × (lengthAt (rateBytes r ++ x) (length (rateBytes r)) ≡ l)) (sym is)
+          (head-stands (rateBytes r) tag l t small))
 
-      long : 3 ≤ length rest
-      long = omega (arith, ap length is, length-append (6 ∷ bytesOf 2 l) t, length-digits 256 2 l)
+      tag-is : tagAt s (sideAt s) ≡ tag
+      tag-is = headed .0
+
+      stated : lengthAt s (sideAt s) ≡ l
+      stated = headed .1
+
+      long : length rest ≡ 3 + length t
+      long = ap length is ∙ omega (arith, length-append (tag ∷ bytesOf 2 l) t, length-digits 256 2 l)
 
       head : sideAt s + headSize ≤ length s
       head = omega (arith, at-side, length-all, long)
 
-      tagged : member (tagAt s (sideAt s)) (sideTag ∷ []) ≡ true
+      tagged : member (tagAt s (sideAt s)) (tag ∷ []) ≡ true
       unfolding member
-      tagged = ap (λ (x : ℕ). member x (sideTag ∷ [])) six
+      tagged = rw tag-is (ap (λ (b : Bool). cond b true false) (eq-eqb tag tag refl))
 
-      stated : lengthAt s (sideAt s) ≡ l
-      unfolding lengthAt
-      stated =
-          ap (λ (p : ℕ). numberOf 256 (take 2 (drop (p + 1) s))) at-side
-          ∙ ap (λ (x : List ℕ). numberOf 256 (take 2 x)) (rest-from 1 ∙ ap (drop 1) is)
-          ∙ ap (numberOf 256) (take-at (bytesOf 2 l) t 2 (length-digits 256 2 l)) ∙ number-digits-lt (lit< tt) 2 small
+      -- the body is cut
+      short : length t < l → length s < nextAt s (sideAt s)
+      unfolding nextAt
+      short h = omega (arith, at-side, stated, length-all, long)
 
-      -- the tests of its field decide
+    -- a side's: the tests of its field decide
+    module _ (l : ℕ) (t : List ℕ) (is : rest ≡ (6 ∷ bytesOf 2 l) ++ t) (small : l < 256 ^ 2) where
       past-tag : firstOf tests ≡ firstOf (fieldTests s (sideTag ∷ []) (some sideSize) (sideAt s) ++ (test (not (isSide (numberOf 256 (bodyAt s (sideAt s))))) 20 (sideAt s) ∷ from-count))
-      past-tag = past-rate ∙ ap (λ (l : List Test). firstOf (l ++ from-count)) (present-tests s (ap (λ (x : ℕ). eqb x sideTag) six))
+      past-tag = past-rate ∙ ap (λ (l : List Test). firstOf (l ++ from-count)) (present-tests s (ap (λ (x : ℕ). eqb x sideTag) (tag-is 6 l t is small)))
 
       twelve : (l ≡ 1 → ⊥) → readWith k e s ts vs ≡ refusedBy 12 7 ts vs
       twelve d =
           refuses 12 7 (λ z. omega arith)
-          (past-tag ∙ sym (length-other s (sideTag ∷ []) (some sideSize) (sideAt s) _ head tagged 1 refl (λ z. d (sym stated ∙ z))) ∙ ap (refusal 12) at-side)
+          (past-tag
+          ∙ sym (length-other s (sideTag ∷ []) (some sideSize) (sideAt s) _ (head 6 l t is small) (tagged 6 l t is small) 1 refl (λ z. d (sym (stated 6 l t is small) ∙ z)))
+          ∙ ap (refusal 12) at-side)
 
       ten-body : l ≡ 1 → t ≡ [] → readWith k e s ts vs ≡ refusedBy 10 7 ts vs
-      unfolding nextAt
       ten-body one empty =
-          let short : length s < nextAt s (sideAt s) =
-          omega (arith, at-side, stated, length-all, ap length is, length-append (6 ∷ bytesOf 2 l) t, length-digits 256 2 l, ap length empty) in
           refuses 10 7 (λ z. omega arith)
-          (past-tag ∙ sym (body-short s (sideTag ∷ []) (some sideSize) (sideAt s) _ head tagged (stated ∙ one) short) ∙ ap (refusal 10) at-side)
+          (past-tag
+          ∙ sym
+          (body-short s (sideTag ∷ []) (some sideSize) (sideAt s) _ (head 6 l t is small) (tagged 6 l t is small) (stated 6 l t is small ∙ one)
+          (short 6 l t is small (omega (arith, ap length empty))))
+          ∙ ap (refusal 10) at-side)
+
+    -- a count's: there is no side, and the tests of the count's field decide
+    module _ (l : ℕ) (t : List ℕ) (is : rest ≡ (2 ∷ bytesOf 2 l) ++ t) (small : l < 256 ^ 2) where
+      no-side : hasSide s ≡ false
+      no-side = ap (λ (x : ℕ). eqb x sideTag) (tag-is 2 l t is small)
+
+      here : countAt s ≡ sideAt s
+      here = absent-count s no-side
+
+      -- they are made at the side's offset
+      count-decides : firstOf tests ≡ firstOf (fieldTests s (countTag ∷ []) (some countSize) (sideAt s) ++ (test (ltb maxPoints (countIn s)) 15 (countAt s) ∷ (roomTests s (length ts) (length vs) ++ (positionsTests s ++ ratiosTests k s))))
+      count-decides =
+          past-absent no-side
+          ∙ ap (λ (p : ℕ). firstOf (fieldTests s (countTag ∷ []) (some countSize) p ++ (test (ltb maxPoints (countIn s)) 15 (countAt s) ∷ (roomTests s (length ts) (length vs) ++ (positionsTests s ++ ratiosTests k s))))) here
+
+      twelve-count : (l ≡ 2 → ⊥) → readWith k e s ts vs ≡ refusedBy 12 7 ts vs
+      twelve-count d =
+          refuses 12 7 (λ z. omega arith)
+          (count-decides
+          ∙ sym (length-other s (countTag ∷ []) (some countSize) (sideAt s) _ (head 2 l t is small) (tagged 2 l t is small) 2 refl (λ z. d (sym (stated 2 l t is small) ∙ z)))
+          ∙ ap (refusal 12) at-side)
+
+      ten-count : l ≡ 2 → length t < 2 → readWith k e s ts vs ≡ refusedBy 10 7 ts vs
+      ten-count two h =
+          refuses 10 7 (λ z. omega arith)
+          (count-decides
+          ∙ sym (body-short s (countTag ∷ []) (some countSize) (sideAt s) _ (head 2 l t is small) (tagged 2 l t is small) (stated 2 l t is small ∙ two) (short 2 l t is small (omega arith)))
+          ∙ ap (refusal 10) at-side)
 
 pub rate-first : RateFirst
 rate-first k e r rest ts vs small = (thirteen k e r rest ts vs small, fourteen k e r rest ts vs small)
@@ -264,6 +304,10 @@ ltb-same a b c d f g = go (ltb a b) refl
     go true e = lt-ltb c d (f (ltb-true a b e))
     go false e = le-ltb c d (g (ltb-false a b e))
 
+-- two lists of tests, one after the other
+both-moved : {a b : List Test} (c d : List Test) → a ≡ map further c → b ≡ map further d → a ++ b ≡ map further (c ++ d)
+both-moved c d e f = ap₂ (λ (x y : List Test). x ++ y) e f ∙ sym (map-append further c d)
+
 -- the bytes t have from each offset on, four bytes further on, what s has there
 module _ (s t : List ℕ) (long : length t ≡ length s + 4) (same : (p : ℕ) → 7 ≤ p → drop (p + 4) t ≡ drop p s) where
   module _ (p : ℕ) (h : 7 ≤ p) where
@@ -289,30 +333,36 @@ module _ (s t : List ℕ) (long : length t ≡ length s + 4) (same : (p : ℕ) �
     unfolding nextAt
     next-moved = omega (arith, length-moved)
 
+    heads-moved : (tags : List ℕ) → headTests t tags (p + 4) ≡ map further (headTests s tags p)
+    heads-moved tags =
+        ap₂ (λ (b : Bool) (x : ℕ). test b 10 (p + 4) ∷ test (not (member x tags)) 11 (p + 4) ∷ [])
+        (ltb-same (length s) (p + headSize) (length t) (p + 4 + headSize) (λ z. omega arith) (λ z. omega arith)) tag-moved
+
+    lengths-moved : (n : Option ℕ) → lengthTests t n (p + 4) ≡ map further (lengthTests s n p)
+    lengths-moved none = refl
+    lengths-moved (some j) = ap (λ (x : ℕ). test (not (eqb x j)) 12 (p + 4) ∷ []) length-moved
+
+    bodies-moved : bodyTests t (p + 4) ≡ map further (bodyTests s p)
+    bodies-moved =
+        ap (λ (b : Bool). test b 10 (p + 4) ∷ [])
+        (ltb-same (length s) (nextAt s p) (length t) (nextAt t (p + 4)) (λ z. omega (arith, next-moved)) (λ z. omega (arith, next-moved)))
+
     fields-moved : (tags : List ℕ) (n : Option ℕ) → fieldTests t tags n (p + 4) ≡ map further (fieldTests s tags n p)
-    fields-moved tags n = go n
-      where
-        head : ltb (length t) (p + 4 + headSize) ≡ ltb (length s) (p + headSize)
-        head = ltb-same (length s) (p + headSize) (length t) (p + 4 + headSize) (λ z. omega arith) (λ z. omega arith)
-
-        whole : ltb (length t) (nextAt t (p + 4)) ≡ ltb (length s) (nextAt s p)
-        whole = ltb-same (length s) (nextAt s p) (length t) (nextAt t (p + 4)) (λ z. omega (arith, next-moved)) (λ z. omega (arith, next-moved))
-
-        two : test (ltb (length t) (p + 4 + headSize)) 10 (p + 4) ∷ test (not (member (tagAt t (p + 4)) tags)) 11 (p + 4) ∷ []
-            ≡ test (ltb (length s) (p + headSize)) 10 (p + 4) ∷ test (not (member (tagAt s p) tags)) 11 (p + 4) ∷ []
-        two = ap₂ (λ (b : Bool) (x : ℕ). test b 10 (p + 4) ∷ test (not (member x tags)) 11 (p + 4) ∷ []) head tag-moved
-
-        go : (m : Option ℕ) → fieldTests t tags m (p + 4) ≡ map further (fieldTests s tags m p)
-        go none = ap₂ (λ (l : List Test) (b : Bool). l ++ (test b 10 (p + 4) ∷ [])) two whole
-        go (some j) =
-            ap₂ (λ (l : List Test) (b : Bool). l ++ (test (not (eqb (lengthAt t (p + 4)) j)) 12 (p + 4) ∷ test b 10 (p + 4) ∷ [])) two whole
-            ∙ ap (λ (x : ℕ). test (ltb (length s) (p + headSize)) 10 (p + 4) ∷ test (not (member (tagAt s p) tags)) 11 (p + 4) ∷ test (not (eqb x j)) 12 (p + 4) ∷ test (ltb (length s) (nextAt s p)) 10 (p + 4) ∷ []) length-moved
+    fields-moved tags n =
+        both-moved (headTests s tags p) (lengthTests s n p ++ bodyTests s p) (heads-moved tags)
+        (both-moved (lengthTests s n p) (bodyTests s p) (lengths-moved n) bodies-moved)
 
     -- with a test of the contents
     contents-moved : (tags : List ℕ) (n : Option ℕ) (a b : Bool) (x : ℕ) → a ≡ b
         → fieldTests t tags n (p + 4) ++ (test a x (p + 4) ∷ []) ≡ map further (fieldTests s tags n p ++ (test b x p ∷ []))
     contents-moved tags n a b x e =
-        ap₂ (λ (l : List Test) (c : Bool). l ++ (test c x (p + 4) ∷ [])) (fields-moved tags n) e ∙ sym (map-append further (fieldTests s tags n p) (test b x p ∷ []))
+        both-moved (fieldTests s tags n p) (test b x p ∷ []) (fields-moved tags n) (ap (λ (c : Bool). test c x (p + 4) ∷ []) e)
+
+    -- the body of coded numbers, where the reading of it is the same
+    coded-moved : (j k : List ℕ → Option (List ℕ)) (x : ℕ) → j ≡ k → contentsTests t j x (p + 4) ≡ map further (contentsTests s k x p)
+    coded-moved j k x e =
+        both-moved (bodyTests s p) (test (missing (k (bodyAt s p))) x p ∷ []) bodies-moved
+        (ap (λ (o : Option (List ℕ)). test (missing o) x (p + 4) ∷ []) (ap₂ (λ (f : List ℕ → Option (List ℕ)) (b : List ℕ). f b) e body-moved))
 
   -- the fields from the count's on
   module _ (k : ℕ → List ℕ → Option (List ℕ)) (m n : ℕ) (c : countAt s ≡ 7) (at : countAt t ≡ countAt s + 4) where
@@ -335,8 +385,17 @@ module _ (s t : List ℕ) (long : length t ≡ length s + 4) (same : (p : ℕ) �
     count-same : countIn t ≡ countIn s
     count-same = ap (numberOf 256) (ap (bodyAt t) at ∙ body-moved (countAt s) (omega arith))
 
+    late-positions : 7 ≤ positionsAt s
+    late-positions = next-late (countAt s) (omega arith)
+
+    form-same : formIn t ≡ formIn s
+    form-same = ap formOf (ap (tagAt t) at-positions ∙ tag-moved (positionsAt s) late-positions)
+
+    reading-same : readPositions (tableOf (formIn t)) (countIn t) ≡ readPositions (tableOf (formIn s)) (countIn s)
+    reading-same = ap₂ (λ (f : Form) (c : ℕ). readPositions (tableOf f) c) form-same count-same
+
     positions-same : positionsIn t ≡ positionsIn s
-    positions-same = ap₂ (readPositions rows) count-same (ap (bodyAt t) at-positions ∙ body-moved (positionsAt s) (next-late (countAt s) (omega arith)))
+    positions-same = ap₂ (λ (f : List ℕ → Option (List ℕ)) (b : List ℕ). f b) reading-same (ap (bodyAt t) at-positions ∙ body-moved (positionsAt s) late-positions)
 
     ratios-same : ratiosIn k t ≡ ratiosIn k s
     ratios-same = ap₂ k count-same (ap (bodyAt t) at-ratios ∙ body-moved (ratiosAt s) late-ratios)
@@ -349,23 +408,31 @@ module _ (s t : List ℕ) (long : length t ≡ length s + 4) (same : (p : ℕ) �
     room-moved : roomTests t m n ≡ map further (roomTests s m n)
     room-moved = ap₂ (λ (x p : ℕ). test (lacksRoom m n x) 16 p ∷ []) count-same at
 
+    many-moved : manyTests t ≡ map further (manyTests s)
+    many-moved =
+        ap₂ (λ (f : Form) (c : ℕ). test (ltb (pointsOf f) c) 15 (countAt t) ∷ []) form-same count-same
+        ∙ ap (λ (p : ℕ). test (ltb (pointsOf (formIn s)) (countIn s)) 15 p ∷ []) at
+
+    abbrev good : List ℕ
+    good = positionsTag Old ∷ positionsTag Wide ∷ []
+
     positions-moved : positionsTests t ≡ map further (positionsTests s)
     positions-moved =
-        ap (codedTests t (positionsTag ∷ []) (readPositions rows (countIn t)) 17) at-positions
-        ∙ contents-moved (positionsAt s) (next-late (countAt s) (omega arith)) (positionsTag ∷ []) none _ _ 17
-        (ap missing (ap₂ (readPositions rows) count-same (body-moved (positionsAt s) (next-late (countAt s) (omega arith)))))
+        let read = readPositions (tableOf (formIn s)) (countIn s) in
+        both-moved (headTests s good (positionsAt s)) (manyTests s ++ contentsTests s read 17 (positionsAt s)) (ap (headTests t good) at-positions ∙ heads-moved (positionsAt s) late-positions good)
+        (both-moved (manyTests s) (contentsTests s read 17 (positionsAt s)) many-moved
+        (ap (contentsTests t (readPositions (tableOf (formIn t)) (countIn t)) 17) at-positions
+        ∙ coded-moved (positionsAt s) late-positions (readPositions (tableOf (formIn t)) (countIn t)) read 17 reading-same))
 
     ratios-moved : ratiosTests k t ≡ map further (ratiosTests k s)
     ratios-moved =
-        ap (codedTests t (ratiosTag ∷ []) (k (countIn t)) 18) at-ratios
-        ∙ contents-moved (ratiosAt s) late-ratios (ratiosTag ∷ []) none _ _ 18 (ap missing (ap₂ k count-same (body-moved (ratiosAt s) late-ratios)))
+        both-moved (headTests s (ratiosTag ∷ []) (ratiosAt s)) (contentsTests s (k (countIn s)) 18 (ratiosAt s)) (ap (headTests t (ratiosTag ∷ [])) at-ratios ∙ heads-moved (ratiosAt s) late-ratios (ratiosTag ∷ []))
+        (ap (contentsTests t (k (countIn t)) 18) at-ratios ∙ coded-moved (ratiosAt s) late-ratios (k (countIn t)) (k (countIn s)) 18 (ap k count-same))
 
     all-moved : countTests t ++ (roomTests t m n ++ (positionsTests t ++ ratiosTests k t)) ≡ map further (countTests s ++ (roomTests s m n ++ (positionsTests s ++ ratiosTests k s)))
     all-moved =
-        ap₂ (λ (a b : List Test). a ++ b) count-moved
-        (ap₂ (λ (a b : List Test). a ++ b) room-moved (ap₂ (λ (a b : List Test). a ++ b) positions-moved ratios-moved ∙ sym (map-append further (positionsTests s) (ratiosTests k s)))
-        ∙ sym (map-append further (roomTests s m n) (positionsTests s ++ ratiosTests k s)))
-        ∙ sym (map-append further (countTests s) (roomTests s m n ++ (positionsTests s ++ ratiosTests k s)))
+        both-moved (countTests s) (roomTests s m n ++ (positionsTests s ++ ratiosTests k s)) count-moved
+        (both-moved (roomTests s m n) (positionsTests s ++ ratiosTests k s) room-moved (both-moved (positionsTests s) (ratiosTests k s) positions-moved ratios-moved))
 
 -- an answer by its refusal, moved
 answer-moved : (d : ℕ) (f g : Refusal) → Further f g → (a b : Answer) → b ≡ moved d a → (ts vs : List ℕ)
@@ -458,6 +525,7 @@ module _ (k : ℕ → List ℕ → Option (List ℕ)) (e r d : ℕ) (rest ts vs 
         let u = at-end without with-side longer same-past k (length ts) (length vs) count-seven count-at in
         let p = positions-same without with-side longer same-past k (length ts) (length vs) count-seven count-at in
         let q = ratios-same without with-side longer same-past k (length ts) (length vs) count-seven count-at in
+        let f = form-same without with-side longer same-past k (length ts) (length vs) count-seven count-at in
         cc
 
     moves : readWith k e with-side ts vs ≡ moved d (readWith k e without ts vs)
@@ -466,6 +534,19 @@ module _ (k : ℕ → List ℕ → Option (List ℕ)) (e r d : ℕ) (rest ts vs 
 
 pub side-moves : SideMoves
 side-moves k e r d rest ts vs listed o low high other = moves k e r d rest ts vs listed o low high other
+
+pub count-refused : CountRefused
+unfolding tagAt
+count-refused k e r l rest ts vs listed o small =
+    let count = (2 ∷ bytesOf 2 l) ++ rest in
+    let other : (tagAt count 0 ≡ 6 → ⊥) = λ z. omega arith in (
+      λ d.
+          let h = twelve-count k e r count ts vs listed o l rest refl small d in
+          (h, λ n low high. side-moves k e r n count ts vs listed o low high other ∙ ap (moved n) h),
+      λ two cut.
+          let h = ten-count k e r count ts vs listed o l rest refl small two cut in
+          (h, λ n low high. side-moves k e r n count ts vs listed o low high other ∙ ap (moved n) h),
+    )
 
 pub head-cut : HeadCut
 head-cut k e r rest ts vs listed o h = (ten k e r rest ts vs listed o h, λ d low high. ten-past k e r d rest ts vs listed o low high h)

@@ -1,7 +1,7 @@
 -- The bounds on the sizes of a record and of its bodies, and that both bounds on the record are reached.
 use mathlib.Core.Bool.{true}
 use mathlib.Core.List.{[]}
-use mathlib.Core.Path.{_≡_, refl, ap₂, _∙_}
+use mathlib.Core.Path.{_≡_, refl, ap, ap₂, _∙_}
 use Prim.Native.Nat.{ℕ, zero, suc, _+_, _≤_}
 use native.Mathlib.Omega.{arith}
 use lib.Dec.{lit≤}
@@ -10,8 +10,10 @@ use Rattle.lists.specs.Below.{Below}
 use Rattle.bits.specs.Packing.{eights, pack}
 use Rattle.limits.specs.Rates.{isRate}
 use Rattle.limits.specs.Sides.{maxSide}
-use Rattle.position_format.specs.Rows.{rows}
+use Rattle.position_format.specs.declared.Form.{Form}
+use Rattle.position_format.specs.declared.Form.the-variants.{Old, Wide}
 use Rattle.position_format.specs.Positions.{positionBits, codedPositions}
+use Rattle.position_format.specs.Tables.{tableOf}
 use Rattle.position_format.proofs.Valid.{valid-none}
 use Rattle.ratio_format.specs.Bodies.{codedFrom}
 use Rattle.record_format.specs.Runs.{run, sideLength, recordOf}
@@ -21,10 +23,12 @@ use Rattle.record_format.proofs.Writing.{accepted-fits, fitting-accepte
 use Rattle.record_format.proofs.Runs.{positions-size, ratios-size, length-record}
 use Rattle.record_format.proofs.Longest.{longest-positions, longest-ratios, longest-accepted}
 
--- the longest on a side, and on none
-side-longest : (d : ℕ) → longestOn d ≤ maxRecord
-side-longest zero = lit≤ tt
-side-longest (suc d) = lit≤ tt
+-- the longest in either form, on a side and on none
+form-longest : (f : Form) (d : ℕ) → longestOn f d ≤ maxRecord
+form-longest Old zero = lit≤ tt
+form-longest Old (suc d) = lit≤ tt
+form-longest Wide zero = lit≤ tt
+form-longest Wide (suc d) = lit≤ tt
 
 pub within : Within
 within r a =
@@ -32,30 +36,48 @@ within r a =
     let n = length-record r in
     let p = positions-size r f in
     let v = ratios-size r f in
-    let m = side-longest (r .side) in
+    let m = form-longest (r .form) (r .side) in
     (omega arith, omega arith, omega arith, p, v)
 
-no-bytes : (rate side : ℕ) → length (recordOf (run rate side [] [])) ≡ minRecord + sideLength side
+no-bytes : (rate side : ℕ) (form : Form) → length (recordOf (run rate side form [] [])) ≡ minRecord + sideLength side
 unfolding eights pack positionBits codedPositions codedFrom
-no-bytes rate side = length-record (run rate side [] []) ∙ omega arith
+no-bytes rate side form = length-record (run rate side form [] []) ∙ omega arith
 
-none-accepted : (rate side : ℕ) → isRate rate ≡ true → side ≤ maxSide → Accepted (run rate side [] [])
+none-accepted : (rate side : ℕ) (form : Form) → isRate rate ≡ true → side ≤ maxSide → Accepted (run rate side form [] [])
 unfolding Below
-none-accepted rate side e h = record {
+none-accepted rate side form e h = record {
   words = tt;
-  passes = fitting-accepted (run rate side [] []) (record { listed = e; sided = h; paired = refl; few = lit≤ tt; valid = valid-none rows });
+  passes = fitting-accepted (run rate side form [] []) (record { listed = e; sided = h; paired = refl; few = omega arith; valid = valid-none (tableOf form) });
 }
 
 pub no-points : NoPoints
-no-points rate side = (no-bytes rate side, none-accepted rate side)
+no-points rate side form = (no-bytes rate side form, none-accepted rate side form)
 
--- the longest run on a side
-unfolds-side : (d : ℕ) → longest d .side ≡ d
+-- the longest run in a form and on a side
+longest-side : (f : Form) (d : ℕ) → longest f d .side ≡ d
 unfolding longest
-unfolds-side d = refl
+longest-side f d = refl
 
-on-side : (d : ℕ) → length (recordOf (longest d)) ≡ longestOn d
-on-side d = length-record (longest d) ∙ ap₂ (λ (x y : ℕ). x + y) (ap₂ (λ (x y : ℕ). minRecord + sideLength x + y) (unfolds-side d) (longest-positions d)) (longest-ratios d)
+longest-form : (f : Form) (d : ℕ) → longest f d .form ≡ f
+unfolding longest
+longest-form f d = refl
+
+on-side : (f : Form) (d : ℕ) → length (recordOf (longest f d)) ≡ longestOn f d
+on-side f d =
+    length-record (longest f d)
+    ∙ ap₂ (λ (x y : ℕ). x + y)
+    (ap₂ (λ (x y : ℕ). minRecord + sideLength x + y) (longest-side f d)
+    (ap (λ (x : Form). length (codedPositions (tableOf x) (longest f d .positions))) (longest-form f d) ∙ longest-positions f d))
+    (longest-ratios f d)
 
 pub reached : Reached
-reached = (λ d h. (longest-accepted d h, on-side d), on-side 0, on-side maxSide, refl)
+reached = (
+  λ f d h. (longest-accepted f d h, on-side f d, longest-positions f d),
+  on-side Old 0,
+  on-side Old maxSide,
+  on-side Wide 0,
+  on-side Wide maxSide,
+  refl,
+  refl,
+  refl,
+)

@@ -6,24 +6,27 @@ use mathlib.Core.List.{List, [], _∷_, _++_}
 use Prim.Native.Nat.{ℕ, _≤_, _<_}
 use native.Mathlib.Omega.{arith}
 use borrow.Author.Tests.{eqb-true, eq-eqb, ltb-false, le-ltb, not-false, not-true, ne-eqb, lt-ltb}
-use lib.IntN.{ℤ}
-use lib.Dec.{eqb, lit<}
+use lib.Dec.{ltb, eqb, lit<}
 use lib.ListN.{length, drop}
 use Rattle.refusals.specs.declared.Refusal.{Refusal}
-use Rattle.lists.specs.Lists.{firstIndex}
 use Rattle.limits.specs.Rates.{isRate}
 use Rattle.limits.specs.Points.{maxPoints, tooHigh, firstHigh}
 use Rattle.limits.specs.Sides.{maxSide}
 use Rattle.refusals.specs.Tests.{firstOf, test}
 use Rattle.lists.proofs.Lists.{first-le}
-use Rattle.refusals.proofs.Tests.{first-clear, first-skip, first-end, first-here, first-append-none, first-append-some}
-use Rattle.lists.proofs.Compare.{both-true}
+use Rattle.refusals.proofs.Tests.{numbered, first-clear, first-skip, first-end, first-here, first-append-none, first-append-some}
+use Rattle.position_format.specs.declared.Form.{Form}
+use Rattle.position_format.specs.declared.Form.the-variants.{Old, Wide}
 use Rattle.position_format.specs.Rows.{rows}
 use Rattle.position_format.specs.Steps.{steps, outside, firstOutside}
 use Rattle.position_format.specs.Positions.{validPositions}
+use Rattle.position_format.specs.Tables.{tableOf, pointsOf}
 use Rattle.position_format.proofs.Steps.{length-steps}
+use Rattle.position_format.proofs.Sizes.{points-few}
+use Rattle.position_format.proofs.Valid.{valid-parts, valid-of}
+use Rattle.position_format.proofs.Wide.{wide-valid}
 use Rattle.record_format.specs.Runs.{Run, recordOf}
-use Rattle.record_format.specs.Writing.{runTests, accepts, writeRefusal, writeAnswer, writeOutput}
+use Rattle.record_format.specs.Writing.{stepTests, runTests, accepts, writeRefusal, writeAnswer, writeOutput}
 use Rattle.outputs.specs.Outputs.{zeros, over}
 use Rattle.record_format.specs.declared.WriteAnswer.{WriteAnswer}
 use Rattle.record_format.proofs.Reading.{refusal}
@@ -35,11 +38,11 @@ pub record Fitting (r : Run) : Type 0 where
   pub listed : isRate (r .rate) ≡ true
   pub sided : r .side ≤ maxSide
   pub paired : length (r .ratios) ≡ length (r .positions)
-  pub few : length (r .positions) ≤ maxPoints
-  pub valid : validPositions rows (r .positions) ≡ true
+  pub few : length (r .positions) ≤ pointsOf (r .form)
+  pub valid : validPositions (tableOf (r .form)) (r .positions) ≡ true
 
 -- the writer's tests of the run refuse nothing exactly where it accepts
-accepts-clear : (r : Run) → accepts r ≡ true → firstOf (runTests r) .number ≡ 0
+pub accepts-clear : (r : Run) → accepts r ≡ true → firstOf (runTests r) .number ≡ 0
 unfolding accepts
 accepts-clear r e = let n = firstOf (runTests r) .number in eqb-true n 0 (not-false (eqb n 0) (not-true (not (eqb n 0)) e))
 
@@ -47,46 +50,58 @@ pub clear-accepts : (r : Run) → firstOf (runTests r) .number ≡ 0 → accepts
 unfolding accepts
 clear-accepts r e = rw e
 
+-- the tests of the steps refuse nothing where the positions are valid in their form: in the wide form there are none, and no step is outside
+
+module _ (ts : List ℕ) (low : length ts ≤ firstHigh ts) where
+  none-high : firstHigh ts ≡ length ts
+  none-high = omega (arith, first-le tooHigh ts)
+
+  old-valid : length ts ≤ firstOutside rows ts → validPositions rows ts ≡ true
+  old-valid h = valid-of rows ts none-high (omega (arith, first-le (outside rows) (steps ts), length-steps ts))
+
+  steps-valid : (f : Form) → firstOf (stepTests f ts) .number ≡ 0 → validPositions (tableOf f) ts ≡ true
+  steps-valid Old e = old-valid (ltb-false _ _ (first-clear _ _ (lit< tt) e .0))
+  steps-valid Wide e = wide-valid ts low
+
+valid-steps : (f : Form) (ts : List ℕ) → validPositions (tableOf f) ts ≡ true → firstOf (stepTests f ts) ≡ firstOf []
+valid-steps Old ts v =
+    let p = valid-parts rows ts v in
+    let near : length ts ≤ firstOutside rows ts = omega (arith, p .1, length-steps ts) in
+    first-skip _ _ (le-ltb _ _ near)
+valid-steps Wide ts v = refl
+
 module _ (r : Run) where
   pub accepted-fits : accepts r ≡ true → Fitting r
-  unfolding validPositions
   accepted-fits e =
       let c1 = first-clear _ _ (lit< tt) (accepts-clear r e) in
       let c21 = first-clear _ _ (lit< tt) (c1 .1) in
       let c2 = first-clear _ _ (lit< tt) (c21 .1) in
       let c3 = first-clear _ _ (lit< tt) (c2 .1) in
       let c4 = first-clear _ _ (lit< tt) (c3 .1) in
-      let c5 = first-clear _ _ (lit< tt) (c4 .1) in
-      let high : firstHigh (r .positions) ≡ length (r .positions) = omega (arith, ltb-false (firstHigh (r .positions)) (length (r .positions)) (c4 .0), first-le tooHigh (r .positions)) in
-      let out : firstIndex (outside rows) (steps (r .positions)) ≡ length (steps (r .positions)) =
-      omega (arith, ltb-false (firstOutside rows (r .positions)) (length (r .positions)) (c5 .0), first-le (outside rows) (steps (r .positions)), length-steps (r .positions)) in
       record {
         listed = not-false _ (c1 .0);
         sided = ltb-false _ _ (c21 .0);
         paired = eqb-true _ _ (not-false _ (c2 .0));
         few = ltb-false _ _ (c3 .0);
-        valid = rw (eq-eqb _ _ high, eq-eqb _ _ out);
+        valid = steps-valid (r .positions) (ltb-false _ _ (c4 .0)) (r .form) (c4 .1);
       }
 
   pub fitting-accepted : Fitting r → accepts r ≡ true
-  unfolding accepts validPositions
   fitting-accepted f =
-      let n : ℕ = length (r .positions) in
-      let zs : List ℤ = steps (r .positions) in
-      let v = both-true (eqb (firstHigh (r .positions)) n) (eqb (firstIndex (outside rows) zs) (length zs)) (f .valid) in
-      let high : firstHigh (r .positions) ≡ n = eqb-true _ _ (v .0) in
-      let out : firstIndex (outside rows) zs ≡ length zs = eqb-true _ _ (v .1) in
-      let low : length (r .positions) ≤ firstHigh (r .positions) = omega arith in
-      let near : length (r .positions) ≤ firstOutside rows (r .positions) = omega (arith, length-steps (r .positions)) in
-      ap (λ (n : ℕ). not (not (eqb n 0)))
+      let low : length (r .positions) ≤ firstHigh (r .positions) = omega (arith, valid-parts (tableOf (r .form)) (r .positions) (f .valid) .0) in
+      clear-accepts r
       (ap (λ (x : Refusal). x .number)
       (first-skip _ _ (ap not (f .listed))
       ∙ first-skip _ _ (le-ltb _ _ (f .sided))
       ∙ first-skip _ _ (ap not (eq-eqb _ _ (f .paired)))
       ∙ first-skip _ _ (le-ltb _ _ (f .few))
       ∙ first-skip _ _ (le-ltb _ _ low)
-      ∙ first-skip _ _ (le-ltb _ _ near)
+      ∙ valid-steps (r .form) (r .positions) (f .valid)
       ∙ first-end))
+
+  -- in either form a run has no more points than any can have
+  pub fitting-few : Fitting r → length (r .positions) ≤ maxPoints
+  fitting-few f = omega (arith, f .few, points-few (r .form))
 
 -- ---- the tests of the run
 
@@ -109,10 +124,10 @@ module _ (r : Run) where
         past-paired : firstOf (runTests r) ≡ firstOf (drop 3 (runTests r))
         past-paired = past-side ∙ first-skip _ _ (ap not (eq-eqb _ _ paired))
 
-        pub run-many : maxPoints < length (r .positions) → refusal 3 0 ≡ firstOf (runTests r)
+        pub run-many : pointsOf (r .form) < length (r .positions) → refusal 3 0 ≡ firstOf (runTests r)
         run-many h = sym (past-paired ∙ first-here _ _ (lt-ltb _ _ h))
 
-        module _ (few : length (r .positions) ≤ maxPoints) where
+        module _ (few : length (r .positions) ≤ pointsOf (r .form)) where
           past-few : firstOf (runTests r) ≡ firstOf (drop 4 (runTests r))
           past-few = past-paired ∙ first-skip _ _ (le-ltb _ _ few)
 
@@ -123,11 +138,28 @@ module _ (r : Run) where
             past-low : firstOf (runTests r) ≡ firstOf (drop 5 (runTests r))
             past-low = past-few ∙ first-skip _ _ (le-ltb _ _ low)
 
-            pub run-far : firstOutside rows (r .positions) < length (r .positions) → refusal 5 (firstOutside rows (r .positions)) ≡ firstOf (runTests r)
-            run-far h = sym (past-low ∙ first-here _ _ (lt-ltb _ _ h))
+            -- the steps decide
+            pub run-steps : (f : Refusal) → f ≡ firstOf (stepTests (r .form) (r .positions)) → f ≡ firstOf (runTests r)
+            run-steps f e = e ∙ sym past-low
 
-            pub run-accepted : length (r .positions) ≤ firstOutside rows (r .positions) → refusal 0 0 ≡ firstOf (runTests r)
-            run-accepted h = sym (past-low ∙ first-skip _ _ (le-ltb _ _ h) ∙ first-end)
+-- the test of the steps: in the old form by the first that is outside, in the wide form none
+pub steps-far : (ts : List ℕ) → firstOutside rows ts < length ts → refusal 5 (firstOutside rows ts) ≡ firstOf (stepTests Old ts)
+steps-far ts h = sym (first-here _ _ (lt-ltb _ _ h))
+
+pub steps-near : (ts : List ℕ) → length ts ≤ firstOutside rows ts → refusal 0 0 ≡ firstOf (stepTests Old ts)
+steps-near ts h = sym (first-skip _ _ (le-ltb _ _ h) ∙ first-end)
+
+pub steps-none : (ts : List ℕ) → refusal 0 0 ≡ firstOf (stepTests Wide ts)
+steps-none ts = sym first-end
+
+-- no test has the number of a success
+run-numbered : (r : Run) → numbered (runTests r) ≡ true
+run-numbered r = go (r .form)
+  where
+    go : (f : Form) → numbered (test (not (isRate (r .rate))) 1 0 ∷ test (ltb maxSide (r .side)) 21 0 ∷ test (not (eqb (length (r .ratios)) (length (r .positions)))) 2 0
+        ∷ test (ltb (pointsOf f) (length (r .positions))) 3 0 ∷ test (ltb (firstHigh (r .positions)) (length (r .positions))) 4 (firstHigh (r .positions)) ∷ stepTests f (r .positions)) ≡ true
+    go Old = refl
+    go Wide = refl
 
 -- ---- the whole answer
 
@@ -148,11 +180,11 @@ module _ (r : Run) (o : List ℕ) where
   module _ (clear : firstOf (runTests r) .number ≡ 0) where
     pub run-no-room : length o < length (recordOf r) → (refusedWriting (refusal 6 0) ≡ writeAnswer r o) × (zeros o ≡ writeOutput r o)
     unfolding writeRefusal
-    run-no-room h = answered (refusal 6 0) (first-append-none (runTests r) _ refl clear ∙ first-here _ _ (lt-ltb _ _ h)) (λ z. omega arith)
+    run-no-room h = answered (refusal 6 0) (first-append-none (runTests r) _ (run-numbered r) clear ∙ first-here _ _ (lt-ltb _ _ h)) (λ z. omega arith)
 
     pub run-written : length (recordOf r) ≤ length o
         → (_≡_ {A = WriteAnswer} (record { number = 0; place = 0; length = length (recordOf r) }) (writeAnswer r o)) × (over (recordOf r) o ≡ writeOutput r o)
     unfolding writeRefusal writeAnswer writeOutput
     run-written h =
-        let e : firstOf (runTests r ++ (test _ 6 0 ∷ [])) ≡ refusal 0 0 = first-append-none (runTests r) _ refl clear ∙ first-skip _ _ (le-ltb (length o) (length (recordOf r)) h) ∙ first-end in
+        let e : firstOf (runTests r ++ (test _ 6 0 ∷ [])) ≡ refusal 0 0 = first-append-none (runTests r) _ (run-numbered r) clear ∙ first-skip _ _ (le-ltb (length o) (length (recordOf r)) h) ∙ first-end in
         (rw e, rw e)

@@ -1,6 +1,6 @@
 -- The demands on records as statements about the definitions, in the terms of document 01, "What demand 3 compares", for runs that carry a
--- side, 0 for none (document 02, No. 2). Followed is proved in proofs/Followed, each other in proofs/Claims; the calls are tied to them by their
--- contracts.
+-- side, 0 for none, and the form that they are written in (document 02, No. 2 and No. 3). Followed is proved in proofs/Followed, each other in
+-- proofs/Claims; the calls are tied to them by their contracts.
 --   Accepted r          r is a run that the writer accepts, in the standard term valid: its ratios have 64 bits, and no test of writing but 6
 --                       applies. AllAccepted rs: every run of a list is
 --   Bytes s             s is a string of bytes
@@ -9,13 +9,16 @@
 --   countPlace r        the offset of the count's field in the record of r: what countAt finds there
 --   ownTests r e m n    the tests that can apply to the record of r; ownAnswer r ts vs: the answer where none does
 --   runAnswer r e ts vs what reading the record of r answers
+--   WritesRun, Writes   writing gives exactly the record, where the run is accepted and there is room for it, and else zeros
+--   ReadsWhole          what a reading refuses leaves zeros beside its number and place, and in both outputs
 --   ReadsBack           both readings give back the run of a record, or 14 or 16
 --   ReadsOnly           what strict reading accepts is a run's record, and the answer is that run
 --   AcceptsExactly      when strict reading accepts
---   ReadsFront          what any reading of the ratios accepts begins with the fields of the rate, the side and the count that it answers
+--   ReadsFront          what any reading of the ratios accepts begins with the fields of the rate, the side, the count and the positions that it
+--                       answers, the last in the form whose tag it answers
 --   OpenAgrees          what strict reading accepts open reading answers alike
---   PrefixFree          no record begins another: in the standard term, records are a prefix code
---   ListsApart          joined records tell their lists: a uniquely decodable code
+--   PrefixFree          no record begins another, in the same form or in the other: in the standard term, records are a prefix code
+--   ListsApart          joined records, in which forms may mix, tell their lists: a uniquely decodable code
 --   TrailingBytes       whatever follows a record changes nothing; Followed: nor does what follows any whole fields
 --   Shortest, NineEach  no string of the same ratios is shorter than ours, which takes at most nine bytes a ratio
 --   Demand3             demand 3, whole: the conjunction of its parts
@@ -25,17 +28,18 @@ use mathlib.Core.Logic.{_⊎_, _↔_}
 use mathlib.Core.Option.{Option, some}
 use mathlib.Core.Path.{_≡_}
 use Prim.Native.Nat.{ℕ, _+_, _*_, _≤_, _^_}
-use lib.ListN.{length}
+use lib.ListN.{length, drop, replicate}
 use Rattle.lists.specs.Below.{Below}
 use Rattle.limits.specs.Rates.{isRate}
-use Rattle.limits.specs.Points.{maxPoints}
 use Rattle.limits.specs.Sides.{maxSide}
 use Rattle.refusals.specs.Tests.{Test, test, firstOf, refused}
-use Rattle.outputs.specs.Outputs.{over}
+use Rattle.position_format.specs.declared.Form.{Form}
+use Rattle.position_format.specs.Tables.{tableOf, pointsOf}
+use Rattle.position_format.specs.Positions.{codedPositions, validPositions}
 use Rattle.ratio_format.specs.Bodies.{codedRatios, openRatios}
-use Rattle.record_format.specs.Fields.{headSize, laid}
-use Rattle.record_format.specs.Runs.{Run, rateSize, sideLength, frontFields, recordOf}
-use Rattle.record_format.specs.Writing.{accepts}
+use Rattle.record_format.specs.Fields.{fieldOf, headSize, laid}
+use Rattle.record_format.specs.Runs.{Run, positionsTag, rateSize, sideLength, frontFields, recordOf}
+use Rattle.record_format.specs.Writing.{accepts, writeAnswer, writeOutput}
 use Rattle.record_format.specs.Reading.{Answer, refusalAnswer, endAt, otherRate, lacksRoom, rateAt, readWith, readStrict, readOpen}
 
 -- an accepted run
@@ -72,12 +76,12 @@ ownTests r e m n =
     ∷ test (lacksRoom m n (length (r .positions))) 16 (countPlace r)
     ∷ []
 
--- a success: the run, its count and its record's length, each position and each ratio
+-- a success: the run, its count, its form's tag and its record's length, each position and each ratio
 abbrev pub ownAnswer : Run → List ℕ → List ℕ → Answer
 ownAnswer r ts vs = record {
-  answer = record { number = 0; place = 0; rate = r .rate; side = r .side; count = length (r .positions); used = length (recordOf r) };
-  positions = over (r .positions) ts;
-  ratios = over (r .ratios) vs;
+  answer = record { number = 0; place = 0; rate = r .rate; side = r .side; count = length (r .positions); form = positionsTag (r .form); used = length (recordOf r) };
+  positions = r .positions ++ drop (length (r .positions)) ts;
+  ratios = r .ratios ++ drop (length (r .ratios)) vs;
 }
 
 -- the answer to the record of a run
@@ -85,6 +89,25 @@ abbrev pub runAnswer : Run → ℕ → List ℕ → List ℕ → Answer
 runAnswer r e ts vs =
     let f = firstOf (ownTests r e (length ts) (length vs)) in
     cond (refused f) (refusalAnswer f ts vs) (ownAnswer r ts vs)
+
+-- demands 1 and 2: a success writes the record at the front of the output and nothing else; a refusal leaves zeros
+abbrev pub WritesRun : Run → List ℕ → Type 0
+WritesRun r o =
+    let a = writeAnswer r o in
+    ((a .number ≡ 0) ↔ ((accepts r ≡ true) × (length (recordOf r) ≤ length o)))
+    × (a .number ≡ 0 → (a .place ≡ 0) × (a .length ≡ length (recordOf r)) × (writeOutput r o ≡ recordOf r ++ drop (length (recordOf r)) o))
+    × ((a .number ≡ 0 → ⊥) → (a .length ≡ 0) × (writeOutput r o ≡ replicate (length o) 0))
+
+-- every run and every output
+abbrev pub Writes : Type 0
+Writes = (r : Run) (o : List ℕ) → WritesRun r o
+
+-- demand 1, in both readings
+abbrev pub ReadsWhole : Type 0
+ReadsWhole = (k : ℕ → List ℕ → Option (List ℕ)) (e : ℕ) (s ts vs : List ℕ) → let a = readWith k e s ts vs in (a .answer .number ≡ 0 → ⊥)
+    → (a .answer ≡ record { number = a .answer .number; place = a .answer .place; rate = 0; side = 0; count = 0; form = 0; used = 0 })
+    × (a .positions ≡ replicate (length ts) 0)
+    × (a .ratios ≡ replicate (length vs) 0)
 
 -- demand 2: whatever follows a run's record, both readings give back that run, or 14 or 16
 abbrev pub ReadsBack : Type 0
@@ -108,20 +131,23 @@ AcceptsExactly = (e : ℕ) (s ts vs : List ℕ) → Bytes s
 abbrev pub OpenAgrees : Type 0
 OpenAgrees = (e : ℕ) (s ts vs : List ℕ) → Bytes s → readStrict e s ts vs .answer .number ≡ 0 → readOpen e s ts vs ≡ readStrict e s ts vs
 
--- demand 2, in both readings: what is accepted begins with the fields of the rate, of the side unless it is 0, and of the count that are
--- answered, and these are in their ranges. So a side that is stored is answered, a stored 0 is not accepted, and side 0 is answered where no
--- side's field stands
+-- demand 2, in both readings: what is accepted begins with the fields of the rate, of the side unless it is 0, of the count and of the positions
+-- that are answered, these in the form whose tag is answered, and each is in its range. So a side that is stored is answered, a stored 0 is not
+-- accepted, and side 0 is answered where no side's field stands
 abbrev pub ReadsFront : Type 0
 ReadsFront = (k : ℕ → List ℕ → Option (List ℕ)) (e : ℕ) (s ts vs : List ℕ) → Bytes s → readWith k e s ts vs .answer .number ≡ 0
-    → let a = readWith k e s ts vs .answer in
-    (isRate (a .rate) ≡ true) × (a .side ≤ maxSide) × (a .count ≤ maxPoints) × Beginning (laid (frontFields (a .rate) (a .side) (a .count))) s
+    → let a = readWith k e s ts vs in
+    (f : Form) × (ps : List ℕ)
+    × (a .answer .form ≡ positionsTag f) × (a .answer .count ≡ length ps) × (a .positions ≡ ps ++ drop (length ps) ts)
+    × (isRate (a .answer .rate) ≡ true) × (a .answer .side ≤ maxSide) × (length ps ≤ pointsOf f) × (validPositions (tableOf f) ps ≡ true)
+    × Beginning (laid (frontFields (a .answer .rate) (a .answer .side) (length ps) ++ (fieldOf (positionsTag f) (codedPositions (tableOf f) ps) ∷ []))) s
 
--- demand 3: of two runs that differ, in rate, side, positions or ratios, neither record is a beginning of the other
+-- demand 3: of two runs that differ, in rate, side, form, positions or ratios, neither record is a beginning of the other
 abbrev pub PrefixFree : Type 0
 PrefixFree = (r q : Run) → Accepted r → Accepted q → (r ≡ q → ⊥)
     → (Beginning (recordOf r) (recordOf q) → ⊥) × (Beginning (recordOf q) (recordOf r) → ⊥)
 
--- demand 3: for every two lists of runs the joined records are the same exactly when the lists are the same
+-- demand 3: for every two lists of runs, each in its form, the joined records are the same exactly when the lists are the same
 abbrev pub ListsApart : Type 0
 ListsApart = (rs qs : List Run) → AllAccepted rs → AllAccepted qs → (joined rs ≡ joined qs) ↔ (rs ≡ qs)
 

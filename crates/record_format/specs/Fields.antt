@@ -9,9 +9,10 @@
 --   lengthAt s p   its stated length
 --   bodyAt s p     its body
 --   nextAt s p     the offset past it
+--   headTests s tags p     the tests of the head of a field at p: whole, and a tag of the list
 --   lengthTests s n p      the test of the stated length, where one is asked for
---   fieldTests s tags n p   the tests of a field at p before those of its contents: whole head, a tag of the list, the stated length where
---                           one is asked for, whole body
+--   bodyTests s p          the test of its whole body
+--   fieldTests s tags n p  the tests of a field at p before those of its contents: head, stated length where one is asked for, body
 use mathlib.Core.Bool.{not}
 use mathlib.Core.List.{List, [], _∷_, _++_}
 use mathlib.Core.Option.{Option, none, some}
@@ -68,14 +69,19 @@ bodyAt s p = take (lengthAt s p) (drop (p + headSize) s)
 unfoldable pub nextAt : List ℕ → ℕ → ℕ
 nextAt s p = p + headSize + lengthAt s p
 
+-- whole head, tag
+abbrev pub headTests : List ℕ → List ℕ → ℕ → List Test
+headTests s tags p = test (ltb (length s) (p + headSize)) 10 p ∷ test (not (member (tagAt s p) tags)) 11 p ∷ []
+
 -- the stated length, where a field must have one: 12
 abbrev pub lengthTests : List ℕ → Option ℕ → ℕ → List Test
 lengthTests s none p = []
 lengthTests s (some n) p = test (not (eqb (lengthAt s p) n)) 12 p ∷ []
 
+-- whole body
+abbrev pub bodyTests : List ℕ → ℕ → List Test
+bodyTests s p = test (ltb (length s) (nextAt s p)) 10 p ∷ []
+
 -- whole head, tag, length, whole body
 abbrev pub fieldTests : List ℕ → List ℕ → Option ℕ → ℕ → List Test
-fieldTests s tags n p =
-    test (ltb (length s) (p + headSize)) 10 p
-    ∷ test (not (member (tagAt s p) tags)) 11 p
-    ∷ (lengthTests s n p ++ (test (ltb (length s) (nextAt s p)) 10 p ∷ []))
+fieldTests s tags n p = headTests s tags p ++ (lengthTests s n p ++ bodyTests s p)

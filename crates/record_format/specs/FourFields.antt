@@ -1,10 +1,11 @@
--- Document 01, "The record": "Four fields in this order, each once". Records without a side are as they were before document 02, No. 2.
+-- Document 01, "The record": "Four fields in this order, each once". Records in the old form without a side are as they were before document 02,
+-- No. 2 and No. 3.
 --   fourFields r ts vs   the four fields of document 01, for the rate r, the positions ts and the ratios vs
 --   fourTests r ts vs    document 01's tests 1 to 5 of writing
---   SameRecord           the record of the run on side 0 is these four fields, laid end to end
---   RefusesBySide        a run with any side is refused as document 01 says of it without one, but that 21 stands after 1; so on side 0 it is
---                        accepted exactly when it was, and refused by 6 when it was, since its record is the same
---   ReadsAsZero          whatever follows it, both readings give back that run with side 0, or 14 or 16
+--   SameRecord           the record of the run on side 0, in the old form, is these four fields, laid end to end
+--   RefusesBySide        a run in the old form with any side is refused as document 01 says of it without one, but that 21 stands after 1; so on
+--                        side 0 it is accepted exactly when it was, and refused by 6 when it was, since its record is the same
+--   ReadsAsZero          whatever follows it, both readings give back that run with side 0 and the old form's tag, or 14 or 16
 -- Each is proved in proofs/FourFields.
 use mathlib.Core.Bool.{not, cond}
 use mathlib.Core.List.{List, [], _∷_, _++_}
@@ -17,6 +18,7 @@ use Rattle.bits.specs.Digits.{bytesOf}
 use Rattle.limits.specs.Rates.{isRate}
 use Rattle.limits.specs.Points.{maxPoints, firstHigh}
 use Rattle.refusals.specs.Tests.{Test, test, firstOf}
+use Rattle.position_format.specs.declared.Form.the-variants.{Old}
 use Rattle.position_format.specs.Rows.{rows}
 use Rattle.position_format.specs.Steps.{firstOutside}
 use Rattle.position_format.specs.Positions.{codedPositions}
@@ -48,15 +50,15 @@ fourTests r ts vs =
 
 -- the same bytes, for every rate, positions and ratios
 abbrev pub SameRecord : Type 0
-SameRecord = (r : ℕ) (ts vs : List ℕ) → recordOf (run r 0 ts vs) ≡ laid (fourFields r ts vs)
+SameRecord = (r : ℕ) (ts vs : List ℕ) → recordOf (run r 0 Old ts vs) ≡ laid (fourFields r ts vs)
 
 -- the refusal of a run: 1, then 21 for a side above 26, then document 01's
 abbrev pub RefusesBySide : Type 0
 RefusesBySide = (r d : ℕ) (ts vs : List ℕ)
-    → firstOf (runTests (run r d ts vs)) ≡ cond (isRate r) (cond (leb d 26) (firstOf (fourTests r ts vs)) (record { number = 21; place = 0 })) (record { number = 1; place = 0 })
+    → firstOf (runTests (run r d Old ts vs)) ≡ cond (isRate r) (cond (leb d 26) (firstOf (fourTests r ts vs)) (record { number = 21; place = 0 })) (record { number = 1; place = 0 })
 
 -- and the same run back, on side 0
 abbrev pub ReadsAsZero : Type 0
 ReadsAsZero = (r : ℕ) (ts vs : List ℕ) → Below (2 ^ 64) vs → firstOf (fourTests r ts vs) .number ≡ 0 → (e : ℕ) (rest ps qs : List ℕ)
-    → (readStrict e (laid (fourFields r ts vs) ++ rest) ps qs ≡ runAnswer (run r 0 ts vs) e ps qs)
-    × (readOpen e (laid (fourFields r ts vs) ++ rest) ps qs ≡ runAnswer (run r 0 ts vs) e ps qs)
+    → (readStrict e (laid (fourFields r ts vs) ++ rest) ps qs ≡ runAnswer (run r 0 Old ts vs) e ps qs)
+    × (readOpen e (laid (fourFields r ts vs) ++ rest) ps qs ≡ runAnswer (run r 0 Old ts vs) e ps qs)

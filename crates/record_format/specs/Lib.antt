@@ -4,7 +4,9 @@ pub mod Writing
 pub mod Reading
 pub mod Claims
 pub mod SideClaims
+pub mod WideClaims
 pub mod FourFields
 pub mod Examples
 pub mod SideExamples
+pub mod WideExamples
 pub mod Sizes

@@ -1,20 +1,23 @@
--- Document 01, "The record" and "Numbers that come back", with the side of document 02, No. 2: reading a record, strictly and openly.
+-- Document 01, "The record" and "Numbers that come back", with the side and the form of document 02, No. 2 and No. 3: reading a record,
+-- strictly and openly.
 --   rateAt, sideAt s, countAt s, positionsAt s, ratiosAt s   the offset of each field, by what it holds
 --   hasSide s              a side's field stands past the rate's
 --   endAt s                the offset past the record
 --   rateIn, sideIn, countIn   the numbers in the fields of the rate, of the side (0 where there is none) and of the count
---   positionsIn s          the positions that the positions' field is the coding of, or nothing
+--   formIn s               the form that the tag of the positions' field names
+--   positionsIn s          the positions that the positions' field is the coding of, in its form, or nothing
 --   ratiosIn k s           the ratios that the reading k of the ratios' field gives, or nothing
 --   missing, listOf        whether there is no list, and the list, if there is one
 --   otherRate e r          another rate is expected than r
 --   rateTests, sideTests, countTests   the tests of their fields; frontTests e s: of all three, with the expected rate e (0 for none)
 --   lacksRoom m n c        an output lacks room for c numbers, in the standard term capacity; roomTests s m n: the test of it
---   codedTests s tags k x p  the tests of a field of coded numbers at p, whose body the reading k takes, or else the number x
---   positionsTests, ratiosTests   those of the positions' field and of the ratios'
+--   contentsTests s k x p   the tests of the body of coded numbers in the field at p: whole, and taken by the reading k, or else the number x
+--   manyTests s            the test of the count by the form; positionsTests, ratiosTests: those of the positions' field and of the ratios'
 --   readTests k e s m n    the tests of reading in their order, with the reading k of the ratios' field
 --   Answer                 what a reading returns, and both outputs, the caller's buffers, afterwards
 --   refusalAnswer, recordAnswer, answerBy   that of a refusal, of a record, and by a list of tests
---   readWith k e s ts vs   the whole answer, with outputs ts and vs: number, place, rate, side, count, bytes used, and both outputs afterwards
+--   readWith k e s ts vs   the whole answer, with outputs ts and vs: number, place, rate, side, count, the form's tag, bytes used, and both outputs
+--                          afterwards
 --   readStrict, readOpen   the two readings of a record
 -- Strict and open reading, in standard terms canonical and lenient decoding, differ in the reading of the ratios' field only: strictRatios
 -- or openRatios.
@@ -32,12 +35,14 @@ use Rattle.limits.specs.Points.{maxPoints}
 use Rattle.limits.specs.Sides.{isSide}
 use Rattle.refusals.specs.Tests.{Test, test, firstOf, refused}
 use Rattle.outputs.specs.Outputs.{zeros, over}
-use Rattle.position_format.specs.Rows.{rows}
+use Rattle.position_format.specs.declared.Form.{Form}
+use Rattle.position_format.specs.declared.Form.the-variants.{Old, Wide}
+use Rattle.position_format.specs.Tables.{tableOf, pointsOf}
 use Rattle.position_format.specs.Positions.{readPositions}
 use Rattle.record_format.specs.declared.ReadAnswer.{ReadAnswer}
 use Rattle.ratio_format.specs.Bodies.{openRatios, strictRatios}
-use Rattle.record_format.specs.Fields.{tagAt, bodyAt, nextAt, fieldTests}
-use Rattle.record_format.specs.Runs.{rateTag, sideTag, countTag, positionsTag, ratiosTag, rateSize, sideSize, countSize}
+use Rattle.record_format.specs.Fields.{tagAt, bodyAt, nextAt, headTests, bodyTests, fieldTests}
+use Rattle.record_format.specs.Runs.{rateTag, sideTag, countTag, positionsTag, formOf, ratiosTag, rateSize, sideSize, countSize}
 
 -- ---- where the fields stand, and what they hold
 
@@ -81,9 +86,13 @@ sideIn s = cond (hasSide s) (numberOf 256 (bodyAt s (sideAt s))) 0
 abbrev pub countIn : List ℕ → ℕ
 countIn s = numberOf 256 (bodyAt s (countAt s))
 
+-- the form of the positions
+abbrev pub formIn : List ℕ → Form
+formIn s = formOf (tagAt s (positionsAt s))
+
 -- the positions, or nothing
 abbrev pub positionsIn : List ℕ → Option (List ℕ)
-positionsIn s = readPositions rows (countIn s) (bodyAt s (positionsAt s))
+positionsIn s = readPositions (tableOf (formIn s)) (countIn s) (bodyAt s (positionsAt s))
 
 -- the ratios by the reading k, or nothing
 abbrev pub ratiosIn : (ℕ → List ℕ → Option (List ℕ)) → List ℕ → Option (List ℕ)
@@ -134,17 +143,23 @@ lacksRoom m n c = cond (ltb m c) true (ltb n c)
 abbrev pub roomTests : List ℕ → ℕ → ℕ → List Test
 roomTests s m n = test (lacksRoom m n (countIn s)) 16 (countAt s) ∷ []
 
--- a field of coded numbers at p, whose body the reading k takes: the number x where it takes nothing
-abbrev pub codedTests : List ℕ → List ℕ → (List ℕ → Option (List ℕ)) → ℕ → ℕ → List Test
-codedTests s tags k x p = fieldTests s tags none p ++ (test (missing (k (bodyAt s p))) x p ∷ [])
+-- the body of coded numbers in the field at p, which the reading k takes: the number x where it takes nothing
+abbrev pub contentsTests : List ℕ → (List ℕ → Option (List ℕ)) → ℕ → ℕ → List Test
+contentsTests s k x p = bodyTests s p ++ (test (missing (k (bodyAt s p))) x p ∷ [])
 
--- the positions' field: 17
+-- more points than a run in the form has: 15, at the count's field. In the old form it never applies, since the count's own test stands before it
+abbrev pub manyTests : List ℕ → List Test
+manyTests s = test (ltb (pointsOf (formIn s)) (countIn s)) 15 (countAt s) ∷ []
+
+-- the positions' field, in either form: straight after its tag 15, then 10 for its body, and then 17
 abbrev pub positionsTests : List ℕ → List Test
-positionsTests s = codedTests s (positionsTag ∷ []) (readPositions rows (countIn s)) 17 (positionsAt s)
+positionsTests s =
+    headTests s (positionsTag Old ∷ positionsTag Wide ∷ []) (positionsAt s)
+    ++ (manyTests s ++ contentsTests s (readPositions (tableOf (formIn s)) (countIn s)) 17 (positionsAt s))
 
 -- the ratios': 18
 abbrev pub ratiosTests : (ℕ → List ℕ → Option (List ℕ)) → List ℕ → List Test
-ratiosTests k s = codedTests s (ratiosTag ∷ []) (k (countIn s)) 18 (ratiosAt s)
+ratiosTests k s = headTests s (ratiosTag ∷ []) (ratiosAt s) ++ contentsTests s (k (countIn s)) 18 (ratiosAt s)
 
 -- the tests of reading: the fields in order
 abbrev pub readTests : (ℕ → List ℕ → Option (List ℕ)) → ℕ → List ℕ → ℕ → ℕ → List Test
@@ -161,7 +176,7 @@ pub record Answer : Type 0 where
 -- of a refusal: zeros beside its number and place, and outputs that are 0 from end to end
 abbrev pub refusalAnswer : Refusal → List ℕ → List ℕ → Answer
 refusalAnswer f ts vs = record {
-  answer = record { number = f .number; place = f .place; rate = 0; side = 0; count = 0; used = 0 };
+  answer = record { number = f .number; place = f .place; rate = 0; side = 0; count = 0; form = 0; used = 0 };
   positions = zeros ts;
   ratios = zeros vs;
 }
@@ -169,7 +184,7 @@ refusalAnswer f ts vs = record {
 -- of a record: its numbers, and its points at the front of the outputs
 abbrev pub recordAnswer : (ℕ → List ℕ → Option (List ℕ)) → List ℕ → List ℕ → List ℕ → Answer
 recordAnswer k s ts vs = record {
-  answer = record { number = 0; place = 0; rate = rateIn s; side = sideIn s; count = countIn s; used = endAt s };
+  answer = record { number = 0; place = 0; rate = rateIn s; side = sideIn s; count = countIn s; form = positionsTag (formIn s); used = endAt s };
   positions = over (listOf (positionsIn s)) ts;
   ratios = over (listOf (ratiosIn k s)) vs;
 }

@@ -1,17 +1,22 @@
--- Document 01, "What a run record holds" and "The record", with the side of document 02, No. 2.
---   Run, run       a rate, a side, positions and ratios. The standard term is a time series; its points are its samples, a sample position and
---                  the ratio there, the 64 bits of an IEEE 754 double. The side is that of the disc, 0 for none
---   rateTag .. ratiosTag   the tags of the fields, by what they hold
+-- Document 01, "What a run record holds" and "The record", with the side and the form of document 02, No. 2 and No. 3.
+--   Run, run       a rate, a side, the form that it is written in, positions and ratios. The standard term is a time series; its points are its
+--                  samples, a sample position and the ratio there, the 64 bits of an IEEE 754 double. The side is that of the disc, 0 for none
+--   rateTag .. ratiosTag   the tags of the fields, by what they hold; that of the positions' field is by its form
+--   formOf t       the form that the tag t names
 --   rateSize, sideSize, countSize   how many bytes the rate, the side and the count take
 --   sideFields n   the field of the side n, an optional one: none for side 0; sideLength n: how many bytes it takes
 --   frontFields r d n   the fields of the rate r, of the side d unless it is 0, and of the count n
 --   fieldsOf r     the fields of the record of the run r: those, coded positions, coded ratios, each once, in this order
 --   recordOf r     the record of the run r: its fields laid end to end
+use mathlib.Core.Bool.{cond}
 use mathlib.Core.List.{List, [], _∷_, _++_}
 use Prim.Native.Nat.{ℕ, zero, suc, _+_}
+use lib.Dec.{eqb}
 use lib.ListN.{length}
 use Rattle.bits.specs.Digits.{bytesOf}
-use Rattle.position_format.specs.Rows.{rows}
+use Rattle.position_format.specs.declared.Form.{Form}
+use Rattle.position_format.specs.declared.Form.the-variants.{Old, Wide}
+use Rattle.position_format.specs.Tables.{tableOf}
 use Rattle.position_format.specs.Positions.{codedPositions}
 use Rattle.ratio_format.specs.Bodies.{codedRatios}
 use Rattle.record_format.specs.Fields.{Field, fieldOf, headSize, laid}
@@ -20,12 +25,13 @@ use Rattle.record_format.specs.Fields.{Field, fieldOf, headSize, laid}
 pub record Run : Type 0 where
   pub rate : ℕ
   pub side : ℕ
+  pub form : Form
   pub positions : List ℕ
   pub ratios : List ℕ
 
 -- a run by its parts
-abbrev pub run : ℕ → ℕ → List ℕ → List ℕ → Run
-run rate side positions ratios = record { rate = rate; side = side; positions = positions; ratios = ratios }
+abbrev pub run : ℕ → ℕ → Form → List ℕ → List ℕ → Run
+run rate side form positions ratios = record { rate = rate; side = side; form = form; positions = positions; ratios = ratios }
 
 -- the tag of the rate's field
 abbrev pub rateTag : ℕ
@@ -39,9 +45,14 @@ sideTag = 6
 abbrev pub countTag : ℕ
 countTag = 2
 
--- of the positions'
-abbrev pub positionsTag : ℕ
-positionsTag = 3
+-- of the positions', in each form
+abbrev pub positionsTag : Form → ℕ
+positionsTag Old = 3
+positionsTag Wide = 5
+
+-- 5 names the wide form, and every other number the old one
+abbrev pub formOf : ℕ → Form
+formOf t = cond (eqb t (positionsTag Wide)) Wide Old
 
 -- of the ratios'
 abbrev pub ratiosTag : ℕ
@@ -77,7 +88,7 @@ frontFields r d n = fieldOf rateTag (bytesOf rateSize r) ∷ (sideFields d ++ (f
 abbrev pub fieldsOf : Run → List Field
 fieldsOf r =
     frontFields (r .rate) (r .side) (length (r .positions))
-    ++ (fieldOf positionsTag (codedPositions rows (r .positions))
+    ++ (fieldOf (positionsTag (r .form)) (codedPositions (tableOf (r .form)) (r .positions))
     ∷ fieldOf ratiosTag (codedRatios (r .ratios))
     ∷ [])
 

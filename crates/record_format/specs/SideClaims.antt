@@ -9,6 +9,7 @@
 --   LengthRefused   a side's field of another length than 1: 12 at 7
 --   BodyCut         a side's field without its byte: 10 at 7
 --   SideRefused     a stored side that is 0 or above 26: 20 at 7
+--   CountRefused    a count's field of another length than 2: 12 at 7, or past a side at 11; one without its two bytes: 10 there
 --   moved d a       the answer a with each offset four bytes further on and, of a success, the side d
 --   SideMoves       a side's field moves what follows it by four bytes and changes nothing else: not the refusal's number, not a point
 use mathlib.Core.Bool.{true, false, cond}
@@ -18,11 +19,11 @@ use mathlib.Core.Option.{Option}
 use mathlib.Core.Path.{_≡_}
 use Prim.Native.Nat.{ℕ, _+_, _^_, _≤_, _<_}
 use lib.Dec.{eqb}
-use lib.ListN.{length}
+use lib.ListN.{length, replicate}
 use Rattle.bits.specs.Digits.{bytesOf}
 use Rattle.limits.specs.Rates.{isRate}
 use Rattle.record_format.specs.Fields.{fieldOf, fieldBytes, tagAt}
-use Rattle.record_format.specs.Reading.{Answer, refusalAnswer, readWith}
+use Rattle.record_format.specs.Reading.{Answer, readWith}
 
 -- tag 1, four bytes
 abbrev pub rateBytes : ℕ → List ℕ
@@ -38,7 +39,11 @@ Expects e r = (e ≡ 0) ⊎ (e ≡ r)
 
 -- with zeros beside it, and both outputs 0 from end to end
 abbrev pub refusedBy : ℕ → ℕ → List ℕ → List ℕ → Answer
-refusedBy n p ts vs = refusalAnswer (record { number = n; place = p }) ts vs
+refusedBy n p ts vs = record {
+  answer = record { number = n; place = p; rate = 0; side = 0; count = 0; form = 0; used = 0 };
+  positions = replicate (length ts) 0;
+  ratios = replicate (length vs) 0;
+}
 
 -- a rate that is none, or another than is expected, whatever follows
 abbrev pub RateFirst : Type 0
@@ -73,12 +78,23 @@ abbrev pub SideRefused : Type 0
 SideRefused = (k : ℕ → List ℕ → Option (List ℕ)) (e r d : ℕ) (rest ts vs : List ℕ) → isRate r ≡ true → Expects e r → (d ≡ 0) ⊎ ((26 < d) × (d < 256))
     → readWith k e (rateBytes r ++ (sideBytes d ++ rest)) ts vs ≡ refusedBy 20 7 ts vs
 
+-- a count's tag, and then another length than 2, or fewer bytes than that
+abbrev pub CountRefused : Type 0
+CountRefused = (k : ℕ → List ℕ → Option (List ℕ)) (e r l : ℕ) (rest ts vs : List ℕ) → isRate r ≡ true → Expects e r → l < 256 ^ 2
+    → let count = (2 ∷ bytesOf 2 l) ++ rest in
+    ((l ≡ 2 → ⊥)
+    → (readWith k e (rateBytes r ++ count) ts vs ≡ refusedBy 12 7 ts vs)
+    × ((d : ℕ) → 1 ≤ d → d ≤ 26 → readWith k e (rateBytes r ++ (sideBytes d ++ count)) ts vs ≡ refusedBy 12 11 ts vs))
+    × (l ≡ 2 → length rest < 2
+    → (readWith k e (rateBytes r ++ count) ts vs ≡ refusedBy 10 7 ts vs)
+    × ((d : ℕ) → 1 ≤ d → d ≤ 26 → readWith k e (rateBytes r ++ (sideBytes d ++ count)) ts vs ≡ refusedBy 10 11 ts vs))
+
 -- of a refusal the place, of a success the side and the bytes used
 abbrev pub moved : ℕ → Answer → Answer
 moved d a = record {
   answer = cond (eqb (a .answer .number) 0)
-      (record { number = 0; place = 0; rate = a .answer .rate; side = d; count = a .answer .count; used = a .answer .used + 4 })
-      (record { number = a .answer .number; place = a .answer .place + 4; rate = 0; side = 0; count = 0; used = 0 });
+      (record { number = 0; place = 0; rate = a .answer .rate; side = d; count = a .answer .count; form = a .answer .form; used = a .answer .used + 4 })
+      (record { number = a .answer .number; place = a .answer .place + 4; rate = 0; side = 0; count = 0; form = 0; used = 0 });
   positions = a .positions;
   ratios = a .ratios;
 }

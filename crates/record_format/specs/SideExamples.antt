@@ -1,7 +1,7 @@
 -- Document 02, No. 2: answers of reading and of writing with a side, as one table each, computed from the definitions by one statement.
 --   rate, side d, count n, noPoints bytes of fields: the rate 96000, a side that stores d, a count n below 256, and the two bodies of no points
 --   open-only                       the fields of two points at 0 whose ratios are two exceptions of 0: no coding, but an open form
---   refusedRead n p, read d n u     the answer of a refusal, and of a record with side d, n points and u bytes
+--   refusedRead n p, read d n u     the answer of a refusal, and of a record with side d, n points and u bytes, in the old form
 --   ReadExample, row, rowOpen       the expected rate, the input, and the answers of strict and of open reading
 --   reads, reads-hold               the rows, with room for two points, and that each is as it is given
 --   WriteExample, wrote             a run, the room, and the answer
@@ -17,6 +17,7 @@ use Rattle.bits.specs.Packing.{bits, eights, pack}
 use Rattle.limits.specs.Rates.{rates, isRate}
 use Rattle.limits.specs.Sides.{isSide}
 use Rattle.refusals.specs.Tests.{firstOf}
+use Rattle.position_format.specs.declared.Form.the-variants.{Old}
 use Rattle.position_format.specs.Steps.{stepsFrom, steps}
 use Rattle.position_format.specs.Positions.{stepBits, positionBits, codedPositions, validPositions, decodedSteps, decodedBits, decoded, readPositions}
 use Rattle.ratio_format.specs.Choice.{find, best, ratioForm}
@@ -54,11 +55,11 @@ open-only = 0x03 ∷ 0x00 ∷ 0x10 ∷ (replicate 16 0 ++ (0x04 ∷ 0x00 ∷ 0x1
 
 -- every other returned number is 0
 abbrev refusedRead : ℕ → ℕ → ReadAnswer
-refusedRead n p = record { number = n; place = p; rate = 0; side = 0; count = 0; used = 0 }
+refusedRead n p = record { number = n; place = p; rate = 0; side = 0; count = 0; form = 0; used = 0 }
 
 -- a success
 abbrev read : ℕ → ℕ → ℕ → ReadAnswer
-read d n u = record { number = 0; place = 0; rate = 96000; side = d; count = n; used = u }
+read d n u = record { number = 0; place = 0; rate = 96000; side = d; count = n; form = 3; used = u }
 
 -- what is read, and what it gives
 pub record ReadExample : Type 0 where
@@ -128,13 +129,13 @@ wrote r m n l = record { subject = r; room = m; answer = record { number = n; pl
 -- 1 before 21, 21 before 2, 26 and 27, and the room that a side takes
 pub writes : List WriteExample
 writes =
-    wrote (run 1 27 [] []) 22 1 0
-    ∷ wrote (run 96000 27 (0 ∷ []) []) 22 21 0
-    ∷ wrote (run 96000 4294967295 [] []) 22 21 0
-    ∷ wrote (run 96000 26 (0 ∷ []) []) 22 2 0
-    ∷ wrote (run 96000 26 [] []) 21 6 0
-    ∷ wrote (run 96000 26 [] []) 22 0 22
-    ∷ wrote (run 96000 0 [] []) 18 0 18
+    wrote (run 1 27 Old [] []) 22 1 0
+    ∷ wrote (run 96000 27 Old (0 ∷ []) []) 22 21 0
+    ∷ wrote (run 96000 4294967295 Old [] []) 22 21 0
+    ∷ wrote (run 96000 26 Old (0 ∷ []) []) 22 2 0
+    ∷ wrote (run 96000 26 Old [] []) 21 6 0
+    ∷ wrote (run 96000 26 Old [] []) 22 0 22
+    ∷ wrote (run 96000 0 Old [] []) 18 0 18
     ∷ []
 
 -- each answer, computed from the definitions, is the one that is given

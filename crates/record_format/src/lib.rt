@@ -8,8 +8,8 @@ pub struct WriteAnswer {
     pub length: u64,
 }
 
-// The answer of reading: number and place of the refusal, or 0 and 0 with the rate, the side (0 for none), the count of points and the bytes
-// used.
+// The answer of reading: number and place of the refusal, or 0 and 0 with the rate, the side (0 for none), the count of points, the tag of
+// their form (3 or 5) and the bytes used.
 #[repr(C)]
 pub struct ReadAnswer {
     pub number: u32,
@@ -17,17 +17,20 @@ pub struct ReadAnswer {
     pub rate: u32,
     pub side: u32,
     pub count: u32,
+    pub form: u32,
     pub used: u64,
 }
 
-// The tags of the fields, by what they hold.
+// The tags of the fields, by what they hold; the positions' by its form.
 pub const RATE_TAG: u8 = 1;
 
 pub const SIDE_TAG: u8 = 6;
 
 pub const COUNT_TAG: u8 = 2;
 
-pub const POSITIONS_TAG: u8 = 3;
+pub const OLD_TAG: u8 = 3;
+
+pub const WIDE_TAG: u8 = 5;
 
 pub const RATIOS_TAG: u8 = 4;
 

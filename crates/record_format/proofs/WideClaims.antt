@@ -1,0 +1,380 @@
+-- What the wide form brings to writing and reading, and what reading does past the front in either form.
+use mathlib.Core.Path.{_≡_, refl, sym, ap, ap₂, _∙_, subst}
+use mathlib.Core.Bool.{Bool, true, false, not, cond}
+use mathlib.Core.List.{List, [], _∷_, _++_}
+use mathlib.Core.Logic.{_⊎_, inl, inr}
+use mathlib.Core.Option.{Option, none, some}
+use Prim.Native.Nat.{ℕ, zero, suc, _+_, _^_, _≤_, _<_}
+use native.Mathlib.Nat.{add-zero}
+use native.Mathlib.Omega.{arith}
+use borrow.Author.Tests.{ne-eqb, le-ltb, lt-ltb, leb-true, leb-false}
+use lib.Dec.{ltb, leb, eqb·suc-zero}
+use lib.ListN.{length, getD, drop, length-append}
+use lib.Seq.{getD-append-add}
+use Rattle.lists.specs.Below.{Below}
+use Rattle.lists.specs.Lists.{member, firstIndex}
+use Rattle.bits.specs.Digits.{bytesOf}
+use Rattle.bits.proofs.Digits.{length-digits}
+use Rattle.limits.specs.Points.{maxPoints, maxPosition, tooHigh, firstHigh}
+use Rattle.limits.specs.Rates.{isRate}
+use Rattle.limits.specs.Sides.{maxSide}
+use Rattle.refusals.specs.Tests.{Test, test, firstOf}
+use Rattle.refusals.proofs.Tests.{first-here, first-skip}
+use Rattle.position_format.specs.declared.Form.{Form}
+use Rattle.position_format.specs.declared.Form.the-variants.{Old, Wide}
+use Rattle.position_format.specs.Positions.{validPositions, readPositions}
+use Rattle.position_format.specs.Tables.{tableOf, pointsOf}
+use Rattle.position_format.proofs.Lists.{cons-none}
+use Rattle.position_format.proofs.Sizes.{points-few}
+use Rattle.position_format.proofs.Wide.{wide-valid}
+use Rattle.record_format.specs.Fields.{Field, fieldOf, headSize, fieldBytes, laid, tagAt, lengthAt, bodyAt, nextAt, fieldTests}
+use Rattle.record_format.specs.Runs.{Run, run, positionsTag, formOf, ratiosTag, frontFields, recordOf}
+use Rattle.record_format.specs.Writing.{runTests}
+use Rattle.record_format.specs.Reading.{recordAnswer, readTests, readWith, rateAt, countAt, positionsAt, ratiosAt, endAt, countIn, formIn, positionsIn, ratiosIn, missing, listOf, lacksRoom, positionsTests, ratiosTests}
+use Rattle.record_format.specs.SideClaims.{Expects, refusedBy}
+use Rattle.record_format.specs.WideClaims.{RecordFields, wideTests, RefusesWide, AcceptsWide, FormsApart, frontBytes, countOn, positionsOn, CountFirst, TagFirst, BodyByForm, fieldOfPoints, RatiosByReading}
+use Rattle.record_format.proofs.Fields.{FieldStands, StandAll, length-field, stands, laid-stand, pastAll, stand-past, small-append, stand-append, past-append, head-stands}
+use Rattle.record_format.proofs.Fronts.{front-small, count-at, positions-at, front-past, rate-is, side-is, count-is, front-tests, form-is, positions-are, positions-pass}
+use Rattle.record_format.proofs.Reading.{refusal, body-short, field-good, positions-few, positions-many, answer-refused, answer-good}
+use Rattle.record_format.proofs.Runs.{form-of, tag-good, coded-size, form-bodies}
+use Rattle.record_format.proofs.Writing.{fitting-accepted}
+use Rattle.record_format.proofs.Claims.{no-other, prefix-free}
+
+-- ---- writing
+
+pub record-fields : RecordFields
+unfolding recordOf
+record-fields r zero ts vs = (refl, refl)
+record-fields r (suc d) ts vs = (rw (eqb·suc-zero d), rw (eqb·suc-zero d))
+
+-- the tests of a run by its rate and its side
+pub refuses-wide : RefusesWide
+unfolding firstOf
+refuses-wide r d ts vs = go (isRate r) refl (leb d maxSide) refl
+  where
+    go : (b : Bool) → isRate r ≡ b → (c : Bool) → leb d maxSide ≡ c
+        → firstOf (runTests (run r d Wide ts vs)) ≡ cond (isRate r) (cond (leb d maxSide) (firstOf (wideTests r ts vs)) (refusal 21 0)) (refusal 1 0)
+    go false e c q = rw e
+    go true e true q = rw (e, q, le-ltb maxSide d (leb-true d maxSide q))
+    go true e false q = rw (e, q, lt-ltb maxSide d (leb-false d maxSide q))
+
+-- positions below 2^62 are in range
+none-high : (ts : List ℕ) → Below (2 ^ 62) ts → firstHigh ts ≡ length ts
+unfolding Below firstIndex
+none-high [] h = refl
+none-high (t ∷ ts) h = cons-none tooHigh t ts (le-ltb maxPosition t (omega (arith, h .0))) (none-high ts (h .1))
+
+pub accepts-wide : AcceptsWide
+accepts-wide r d ts vs listed sided paired few low words = record {
+  words = words;
+  passes = fitting-accepted (run r d Wide ts vs)
+      (record { listed = listed; sided = sided; paired = paired; few = few; valid = wide-valid ts (omega (arith, none-high ts low)) });
+}
+
+pub forms-apart : FormsApart
+forms-apart r q a b d = prefix-free r q a b (λ e. d (ap (λ (x : Run). x .form) e))
+
+-- ---- reading past the front, which stands at the front of the bytes s
+
+module _ (k : ℕ → List ℕ → Option (List ℕ)) (e r d n : ℕ) (s ts vs : List ℕ) (listed : isRate r ≡ true) (o : Expects e r) (sided : d ≤ 26) (counts : n < 256 ^ 2)
+    (all : StandAll s rateAt (frontFields r d n)) where
+  abbrev tests : List Test
+  tests = readTests k e s (length ts) (length vs)
+
+  at-count : countAt s ≡ countOn d
+  at-count = count-at s r d n listed sided counts all
+
+  at-positions : positionsAt s ≡ positionsOn d
+  at-positions = positions-at s r d n listed sided counts all ∙ omega (arith, at-count)
+
+  counted : countIn s ≡ n
+  counted = count-is s r d n listed sided counts all
+
+  refuses : (x p : ℕ) → (x ≡ 0 → ⊥) → firstOf tests ≡ refusal x p → readWith k e s ts vs ≡ refusedBy x p ts vs
+  unfolding readWith
+  refuses x p z q = answer-refused (recordAnswer k s ts vs) ts vs tests (refusal x p) (sym q) z
+
+  past-rate : firstOf tests ≡ firstOf (test (ltb maxPoints n) 15 (countAt s) ∷ test (lacksRoom (length ts) (length vs) n) 16 (countAt s) ∷ (positionsTests s ++ ratiosTests k s))
+  past-rate = front-tests s r d n listed sided counts all k e (length ts) (length vs) ∙ first-skip _ _ (no-other e r o)
+
+  fifteen : 4096 < n → readWith k e s ts vs ≡ refusedBy 15 (countOn d) ts vs
+  fifteen h = refuses 15 (countOn d) (λ z. omega arith) (past-rate ∙ first-here _ _ (lt-ltb _ _ h) ∙ ap (refusal 15) at-count)
+
+  lacking : (length ts < n) ⊎ (length vs < n) → lacksRoom (length ts) (length vs) n ≡ true
+  lacking (inl h) = rw (lt-ltb (length ts) n h)
+  lacking (inr h) = go (ltb (length ts) n)
+    where
+      go : (b : Bool) → cond b true (ltb (length vs) n) ≡ true
+      go true = refl
+      go false = lt-ltb (length vs) n h
+
+  module _ (few : n ≤ 4096) where
+    sixteen : (length ts < n) ⊎ (length vs < n) → readWith k e s ts vs ≡ refusedBy 16 (countOn d) ts vs
+    sixteen h =
+        refuses 16 (countOn d) (λ z. omega arith) (past-rate ∙ first-skip _ _ (le-ltb _ _ few) ∙ first-here _ _ (lacking h) ∙ ap (refusal 16) at-count)
+
+    module _ (first : n ≤ length ts) (second : n ≤ length vs) where
+      past-room : firstOf tests ≡ firstOf (positionsTests s ++ ratiosTests k s)
+      past-room = past-rate ∙ first-skip _ _ (le-ltb _ _ few) ∙ first-skip _ _ (ap₂ (λ (a b : Bool). cond a true b) (le-ltb _ _ first) (le-ltb _ _ second))
+
+      -- the head of the positions' field is cut
+      ten-head : length s < positionsAt s + headSize → readWith k e s ts vs ≡ refusedBy 10 (positionsOn d) ts vs
+      ten-head h = refuses 10 (positionsOn d) (λ z. omega arith) (past-room ∙ first-here _ _ (lt-ltb _ _ h) ∙ ap (refusal 10) at-positions)
+
+      -- or it is whole, with a tag
+      module _ (head : positionsAt s + headSize ≤ length s) (tag : ℕ) (tagged : tagAt s (positionsAt s) ≡ tag) where
+        abbrev good : List ℕ
+        good = positionsTag Old ∷ positionsTag Wide ∷ []
+
+        eleven : (tag ≡ 3 → ⊥) → (tag ≡ 5 → ⊥) → readWith k e s ts vs ≡ refusedBy 11 (positionsOn d) ts vs
+        unfolding member
+        eleven three five =
+            refuses 11 (positionsOn d) (λ z. omega arith)
+            (past-room ∙ first-skip _ _ (le-ltb _ _ head)
+            ∙ first-here _ _ (ap (λ (t : ℕ). not (member t good)) tagged ∙ rw (ne-eqb tag 3 three, ne-eqb tag 5 five))
+            ∙ ap (refusal 11) at-positions)
+
+        fifteen-wide : tag ≡ 5 → 3500 < n → readWith k e s ts vs ≡ refusedBy 15 (countOn d) ts vs
+        unfolding member
+        fifteen-wide five many =
+            let is = tagged ∙ five in
+            refuses 15 (countOn d) (λ z. omega arith)
+            (past-room
+            ∙ sym
+            (positions-many s (ratiosTests k s) head (ap (λ (t : ℕ). member t good) is)
+            (ap (λ (t : ℕ). ltb (pointsOf (formOf t)) (countIn s)) is ∙ ap (ltb 3500) counted ∙ lt-ltb 3500 n many))
+            ∙ ap (refusal 15) at-count)
+
+        -- that of a form, where there are not too many points for it
+        module _ (f : Form) (named : tag ≡ positionsTag f) (points : n ≤ pointsOf f) where
+          formed : formIn s ≡ f
+          formed = ap formOf (tagged ∙ named) ∙ form-of f
+
+          is-good : member (tagAt s (positionsAt s)) good ≡ true
+          is-good = ap (λ (t : ℕ). member t good) (tagged ∙ named) ∙ tag-good f
+
+          past-many : firstOf tests ≡ firstOf (fieldTests s good none (positionsAt s) ++ (test (missing (positionsIn s)) 17 (positionsAt s) ∷ ratiosTests k s))
+          past-many = past-room ∙ positions-few s (ratiosTests k s) (ap₂ (λ (x : Form) (c : ℕ). ltb (pointsOf x) c) formed counted ∙ le-ltb _ _ points)
+
+          ten-body : length s < nextAt s (positionsAt s) → readWith k e s ts vs ≡ refusedBy 10 (positionsOn d) ts vs
+          ten-body h =
+              refuses 10 (positionsOn d) (λ z. omega arith) (past-many ∙ sym (body-short s good none (positionsAt s) _ head is-good tt h) ∙ ap (refusal 10) at-positions)
+
+          seventeen : nextAt s (positionsAt s) ≤ length s → readPositions (tableOf f) n (bodyAt s (positionsAt s)) ≡ none → readWith k e s ts vs ≡ refusedBy 17 (positionsOn d) ts vs
+          seventeen h unread =
+              refuses 17 (positionsOn d) (λ z. omega arith)
+              (past-many
+              ∙ field-good s good none (positionsAt s) _ head is-good tt h
+              ∙ first-here _ _ (ap₂ (λ (x : Form) (c : ℕ). missing (readPositions (tableOf x) c (bodyAt s (positionsAt s)))) formed counted ∙ ap missing unread)
+              ∙ ap (refusal 17) at-positions)
+
+      -- positions that are read: the ratios' field is left
+      module _ (f : Form) (ps : List ℕ) (many : length ps ≡ n) (points : length ps ≤ pointsOf f) (valid : validPositions (tableOf f) ps ≡ true) (there : FieldStands s (positionsAt s) (fieldOfPoints f ps)) where
+        as-counted : countIn s ≡ length ps
+        as-counted = counted ∙ sym many
+
+        past-positions : firstOf tests ≡ firstOf (ratiosTests k s)
+        past-positions = past-room ∙ positions-pass s f ps points valid as-counted there (ratiosTests k s)
+
+        ten-ratios : length s < ratiosAt s + headSize → readWith k e s ts vs ≡ refusedBy 10 (ratiosAt s) ts vs
+        ten-ratios h = refuses 10 (ratiosAt s) (λ z. omega arith) (past-positions ∙ first-here _ _ (lt-ltb _ _ h))
+
+        module _ (head : ratiosAt s + headSize ≤ length s) (tag : ℕ) (tagged : tagAt s (ratiosAt s) ≡ tag) where
+          eleven-ratios : (tag ≡ 4 → ⊥) → readWith k e s ts vs ≡ refusedBy 11 (ratiosAt s) ts vs
+          unfolding member
+          eleven-ratios four =
+              refuses 11 (ratiosAt s) (λ z. omega arith)
+              (past-positions ∙ first-skip _ _ (le-ltb _ _ head) ∙ first-here _ _ (ap (λ (t : ℕ). not (member t (ratiosTag ∷ []))) tagged ∙ rw (ne-eqb tag 4 four)))
+
+          module _ (four : tag ≡ 4) where
+            ratios-good : member (tagAt s (ratiosAt s)) (ratiosTag ∷ []) ≡ true
+            unfolding member
+            ratios-good = ap (λ (t : ℕ). member t (ratiosTag ∷ [])) (tagged ∙ four)
+
+            ten-ratios-body : length s < nextAt s (ratiosAt s) → readWith k e s ts vs ≡ refusedBy 10 (ratiosAt s) ts vs
+            ten-ratios-body h =
+                refuses 10 (ratiosAt s) (λ z. omega arith) (past-positions ∙ sym (body-short s (ratiosTag ∷ []) none (ratiosAt s) _ head ratios-good tt h))
+
+            module _ (h : endAt s ≤ length s) where
+              past-ratios : firstOf tests ≡ firstOf (test (missing (ratiosIn k s)) 18 (ratiosAt s) ∷ [])
+              past-ratios = past-positions ∙ field-good s (ratiosTag ∷ []) none (ratiosAt s) _ head ratios-good tt h
+
+              eighteen : k n (bodyAt s (ratiosAt s)) ≡ none → readWith k e s ts vs ≡ refusedBy 18 (ratiosAt s) ts vs
+              eighteen unread =
+                  refuses 18 (ratiosAt s) (λ z. omega arith) (past-ratios ∙ first-here _ _ (ap (λ (c : ℕ). missing (k c (bodyAt s (ratiosAt s)))) counted ∙ ap missing unread))
+
+              found : (qs : List ℕ) → k n (bodyAt s (ratiosAt s)) ≡ some qs → readWith k e s ts vs ≡ record {
+                answer = record { number = 0; place = 0; rate = r; side = d; count = n; form = positionsTag f; used = endAt s };
+                positions = ps ++ drop (length ps) ts;
+                ratios = qs ++ drop (length qs) vs;
+              }
+              unfolding readWith
+              found qs read =
+                  let v : ratiosIn k s ≡ some qs = ap (λ (c : ℕ). k c (bodyAt s (ratiosAt s))) counted ∙ read in
+                  let a = rate-is s r d n listed sided counts all in
+                  let b = side-is s r d n listed sided counts all in
+                  let c = counted in
+                  let g : positionsTag (formIn s) ≡ positionsTag f = ap positionsTag (form-is s f ps points valid as-counted there) in
+                  let x : listOf (positionsIn s) ≡ ps = ap listOf (positions-are s f ps points valid as-counted there) in
+                  let y : listOf (ratiosIn k s) ≡ qs = ap listOf v in
+                  answer-good (recordAnswer k s ts vs) ts vs tests (past-ratios ∙ first-skip _ _ (ap missing v)) ∙ cc
+
+-- ---- the statements
+
+-- the front, and then any bytes
+module _ (r d n : ℕ) (rest : List ℕ) (listed : isRate r ≡ true) (sided : d ≤ 26) (counts : n < 256 ^ 2) where
+  abbrev input : List ℕ
+  input = frontBytes r d n ++ rest
+
+  front-all : StandAll input rateAt (frontFields r d n)
+  front-all = laid-stand [] (frontFields r d n) rest (front-small r d n)
+
+  -- the positions' field begins where the front ends
+  front-length : length (frontBytes r d n) ≡ positionsAt input
+  front-length = omega (arith, stand-past input rateAt (frontFields r d n) front-all) ∙ front-past input r d n listed sided counts front-all
+
+  input-length : length input ≡ positionsAt input + length rest
+  input-length = length-append (frontBytes r d n) rest ∙ ap (λ (m : ℕ). m + length rest) front-length
+
+  tag-there : tagAt input (positionsAt input) ≡ tagAt rest 0
+  unfolding tagAt
+  tag-there = ap (λ (p : ℕ). getD input p 0) (sym front-length ∙ sym (add-zero (length (frontBytes r d n)))) ∙ getD-append-add (frontBytes r d n) rest 0 0
+
+pub count-first : CountFirst
+count-first k e r d n rest ts vs listed o sided counts =
+    let s = input r d n rest listed sided counts in
+    let all = front-all r d n rest listed sided counts in
+    (fifteen k e r d n s ts vs listed o sided counts all, λ few h. sixteen k e r d n s ts vs listed o sided counts all few h)
+
+pub tag-first : TagFirst
+tag-first k e r d n rest ts vs listed o sided few first second =
+    let counts : n < 256 ^ 2 = omega arith in
+    let s = input r d n rest listed sided counts in
+    let all = front-all r d n rest listed sided counts in
+    let size = input-length r d n rest listed sided counts in
+    let tag = tag-there r d n rest listed sided counts in (
+      λ h. ten-head k e r d n s ts vs listed o sided counts all few first second (omega arith),
+      λ long three five. eleven k e r d n s ts vs listed o sided counts all few first second (omega arith) (tagAt rest 0) tag three five,
+      λ long five more. fifteen-wide k e r d n s ts vs listed o sided counts all few first second (omega arith) (tagAt rest 0) tag five more,
+    )
+
+pub body-by-form : BodyByForm
+unfolding nextAt
+body-by-form k e r d n f rest ts vs listed o sided points first second =
+    let few : n ≤ 4096 = omega (arith, points-few f) in
+    let counts : n < 256 ^ 2 = omega arith in (
+      λ l small cut.
+          let x = (positionsTag f ∷ bytesOf 2 l) ++ rest in
+          let s = input r d n x listed sided counts in
+          let all = front-all r d n x listed sided counts in
+          let at = front-length r d n x listed sided counts in
+          let h = subst (λ (p : ℕ). (tagAt s p ≡ positionsTag f) × (lengthAt s p ≡ l)) at (head-stands (frontBytes r d n) (positionsTag f) l rest small) in
+          let size = input-length r d n x listed sided counts in
+          let long : length x ≡ 3 + length rest = length-append (positionsTag f ∷ bytesOf 2 l) rest ∙ omega (arith, length-digits 256 2 l) in
+          ten-body k e r d n s ts vs listed o sided counts all few first second (omega arith) (positionsTag f) (h .0) f refl points (omega (arith, h .1)),
+      λ body small unread.
+          let x = fieldBytes (fieldOf (positionsTag f) body) ++ rest in
+          let s = input r d n x listed sided counts in
+          let all = front-all r d n x listed sided counts in
+          let at = front-length r d n x listed sided counts in
+          let h = subst (λ (p : ℕ). FieldStands s p (fieldOf (positionsTag f) body)) at (stands (frontBytes r d n) (fieldOf (positionsTag f) body) rest (omega arith)) in
+          seventeen k e r d n s ts vs listed o sided counts all few first second (h .head) (positionsTag f) (h .tagged) f refl points (h .whole)
+          (ap (readPositions (tableOf f) n) (h .within) ∙ unread),
+    )
+
+-- the front and positions in a form, and then any bytes
+module _ (r d : ℕ) (f : Form) (ps rest : List ℕ) (listed : isRate r ≡ true) (sided : d ≤ 26) (points : length ps ≤ pointsOf f) (valid : validPositions (tableOf f) ps ≡ true) where
+  abbrev front : List Field
+  front = frontFields r d (length ps)
+
+  abbrev before : List ℕ
+  before = laid (front ++ (fieldOfPoints f ps ∷ []))
+
+  abbrev whole : List ℕ
+  whole = before ++ rest
+
+  few-points : length ps ≤ 4096
+  few-points = omega (arith, points-few f)
+
+  counts-points : length ps < 256 ^ 2
+  counts-points = omega (arith, few-points)
+
+  stood : StandAll whole rateAt (front ++ (fieldOfPoints f ps ∷ []))
+  stood =
+      laid-stand [] (front ++ (fieldOfPoints f ps ∷ [])) rest
+      (small-append front (fieldOfPoints f ps ∷ []) (front-small r d (length ps)) (omega (arith, coded-size f ps valid points, form-bodies f .0), tt))
+
+  parts : StandAll whole rateAt front × StandAll whole (pastAll whole rateAt front) (fieldOfPoints f ps ∷ [])
+  parts = stand-append whole rateAt front (fieldOfPoints f ps ∷ []) stood
+
+  past : pastAll whole rateAt front ≡ positionsAt whole
+  past = front-past whole r d (length ps) listed sided counts-points (parts .0)
+
+  points-stand : FieldStands whole (positionsAt whole) (fieldOfPoints f ps)
+  points-stand = subst (λ (p : ℕ). FieldStands whole p (fieldOfPoints f ps)) past (parts .1 .0)
+
+  -- the ratios' field begins where these end
+  before-length : length before ≡ ratiosAt whole
+  before-length =
+      omega (arith, stand-past whole rateAt (front ++ (fieldOfPoints f ps ∷ [])) stood) ∙ past-append whole rateAt front (fieldOfPoints f ps ∷ []) ∙ ap (nextAt whole) past
+
+  whole-length : length whole ≡ ratiosAt whole + length rest
+  whole-length = length-append before rest ∙ ap (λ (m : ℕ). m + length rest) before-length
+
+  ratios-tag : tagAt whole (ratiosAt whole) ≡ tagAt rest 0
+  unfolding tagAt
+  ratios-tag = ap (λ (p : ℕ). getD whole p 0) (sym before-length ∙ sym (add-zero (length before))) ∙ getD-append-add before rest 0 0
+
+pub ratios-by-reading : RatiosByReading
+unfolding nextAt
+ratios-by-reading k e r d f ps rest ts vs listed o sided points valid first second =
+    let n = length ps in
+    let b = before r d f ps rest listed sided points valid in
+    let few = few-points r d f ps rest listed sided points valid in
+    let counts = counts-points r d f ps rest listed sided points valid in (
+      λ h.
+          let s = b ++ rest in
+          let at = before-length r d f ps rest listed sided points valid in
+          let size = whole-length r d f ps rest listed sided points valid in
+          ten-ratios k e r d n s ts vs listed o sided counts (parts r d f ps rest listed sided points valid .0) few first second f ps refl points valid (points-stand r d f ps rest listed sided points valid) (omega arith)
+          ∙ ap (λ (p : ℕ). refusedBy 10 p ts vs) (sym at),
+      λ long four.
+          let s = b ++ rest in
+          let at = before-length r d f ps rest listed sided points valid in
+          let size = whole-length r d f ps rest listed sided points valid in
+          eleven-ratios k e r d n s ts vs listed o sided counts (parts r d f ps rest listed sided points valid .0) few first second f ps refl points valid (points-stand r d f ps rest listed sided points valid)
+          (omega arith) (tagAt rest 0) (ratios-tag r d f ps rest listed sided points valid) four
+          ∙ ap (λ (p : ℕ). refusedBy 11 p ts vs) (sym at),
+      λ l small cut.
+          let x = (4 ∷ bytesOf 2 l) ++ rest in
+          let s = b ++ x in
+          let at = before-length r d f ps x listed sided points valid in
+          let size = whole-length r d f ps x listed sided points valid in
+          let h = subst (λ (p : ℕ). (tagAt s p ≡ 4) × (lengthAt s p ≡ l)) at (head-stands b 4 l rest small) in
+          let long : length x ≡ 3 + length rest = length-append (4 ∷ bytesOf 2 l) rest ∙ omega (arith, length-digits 256 2 l) in
+          ten-ratios-body k e r d n s ts vs listed o sided counts (parts r d f ps x listed sided points valid .0) few first second f ps refl points valid (points-stand r d f ps x listed sided points valid)
+          (omega arith) 4 (h .0) refl (omega (arith, h .1))
+          ∙ ap (λ (p : ℕ). refusedBy 10 p ts vs) (sym at),
+      λ body small.
+          let x = fieldBytes (fieldOf 4 body) ++ rest in
+          let s = b ++ x in
+          let at = before-length r d f ps x listed sided points valid in
+          let h = subst (λ (p : ℕ). FieldStands s p (fieldOf 4 body)) at (stands b (fieldOf 4 body) rest (omega arith)) in
+          let p = parts r d f ps x listed sided points valid .0 in
+          let q = points-stand r d f ps x listed sided points valid in (
+            λ unread.
+                eighteen k e r d n s ts vs listed o sided counts p few first second f ps refl points valid q (h .head) 4 (h .tagged) refl (h .whole) (ap (k n) (h .within) ∙ unread)
+                ∙ ap (λ (y : ℕ). refusedBy 18 y ts vs) (sym at),
+            λ qs read.
+                let used : endAt s ≡ length b + 3 + length body = h .next ∙ omega (arith, at, length-field (fieldOf 4 body)) in
+                found k e r d n s ts vs listed o sided counts p few first second f ps refl points valid q (h .head) 4 (h .tagged) refl (h .whole) qs (ap (k n) (h .within) ∙ read)
+                ∙ ap
+                (λ (u : ℕ).
+                record {
+                  answer = record { number = 0; place = 0; rate = r; side = d; count = n; form = positionsTag f; used = u };
+                  positions = ps ++ drop n ts;
+                  ratios = qs ++ drop (length qs) vs;
+                })
+                used,
+          ),
+    )

@@ -1,0 +1,189 @@
+-- Document 02, No. 3: answers of reading and of writing in the wide form, as tables, computed from the definitions by one statement each.
+--   third a b ds                    the body of two positions and the bits ds of a third
+--   escaped x                       the code of the row of 64 bits with the bits of x
+--   BodyExample, body, bodies       what is read from such a body by the wide table; bodies-hold: each is as it is given
+--   front n, sided n                the fields of the rate 96000 and the count n, without a side and on side 4
+--   twoOpen                         two points at 0 in the wide form, whose ratios are two exceptions of 0: no coding, but an open form
+--   refusedRead n p, read d n f u   the answer of a refusal, and of a record with side d, n points, the form's tag f and u bytes
+--   ReadExample, row, rowOpen       the input, the room for numbers, and the answers of strict and of open reading
+--   reads, reads-hold               the rows, and that each is as it is given
+--   WriteExample, wrote             a run, the room, and the answer
+--   writes, writes-hold             the rows, and that each is as it is given
+use mathlib.Core.Path.{_≡_, refl}
+use mathlib.Core.List.{List, [], _∷_, _++_, map}
+use mathlib.Core.Option.{Option, none, some}
+use Prim.Native.Nat.{ℕ, _+_, _-_, _^_}
+use lib.ListN.{replicate}
+use Rattle.lists.specs.Lists.{member, firstIndex}
+use Rattle.lists.specs.Compare.{begins, same}
+use Rattle.bits.specs.Digits.{digitsOf, bitsOf, bytesOf, numberOf}
+use Rattle.bits.specs.Packing.{bits, eights, pack}
+use Rattle.limits.specs.Rates.{rates, isRate}
+use Rattle.limits.specs.Sides.{isSide}
+use Rattle.refusals.specs.Tests.{firstOf}
+use Rattle.position_format.specs.declared.Form.the-variants.{Old, Wide}
+use Rattle.position_format.specs.Rows.{rows, wideRows, inTable, code}
+use Rattle.position_format.specs.Steps.{stepsFrom, steps}
+use Rattle.position_format.specs.Positions.{stepBits, positionBits, codedPositions, validPositions, stepAt, decodedSteps, decodedBits, decoded, readPositions}
+use Rattle.ratio_format.specs.Choice.{find, best, ratioForm}
+use Rattle.ratio_format.specs.Forms.{written, coded}
+use Rattle.ratio_format.specs.Open.{openRead}
+use Rattle.ratio_format.specs.Bodies.{codedFrom, openFrom, strictRatios}
+use Rattle.record_format.specs.declared.ReadAnswer.{ReadAnswer}
+use Rattle.record_format.specs.declared.WriteAnswer.{WriteAnswer}
+use Rattle.record_format.specs.Fields.{fieldBytes, laid, tagAt, lengthAt, bodyAt, nextAt}
+use Rattle.record_format.specs.Examples.{pausedBytes}
+use Rattle.record_format.specs.Runs.{Run, run, recordOf}
+use Rattle.record_format.specs.Writing.{writeRefusal, writeAnswer}
+use Rattle.record_format.specs.Reading.{countAt, sideIn, readWith, readStrict, readOpen}
+
+-- ---- steps
+
+-- three points
+abbrev third : ℕ → ℕ → List ℕ → List ℕ
+third a b ds = pack (bitsOf 64 a ++ (bitsOf 64 b ++ ds))
+
+-- 11111 and 64 bits
+abbrev escaped : ℕ → List ℕ
+escaped x = (1 ∷ 1 ∷ 1 ∷ 1 ∷ 1 ∷ []) ++ bitsOf 64 x
+
+-- a body, and what it holds
+pub record BodyExample : Type 0 where
+  pub body : List ℕ
+  pub holds : Option (List ℕ)
+
+-- such an example
+abbrev body : List ℕ → Option (List ℕ) → BodyExample
+body l o = record { body = l; holds = o }
+
+-- the steps past the ends of the 32 bits, the largest ones, and the old table's code of 2,049, which is another step here; and what no writer writes:
+-- the old table's code of 2^31,
+-- a step that an earlier row holds, -2^63, a position out of range on either side, a sum past signed 64 bits, too few bits, a 1 in the fill
+pub bodies : List BodyExample
+bodies =
+    body (third 0 0 (escaped (2 ^ 31 + 1))) (some (0 ∷ 0 ∷ (2 ^ 31 + 1) ∷ []))
+    ∷ body (third (2 ^ 31) (2 ^ 31) (escaped (2 ^ 64 - 2 ^ 31))) (some ((2 ^ 31) ∷ (2 ^ 31) ∷ 0 ∷ []))
+    ∷ body (third (2 ^ 62 - 1) 0 (escaped (2 ^ 63 - 2))) (some ((2 ^ 62 - 1) ∷ 0 ∷ (2 ^ 62 - 1) ∷ []))
+    ∷ body (third 0 (2 ^ 62 - 1) (escaped (2 ^ 64 - (2 ^ 63 - 2)))) (some (0 ∷ (2 ^ 62 - 1) ∷ 0 ∷ []))
+    ∷ body (third 0 0 ((1 ∷ 1 ∷ 1 ∷ 1 ∷ 0 ∷ []) ++ bitsOf 32 (2 ^ 31))) (some (0 ∷ 0 ∷ (2 ^ 31) ∷ []))
+    ∷ body (third 0 0 ((1 ∷ 1 ∷ 1 ∷ 1 ∷ []) ++ bitsOf 32 2049)) (some (0 ∷ 0 ∷ 4098 ∷ []))
+    ∷ body (third 0 0 ((1 ∷ 1 ∷ 1 ∷ 1 ∷ []) ++ bitsOf 32 (2 ^ 31))) none
+    ∷ body (third 0 0 (escaped (2 ^ 31))) none
+    ∷ body (third (2 ^ 31) (2 ^ 31) (escaped (2 ^ 64 - (2 ^ 31 - 1)))) none
+    ∷ body (third 0 0 (escaped 0)) none
+    ∷ body (third 0 0 (escaped 65)) none
+    ∷ body (third 0 (2 ^ 62 - 1) (escaped (2 ^ 63))) none
+    ∷ body (third 0 0 (escaped (2 ^ 64 - 2 ^ 31 - 1))) none
+    ∷ body (third 0 0 (escaped (2 ^ 62))) none
+    ∷ body (third 0 (2 ^ 62 - 1) (escaped (2 ^ 63 - 1))) none
+    ∷ body (third 0 0 ((1 ∷ 1 ∷ 1 ∷ 1 ∷ 1 ∷ []) ++ bitsOf 50 1)) none
+    ∷ body (third 0 0 (escaped (2 ^ 31 + 1) ++ (0 ∷ 0 ∷ 1 ∷ []))) none
+    ∷ []
+
+-- each, computed from the definitions, is the one that is given
+pub bodies-hold : map (λ x. readPositions wideRows 3 (x .body)) bodies ≡ map (λ x. x .holds) bodies
+unfolding bodies firstIndex begins same digitsOf numberOf bits eights pack rows wideRows inTable code stepsFrom steps stepBits positionBits codedPositions validPositions stepAt decodedSteps decodedBits decoded readPositions
+bodies-hold = refl
+
+-- ---- reading
+
+-- a rate's field and a count's
+abbrev front : ℕ → List ℕ
+front n = 0x01 ∷ 0x00 ∷ 0x04 ∷ 0x00 ∷ 0x01 ∷ 0x77 ∷ 0x00 ∷ 0x02 ∷ 0x00 ∷ 0x02 ∷ bytesOf 2 n
+
+-- a side's between them
+abbrev sided : ℕ → List ℕ
+sided n = 0x01 ∷ 0x00 ∷ 0x04 ∷ 0x00 ∷ 0x01 ∷ 0x77 ∷ 0x00 ∷ 0x06 ∷ 0x00 ∷ 0x01 ∷ 0x04 ∷ 0x02 ∷ 0x00 ∷ 0x02 ∷ bytesOf 2 n
+
+-- every other returned number is 0
+abbrev refusedRead : ℕ → ℕ → ReadAnswer
+refusedRead n p = record { number = n; place = p; rate = 0; side = 0; count = 0; form = 0; used = 0 }
+
+-- a success, with its form's tag
+abbrev read : ℕ → ℕ → ℕ → ℕ → ReadAnswer
+read d n f u = record { number = 0; place = 0; rate = 96000; side = d; count = n; form = f; used = u }
+
+-- what is read into room for so many numbers, and what it gives
+pub record ReadExample : Type 0 where
+  pub room : ℕ
+  pub input : List ℕ
+  pub strictly : ReadAnswer
+  pub openly : ReadAnswer
+
+-- both readings answer alike
+abbrev row : ℕ → List ℕ → ReadAnswer → ReadExample
+row m s a = record { room = m; input = s; strictly = a; openly = a }
+
+-- only open reading accepts
+abbrev rowOpen : List ℕ → ReadAnswer → ReadAnswer → ReadExample
+rowOpen s a b = record { room = 4096; input = s; strictly = a; openly = b }
+
+-- the positions' and the ratios' field of two points
+abbrev twoOpen : List ℕ
+twoOpen = 0x05 ∷ 0x00 ∷ 0x10 ∷ (replicate 16 0 ++ (0x04 ∷ 0x00 ∷ 0x12 ∷ 0xFF ∷ (replicate 8 0 ++ (0xFF ∷ replicate 8 0))))
+
+-- 3,501 points: nothing behind the count, a cut head, another tag, each form's tag; the room first; 4,097 and 3,500 points; no points in each form, and
+-- tag 5 in the place of the ratios'; a run with a pause; an open form
+pub reads : List ReadExample
+reads =
+    row 4096 (front 3501) (refusedRead 10 12)
+    ∷ row 4096 (front 3501 ++ (0x05 ∷ 0x00 ∷ [])) (refusedRead 10 12)
+    ∷ row 4096 (front 3501 ++ (0x09 ∷ 0x00 ∷ 0x00 ∷ [])) (refusedRead 11 12)
+    ∷ row 4096 (front 3501 ++ (0x05 ∷ 0x00 ∷ 0x00 ∷ [])) (refusedRead 15 7)
+    ∷ row 4096 (front 3501 ++ (0x05 ∷ 0xFF ∷ 0xFF ∷ [])) (refusedRead 15 7)
+    ∷ row 4096 (sided 3501 ++ (0x05 ∷ 0xFF ∷ 0xFF ∷ [])) (refusedRead 15 11)
+    ∷ row 4096 (front 3501 ++ (0x03 ∷ 0xFF ∷ 0xFF ∷ [])) (refusedRead 10 12)
+    ∷ row 4096 (front 4096 ++ (0x05 ∷ 0x00 ∷ 0x00 ∷ [])) (refusedRead 15 7)
+    ∷ row 3500 (front 3501 ++ (0x05 ∷ 0x00 ∷ 0x00 ∷ [])) (refusedRead 16 7)
+    ∷ row 3500 (sided 3501 ++ (0x05 ∷ 0x00 ∷ 0x00 ∷ [])) (refusedRead 16 11)
+    ∷ row 4096 (front 4097) (refusedRead 15 7)
+    ∷ row 4096 (front 3500 ++ (0x05 ∷ 0xFF ∷ 0xFF ∷ [])) (refusedRead 10 12)
+    ∷ row 4096 (front 0 ++ (0x05 ∷ 0x00 ∷ 0x01 ∷ 0x00 ∷ [])) (refusedRead 17 12)
+    ∷ row 4096 (front 0 ++ (0x05 ∷ 0x00 ∷ 0x00 ∷ 0x04 ∷ 0x00 ∷ 0x00 ∷ [])) (read 0 0 5 18)
+    ∷ row 4096 (sided 0 ++ (0x05 ∷ 0x00 ∷ 0x00 ∷ 0x04 ∷ 0x00 ∷ 0x00 ∷ [])) (read 4 0 5 22)
+    ∷ row 4096 (front 0 ++ (0x03 ∷ 0x00 ∷ 0x00 ∷ 0x04 ∷ 0x00 ∷ 0x00 ∷ [])) (read 0 0 3 18)
+    ∷ row 4096 (front 0 ++ (0x05 ∷ 0x00 ∷ 0x00 ∷ 0x05 ∷ 0x00 ∷ 0x00 ∷ [])) (refusedRead 11 15)
+    ∷ row 3 pausedBytes (read 0 3 5 54)
+    ∷ row 2 pausedBytes (refusedRead 16 7)
+    ∷ rowOpen (front 2 ++ twoOpen) (refusedRead 18 31) (read 0 2 5 52)
+    ∷ rowOpen (sided 2 ++ twoOpen) (refusedRead 18 35) (read 4 2 5 56)
+    ∷ []
+
+-- each answer, computed from the definitions, is the one that is given
+pub reads-hold :
+    (map (λ x. readStrict 0 (x .input) (replicate (x .room) 0) (replicate (x .room) 0) .answer) reads ≡ map (λ x. x .strictly) reads)
+    × (map (λ x. readOpen 0 (x .input) (replicate (x .room) 0) (replicate (x .room) 0) .answer) reads ≡ map (λ x. x .openly) reads)
+unfolding reads member firstIndex begins same digitsOf numberOf bits eights pack rates isRate isSide firstOf rows wideRows inTable code stepsFrom steps stepBits positionBits codedPositions validPositions stepAt decodedSteps decodedBits decoded readPositions find best ratioForm written coded codedFrom openRead openFrom strictRatios tagAt lengthAt bodyAt nextAt countAt sideIn readWith
+reads-hold = (refl, refl)
+
+-- ---- writing
+
+-- a run, the room that is lent, and the answer
+pub record WriteExample : Type 0 where
+  pub subject : Run
+  pub room : ℕ
+  pub answer : WriteAnswer
+
+-- such an example: the answer's number, place and length
+abbrev wrote : Run → ℕ → ℕ → ℕ → ℕ → WriteExample
+wrote r m n p l = record { subject = r; room = m; answer = record { number = n; place = p; length = l } }
+
+-- a step that only the wide form takes; the first of two positions that neither takes, and of two such steps; 3,501 points; and the room
+pub writes : List WriteExample
+writes =
+    wrote (run 96000 0 Old (0 ∷ 0 ∷ (2 ^ 31 + 1) ∷ []) (0 ∷ 0 ∷ 0 ∷ [])) 60 5 2 0
+    ∷ wrote (run 96000 0 Old (0 ∷ 0 ∷ (2 ^ 31 + 1) ∷ 0 ∷ []) (0 ∷ 0 ∷ 0 ∷ 0 ∷ [])) 60 5 2 0
+    ∷ wrote (run 96000 0 Wide (0 ∷ 0 ∷ (2 ^ 31 + 1) ∷ []) (0 ∷ 0 ∷ 0 ∷ [])) 54 0 0 54
+    ∷ wrote (run 96000 4 Wide (0 ∷ (2 ^ 62 - 1) ∷ 0 ∷ []) (0 ∷ 0 ∷ 0 ∷ [])) 58 0 0 58
+    ∷ wrote (run 96000 0 Wide (0 ∷ (2 ^ 62) ∷ (2 ^ 62) ∷ []) (0 ∷ 0 ∷ 0 ∷ [])) 60 4 1 0
+    ∷ wrote (run 96000 0 Wide (replicate 3501 0) (replicate 3501 0)) 60 3 0 0
+    ∷ wrote (run 96000 0 Wide (0 ∷ 0 ∷ (2 ^ 31 + 1) ∷ []) (0 ∷ 0 ∷ 0 ∷ [])) 53 6 0 0
+    ∷ wrote (run 96000 0 Wide (0 ∷ []) []) 60 2 0 0
+    ∷ wrote (run 96000 27 Wide [] []) 60 21 0 0
+    ∷ wrote (run 96000 0 Wide [] []) 18 0 0 18
+    ∷ []
+
+-- each answer, computed from the definitions, is the one that is given
+pub writes-hold : map (λ x. writeAnswer (x .subject) (replicate (x .room) 0)) writes ≡ map (λ x. x .answer) writes
+unfolding writes member firstIndex digitsOf eights pack rates isRate firstOf rows wideRows inTable code stepsFrom steps stepBits positionBits codedPositions find best ratioForm written coded codedFrom fieldBytes laid recordOf writeRefusal writeAnswer
+writes-hold = refl

@@ -11,7 +11,7 @@ use Rattle.ratio_format.specs.Forms.{coded}
 use Rattle.record_format.specs.Claims.{Accepted}
 use Rattle.record_format.specs.Reading.{Answer}
 use Rattle.record_format.specs.Runs.{Run, recordOf}
-use Rattle.record_format.proofs.Writing.{accepted-fits}
+use Rattle.record_format.proofs.Writing.{accepted-fits, fitting-few}
 use Rattle.inputs.specs.Inputs.{inputLimit, blank, readInput}
 use Rattle.inputs.proofs.Inputs.{over-front, record-uncut, reads-record, reads-no-other}
 use Rattle.explain.specs.Indexes.{indexOf}
@@ -35,7 +35,7 @@ record-text r a rest t =
     ∙ ap (λ (n : ℕ). indexText n (r .ratios) (indexOf t)) (ap bodyIn (record-uncut r a rest) ∙ body-same r f (take (inputLimit - length (recordOf r)) rest))
 
 few : (r : Run) → Accepted r → length (r .ratios) ≤ maxPoints
-few r a = let f = accepted-fits r (a .passes) in omega (arith, f .paired, f .few)
+few r a = let f = accepted-fits r (a .passes) in omega (arith, f .paired, fitting-few r f)
 
 pub prints-reason : PrintsReason
 prints-reason r a rest t i e h =

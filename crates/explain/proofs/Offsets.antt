@@ -14,7 +14,7 @@ use Rattle.record_format.specs.Fields.{fieldOf, bodyAt}
 use Rattle.record_format.specs.Runs.{Run, ratiosTag, recordOf}
 use Rattle.record_format.proofs.Fields.{length-field}
 use Rattle.record_format.proofs.ReadsBack.{at-end, ratios-stand}
-use Rattle.record_format.proofs.Writing.{Fitting}
+use Rattle.record_format.proofs.Writing.{Fitting, fitting-few}
 use Rattle.reasons.specs.Reasons.{windowAt}
 use Rattle.reasons.proofs.Claims.{names-form}
 use Rattle.explain.specs.Printed.{bodyIn, offsetOf}
@@ -52,7 +52,7 @@ pub ratio-bytes : (r : Run) → Fitting r → (i : ℕ) → i < length (r .ratio
     drop (offsetOf (bodyIn (recordOf r)) (r .ratios) i) (recordOf r) ≡ written v (ratioForm v w) ++ codedFrom windowSize (windowAt (r .ratios) (i + 1)) (drop (i + 1) (r .ratios))
 ratio-bytes r fit i h =
     let vs = r .ratios in
-    let few : length vs ≤ maxPoints = omega (arith, fit .paired, fit .few) in
+    let few : length vs ≤ maxPoints = omega (arith, fit .paired, fitting-few r fit) in
     sym (drop-drop (length (codedRatios (take i vs))) (bodyIn (recordOf r)) (recordOf r))
     ∙ ap (drop (length (codedRatios (take i vs)))) (record-body r fit ∙ names-form vs i few h .1)
     ∙ drop-append-seam (codedRatios (take i vs)) _

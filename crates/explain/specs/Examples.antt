@@ -10,6 +10,7 @@ use mathlib.Core.Path.{_≡_, refl}
 use Prim.Native.Nat.{ℕ, _+_, _^_}
 use Rattle.lists.specs.Lists.{firstIndex}
 use Rattle.bits.specs.Digits.{digitsOf, numberOf}
+use Rattle.position_format.specs.declared.Form.the-variants.{Old}
 use Rattle.record_format.specs.Runs.{Run, run, recordOf}
 use Rattle.text.specs.Lines.{refusedLine}
 use Rattle.text.specs.Numbers.{trimmed, decimal, hex16}
@@ -20,7 +21,7 @@ use Rattle.explain.specs.Printed.{printed}
 
 -- the rate has no part in the text
 abbrev pub explainedRun : ℕ → Run
-explainedRun d = run 48000 d (0 ∷ 960 ∷ []) (0xc01a666666666666 ∷ 0xc00e666666666666 ∷ [])
+explainedRun d = run 48000 d Old (0 ∷ 960 ∷ []) (0xc01a666666666666 ∷ 0xc00e666666666666 ∷ [])
 
 -- `ratio 1 c00e666666666666 3 bytes at 43`, or another offset, and `xor with place 0, 1 leading and 6 trailing zero bytes`
 abbrev pub explainedText : List ℕ → List ℕ

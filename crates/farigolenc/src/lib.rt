@@ -5,7 +5,7 @@ ghost use Rattle.kind.specs.Kinds.{kindOf};
 ghost use Rattle.span.specs.Spans.{spanned};
 ghost use Rattle.ratio_format.specs.Lives.{freshLive, addAnswer, addOutput, addState};
 ghost use Rattle.ratio_format.specs.Stepping.{made, madeCursor, stepAnswer, stepCursor};
-ghost use Rattle.record_format.specs.Runs.{run};
+ghost use Rattle.record_format.specs.Runs.{run, formOf};
 ghost use Rattle.record_format.specs.Writing.{writeAnswer, writeOutput};
 ghost use Rattle.record_format.specs.Reading.{readStrict, readOpen};
 ghost use Rattle.reasons.specs.Reasons.{explained};
@@ -15,11 +15,13 @@ use kind::Kind;
 use live::adding::add;
 use live::stepping::Begun;
 use live::stepping::Step;
+use position_format::Form;
 use ratio_format::AddAnswer;
 use ratio_format::Cursor;
 use ratio_format::Live;
 use reasons::Reason;
 use record_format::ReadAnswer;
+use record_format::WIDE_TAG;
 use record_format::WriteAnswer;
 use span::SpanAnswer;
 
@@ -68,19 +70,30 @@ pub extern "C" fn farigolenc_span(rate: u32, positions: &[u64]) -> SpanAnswer
     span::span(rate, positions)
 }
 
-// Writes the record of a run at the front of the output.
+// The form that a number names: the wide one by its tag, and the old one by any other.
+fn form_of(form: u32) -> Form
+    ensures { λ r. ⌜ r ≡ formOf form ⌝ }
+{
+    if form == WIDE_TAG as u32 {
+        return Form::Wide;
+    }
+    Form::Old
+}
+
+// Writes the record of a run, in the form that its number names, at the front of the output.
 #[no_mangle]
 pub extern "C" fn farigolenc_write(
     rate: u32,
     side: u32,
+    form: u32,
     positions: &[u64],
     ratios: &[u64],
     out: &mut [u8],
 ) -> WriteAnswer
-    ensures { λ r. ⌜ (r ≡ writeAnswer (run rate side (now (positions .entry)) (now (ratios .entry))) (now (out .entry)))
-        × (now (out .exit) ≡ writeOutput (run rate side (now (positions .entry)) (now (ratios .entry))) (now (out .entry))) ⌝ }
+    ensures { λ r. ⌜ (r ≡ writeAnswer (run rate side (formOf form) (now (positions .entry)) (now (ratios .entry))) (now (out .entry)))
+        × (now (out .exit) ≡ writeOutput (run rate side (formOf form) (now (positions .entry)) (now (ratios .entry))) (now (out .entry))) ⌝ }
 {
-    record_codec::write(rate, side, positions, ratios, out)
+    record_codec::write(rate, side, form_of(form), positions, ratios, out)
 }
 
 // Strict reading of a record.

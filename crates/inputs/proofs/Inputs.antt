@@ -13,7 +13,7 @@ use Rattle.record_format.specs.Claims.{Accepted, Beginning, Bytes, ownAnswer}
 use Rattle.record_format.specs.Reading.{Answer, readStrict}
 use Rattle.record_format.specs.Runs.{Run, recordOf}
 use Rattle.record_format.specs.declared.ReadAnswer.{ReadAnswer}
-use Rattle.record_format.proofs.Writing.{accepted-fits}
+use Rattle.record_format.proofs.Writing.{accepted-fits, fitting-few}
 use Rattle.record_format.proofs.Sizes.{within}
 use Rattle.record_format.proofs.Claims.{reads-back, reads-only, with-room}
 use Rattle.inputs.specs.Inputs.{inputLimit, blank, readInput}
@@ -73,7 +73,7 @@ module _ {s : List ℕ} {r : ReadAnswer} {ts vs : List ℕ} (h : Read s r ts vs)
       let f = accepted-fits own (o .1 .passes) in
       subst (λ (a : Answer). Held (a .answer .count) (a .positions) (a .ratios)) (sym (o .3))
       (record {
-        few = f .few;
+        few = fitting-few own f;
         positions = simp length-append (omega arith);
         ratios = simp length-append (omega (arith, f .paired));
       })
@@ -94,10 +94,10 @@ record-uncut r a rest =
 
 pub reads-record : (r : Run) → Accepted r → (rest : List ℕ) → readInput (recordOf r ++ rest) ≡ ownAnswer r blank blank
 reads-record r a rest =
-    let f = accepted-fits r (a .passes) in
+    let few = fitting-few r (accepted-fits r (a .passes)) in
     ap (λ (l : List ℕ). readStrict 0 l blank blank) (record-uncut r a rest)
     ∙ reads-back r a 0 (take (inputLimit - length (recordOf r)) rest) blank blank .0
-    ∙ with-room r blank blank (roomy (length (r .positions)) (f .few)) (roomy (length (r .positions)) (f .few))
+    ∙ with-room r blank blank (roomy (length (r .positions)) few) (roomy (length (r .positions)) few)
 
 pub reads-no-other : (s : List ℕ) → Bytes s → ((r : Run) → Accepted r → Beginning (recordOf r) s → ⊥) → readInput s .answer .number ≡ 0 → ⊥
 reads-no-other s b never e =

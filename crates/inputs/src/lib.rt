@@ -4,8 +4,8 @@ ghost use lib.ListN.{length};
 ghost use Rattle.inputs.specs.Inputs.{inputLimit, blank};
 use limits::MAX_POINTS;
 
-// As many bytes as a program reads: those of the longest record.
-pub const INPUT: usize = 55325;
+// As many bytes as a program reads: 64 KiB, which every record stays below.
+pub const INPUT: usize = 65536;
 
 // Room for the input.
 pub fn input_room() -> [u8; INPUT]

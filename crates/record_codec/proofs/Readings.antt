@@ -9,16 +9,17 @@ use Rattle.refusals.specs.declared.Refusal.{Refusal}
 use Rattle.refusals.specs.Tests.{Test, test, firstOf}
 use Rattle.refusals.proofs.Tests.{first-here, first-skip, first-end, first-none, first-append-none, first-append-some}
 use Rattle.outputs.specs.Outputs.{over}
-use Rattle.position_format.specs.Rows.{rows}
+use Rattle.position_format.specs.declared.Form.{Form}
 use Rattle.position_format.specs.Positions.{readPositions}
+use Rattle.position_format.specs.Tables.{tableOf}
 use Rattle.record_format.specs.Fields.{bodyAt, nextAt}
+use Rattle.record_format.specs.Runs.{positionsTag}
 use Rattle.record_format.specs.declared.ReadAnswer.{ReadAnswer}
-use Rattle.record_format.specs.Reading.{Answer, refusalAnswer, recordAnswer, readWith, readTests, lacksRoom, ratiosAt, endAt, positionsIn, ratiosIn, listOf, frontTests, roomTests, positionsTests, ratiosTests}
+use Rattle.record_format.specs.Reading.{Answer, refusalAnswer, recordAnswer, readWith, readTests, lacksRoom, positionsAt, ratiosAt, endAt, countIn, formIn, positionsIn, ratiosIn, listOf, frontTests, roomTests, positionsTests, ratiosTests}
 use Rattle.record_format.proofs.Reading.{refusal, room-enough, front-numbered, answer-refused, answer-good}
 use Rattle.record_codec.specs.declared.front.Front.{Front}
-use Rattle.record_codec.specs.declared.coding.Coding.the-variants.{Positions, Ratios}
 use Rattle.record_codec.specs.declared.coding.Part.{Part}
-use Rattle.record_codec.specs.Fields.{longestField, PartRead, FrontRead, CodedRead, ratiosBy, bodyTests, Answered}
+use Rattle.record_codec.specs.Fields.{longestField, PartRead, FrontRead, CodedRead, ratiosBy, Answered}
 
 -- an answer that is known to be another
 pub answered-as : {a b : Answer} {r : ReadAnswer} {p q : List ℕ} → b ≡ a → Answered b r p q → Answered a r p q
@@ -30,7 +31,7 @@ refusal-as f ts us vs ws a b =
     ap₂
     (λ (m n : ℕ).
     record {
-      answer = record { number = f .number; place = f .place; rate = 0; side = 0; count = 0; used = 0 };
+      answer = record { number = f .number; place = f .place; rate = 0; side = 0; count = 0; form = 0; used = 0 };
       positions = replicate m 0;
       ratios = replicate n 0;
     })
@@ -80,22 +81,16 @@ module _ (openly : Bool) (e : ℕ) (s ts vs : List ℕ) where
         past-room : firstOf tests ≡ firstOf (positionsTests s ++ ratiosTests (ratiosBy openly) s)
         past-room = past-front ∙ room-test ∙ first-skip _ _ room
 
-        module _ (g : Part) (us : List ℕ) (i : CodedRead Positions false (f .count) s (f .end) g ts us) where
-          positions-same : bodyTests Positions false (f .count) s (f .end) ≡ positionsTests s
-          positions-same = ap₂ (λ (c p : ℕ). bodyTests Positions false c s p) (h .count clear) (h .next clear)
-
-          positions-part : PartRead (positionsTests s) s (f .end) (g .refusal) (g .end)
-          positions-part = subst (λ (l : List Test). PartRead l s (f .end) (g .refusal) (g .end)) positions-same (i .part)
-
+        module _ (g : Part) (us : List ℕ) (o : Form) (of : o ≡ formIn s) (i : CodedRead (positionsTests s) (readPositions (tableOf o) (f .count)) s (f .end) g ts us) where
           pub read-positions : (g .refusal .number ≡ 0 → ⊥) → length us ≡ length ts → refusalAnswer (g .refusal) us vs ≡ answer
           read-positions d l =
               refuses (g .refusal)
-              (positions-part .refuses
-              ∙ sym (past-room ∙ first-append-some (positionsTests s) _ (λ z. d (ap (λ (x : Refusal). x .number) (positions-part .refuses) ∙ z))))
+              (i .part .refuses
+              ∙ sym (past-room ∙ first-append-some (positionsTests s) _ (λ z. d (ap (λ (x : Refusal). x .number) (i .part .refuses) ∙ z))))
               d us vs l refl
 
           module _ (good : g .refusal .number ≡ 0) where
-            ratios-at : g .end ≡ ratiosAt s
+            pub ratios-at : g .end ≡ ratiosAt s
             ratios-at = i .part .next good ∙ ap (nextAt s) (h .next clear)
 
             pub positions-inside : g .end ≤ length s
@@ -105,32 +100,30 @@ module _ (openly : Bool) (e : ℕ) (s ts vs : List ℕ) where
             positions-near = omega (arith, i .part .next good, i .part .near good)
 
             past-positions : firstOf tests ≡ firstOf (ratiosTests (ratiosBy openly) s)
-            past-positions = past-room ∙ first-append-none (positionsTests s) _ refl (part-clear positions-part good)
+            past-positions = past-room ∙ first-append-none (positionsTests s) _ refl (part-clear (i .part) good)
 
-            module _ (k : Part) (ws : List ℕ) (j : CodedRead Ratios openly (f .count) s (g .end) k vs ws) where
-              ratios-same : bodyTests Ratios openly (f .count) s (g .end) ≡ ratiosTests (ratiosBy openly) s
-              ratios-same = ap₂ (λ (c p : ℕ). bodyTests Ratios openly c s p) (h .count clear) ratios-at
-
-              ratios-part : PartRead (ratiosTests (ratiosBy openly) s) s (g .end) (k .refusal) (k .end)
-              ratios-part = subst (λ (l : List Test). PartRead l s (g .end) (k .refusal) (k .end)) ratios-same (j .part)
-
+            module _ (k : Part) (ws : List ℕ) (j : CodedRead (ratiosTests (ratiosBy openly) s) (ratiosBy openly (f .count)) s (g .end) k vs ws) where
               pub read-ratios : (k .refusal .number ≡ 0 → ⊥) → length us ≡ length ts → length ws ≡ length vs → refusalAnswer (k .refusal) us ws ≡ answer
-              read-ratios d l m = refuses (k .refusal) (ratios-part .refuses ∙ sym past-positions) d us ws l m
+              read-ratios d l m = refuses (k .refusal) (j .part .refuses ∙ sym past-positions) d us ws l m
 
               module _ (whole : k .refusal .number ≡ 0) where
-                pub read-found : Answered answer (record { number = 0; place = 0; rate = f .rate; side = f .side; count = f .count; used = k .end }) us ws
+                pub read-found : (tag : ℕ) → tag ≡ positionsTag o
+                    → Answered answer (record { number = 0; place = 0; rate = f .rate; side = f .side; count = f .count; form = tag; used = k .end }) us ws
                 unfolding readWith
-                read-found =
+                read-found tag t =
                     let a = h .rate clear in
                     let d = h .side clear in
                     let b = h .count clear in
+                    let e : tag ≡ positionsTag (formIn s) = t ∙ ap positionsTag of in
                     let c : k .end ≡ endAt s = j .part .next whole ∙ ap (nextAt s) ratios-at in
                     let p : us ≡ over (listOf (positionsIn s)) ts =
-                    i .filled good ∙ ap₂ (λ (n q : ℕ). over (listOf (readPositions rows n (bodyAt s q))) ts) b (h .next clear) in
+                    i .filled good
+                    ∙ ap₂ (λ (n q : ℕ). over (listOf (readPositions (tableOf o) n (bodyAt s q))) ts) b (h .next clear)
+                    ∙ ap (λ (x : Form). over (listOf (readPositions (tableOf x) (countIn s) (bodyAt s (positionsAt s)))) ts) of in
                     let q : ws ≡ over (listOf (ratiosIn (ratiosBy openly) s)) vs =
                     j .filled whole ∙ ap₂ (λ (n r : ℕ). over (listOf (ratiosBy openly n (bodyAt s r))) vs) b ratios-at in
                     let own : recordAnswer (ratiosBy openly) s ts vs ≡ answer =
                     sym
                     (answer-good (recordAnswer (ratiosBy openly) s ts vs) ts vs tests
-                    (past-positions ∙ first-none (ratiosTests (ratiosBy openly) s) refl (part-clear ratios-part whole) ∙ sym first-end)) in
+                    (past-positions ∙ first-none (ratiosTests (ratiosBy openly) s) refl (part-clear (j .part) whole) ∙ sym first-end)) in
                     answered-as own (cc, p, q)

@@ -7,14 +7,15 @@
 --   NumberRead ..       the same of a field that holds a number, with the number
 --   SideRead s f        the same of the side's field, which may be missing: then the side is 0, and the count's stands in its place
 --   FrontRead e s f     rate, side and count: their refusal, or all three, the place of the count, and the offset past them
---   tagOf, numberFor, codedBy, readBy   of a coding: its field's tag, the number of the refusal of a body that is none, the body of
---                       numbers, and what a body holds; ratiosBy: the same of ratios, openly or strictly
---   CodedRead ..        a field of coded numbers: its refusal, or the offset past it, and its numbers at the front of the output
+--   tagOf, codedBy      of a coding: its field's tag, and the body of numbers
 --   Codable c ns        the numbers ns can be coded so
+--   ratiosBy openly     the ratios of a body, openly or strictly
+--   CodedRead ..        a field of coded numbers, which the reading k takes: its refusal, or the offset past it, and its numbers at the front of the
+--                       output
 --   Answered a r p q    the returned numbers r and the outputs p and q are those of the answer a
 use mathlib.Core.Path.{_≡_}
 use mathlib.Core.Bool.{Bool, true, false}
-use mathlib.Core.List.{List, [], _∷_}
+use mathlib.Core.List.{List}
 use mathlib.Core.Option.{Option, none, some}
 use Prim.Native.Nat.{ℕ, _+_, _*_, _^_, _≤_, _<_}
 use lib.Dec.{eqb}
@@ -24,12 +25,12 @@ use Rattle.limits.specs.Points.{maxPoints}
 use Rattle.outputs.specs.Outputs.{over}
 use Rattle.refusals.specs.declared.Refusal.{Refusal}
 use Rattle.refusals.specs.Tests.{Test, firstOf}
-use Rattle.position_format.specs.Rows.{rows}
-use Rattle.position_format.specs.Positions.{codedPositions, readPositions, validPositions}
+use Rattle.position_format.specs.Positions.{codedPositions, validPositions}
+use Rattle.position_format.specs.Tables.{tableOf}
 use Rattle.ratio_format.specs.Bodies.{codedRatios, openRatios, strictRatios}
 use Rattle.record_format.specs.Fields.{headSize, maxBody, bodyAt, nextAt}
 use Rattle.record_format.specs.Runs.{positionsTag, ratiosTag, sideSize}
-use Rattle.record_format.specs.Reading.{Answer, listOf, sideAt, countAt, positionsAt, rateIn, sideIn, countIn, sideTests, frontTests, codedTests}
+use Rattle.record_format.specs.Reading.{Answer, listOf, sideAt, countAt, positionsAt, rateIn, sideIn, countIn, sideTests, frontTests}
 use Rattle.record_format.specs.declared.ReadAnswer.{ReadAnswer}
 use Rattle.record_codec.specs.declared.field.Field.{Field}
 use Rattle.record_codec.specs.declared.field.Length.{Length}
@@ -103,42 +104,28 @@ pub record FrontRead (e : ℕ) (s : List ℕ) (f : Front) : Type 0 where
 
 -- the tag of the field
 abbrev pub tagOf : Coding → ℕ
-tagOf Positions = positionsTag
+tagOf (Positions f) = positionsTag f
 tagOf Ratios = ratiosTag
-
--- the refusal of a body that is none
-abbrev pub numberFor : Coding → ℕ
-numberFor Positions = 17
-numberFor Ratios = 18
 
 -- numbers as a body
 abbrev pub codedBy : Coding → List ℕ → List ℕ
-codedBy Positions ns = codedPositions rows ns
+codedBy (Positions f) ns = codedPositions (tableOf f) ns
 codedBy Ratios ns = codedRatios ns
+
+-- not too many, and positions that the form's table can code
+abbrev pub Codable : Coding → List ℕ → Type 0
+Codable (Positions f) ns = (validPositions (tableOf f) ns ≡ true) × (length ns ≤ maxPoints)
+Codable Ratios ns = length ns ≤ maxPoints
 
 -- ratios by the open rule, or strictly
 abbrev pub ratiosBy : Bool → ℕ → List ℕ → Option (List ℕ)
 ratiosBy true = openRatios
 ratiosBy false = strictRatios
 
--- a body as numbers
-abbrev pub readBy : Coding → Bool → ℕ → List ℕ → Option (List ℕ)
-readBy Positions openly = readPositions rows
-readBy Ratios openly = ratiosBy openly
-
--- not too many, and positions that the table can code
-abbrev pub Codable : Coding → List ℕ → Type 0
-Codable Positions ns = (validPositions rows ns ≡ true) × (length ns ≤ maxPoints)
-Codable Ratios ns = length ns ≤ maxPoints
-
--- the tests of such a field
-abbrev pub bodyTests : Coding → Bool → ℕ → List ℕ → ℕ → List Test
-bodyTests c openly n s p = codedTests s (tagOf c ∷ []) (readBy c openly n) (numberFor c) p
-
 -- what reading it leaves in the output o, which is now q
-pub record CodedRead (c : Coding) (openly : Bool) (n : ℕ) (s : List ℕ) (p : ℕ) (f : Part) (o q : List ℕ) : Type 0 where
-  pub part : PartRead (bodyTests c openly n s p) s p (f .refusal) (f .end)
-  pub filled : f .refusal .number ≡ 0 → q ≡ over (listOf (readBy c openly n (bodyAt s p))) o
+pub record CodedRead (tests : List Test) (k : List ℕ → Option (List ℕ)) (s : List ℕ) (p : ℕ) (f : Part) (o q : List ℕ) : Type 0 where
+  pub part : PartRead tests s p (f .refusal) (f .end)
+  pub filled : f .refusal .number ≡ 0 → q ≡ over (listOf (k (bodyAt s p))) o
 
 -- ---- the whole answer
 

@@ -1,21 +1,33 @@
 // Fields of coded numbers: the codings, each with its tag, its refusal, and its writer and reader of a body.
 ghost use mathlib.Core.Path.{_≡_};
-ghost use mathlib.Core.Bool.{false};
-ghost use Prim.Native.Nat.{_≤_};
+ghost use Prim.Native.Nat.{_+_, _≤_};
+ghost use lib.Dec.{leb, ltb};
 ghost use lib.ListN.{length};
+ghost use Rattle.lists.specs.Compare.{both};
 ghost use Rattle.limits.specs.Points.{maxPoints};
 ghost use Rattle.outputs.specs.Outputs.{Placed, Filled};
+ghost use Rattle.position_format.specs.Positions.{readPositions};
+ghost use Rattle.position_format.specs.Tables.{tableOf, pointsOf};
+ghost use Rattle.record_format.specs.Fields.{headSize, tagAt};
+ghost use Rattle.record_format.specs.Runs.{positionsTag, formOf};
+ghost use Rattle.record_format.specs.Reading.{countAt, positionsAt, ratiosAt, countIn, formIn, positionsTests, ratiosTests};
 ghost use Rattle.record_codec.specs.Fields.{farthest, ratiosBy, tagOf, codedBy, Codable, CodedRead};
 use super::field::Length;
+use super::field::has_tag;
 use super::field::read_field;
+use limits::MAX_POINTS;
+use limits::MAX_WIDE_POINTS;
 use outputs::Wrote;
-use record_format::POSITIONS_TAG;
+use position_format::Form;
+use record_format::HEAD_SIZE;
+use record_format::OLD_TAG;
 use record_format::RATIOS_TAG;
+use record_format::WIDE_TAG;
 use refusals::Refusal;
 
 // How the numbers of a body are coded.
 pub enum Coding {
-    Positions,
+    Positions(Form),
     Ratios,
 }
 
@@ -25,12 +37,42 @@ pub struct Part {
     pub end: usize,
 }
 
+// The tag of positions in a form.
+pub(crate) fn form_tag(form: Form) -> u8
+    ensures { λ r. ⌜ r ≡ positionsTag form ⌝ }
+{
+    match form {
+        Form::Old => OLD_TAG,
+        Form::Wide => WIDE_TAG,
+    }
+}
+
+// The largest number of points of a run in a form.
+pub(crate) fn points_of(form: Form) -> usize
+    ensures { λ r. ⌜ r ≡ pointsOf form ⌝ }
+{
+    match form {
+        Form::Old => MAX_POINTS,
+        Form::Wide => MAX_WIDE_POINTS,
+    }
+}
+
+// The form that the tag of the field at an offset names.
+pub(crate) fn form_at(input: &[u8], at: usize) -> Form
+    ensures { λ r. ⌜ r ≡ formOf (tagAt (now (input .entry)) at) ⌝ }
+{
+    if has_tag(input, at, WIDE_TAG) {
+        return Form::Wide;
+    }
+    Form::Old
+}
+
 // The tag of its field.
 pub(crate) fn tag_of(coding: Coding) -> u8
     ensures { λ r. ⌜ r ≡ tagOf coding ⌝ }
 {
     match coding {
-        Coding::Positions => POSITIONS_TAG,
+        Coding::Positions(form) => form_tag(form),
         Coding::Ratios => RATIOS_TAG,
     }
 }
@@ -41,7 +83,7 @@ pub(crate) fn put_body(coding: Coding, numbers: &[u64], out: &mut [u8]) -> Wrote
     ensures { λ r. ⌜ Placed (codedBy coding (now (numbers .entry))) r (now (out .entry)) (now (out .exit)) ⌝ }
 {
     match coding {
-        Coding::Positions => position_codec::put_positions(numbers, out),
+        Coding::Positions(form) => position_codec::put_positions(form, numbers, out),
         Coding::Ratios => ratio_bodies::put_ratios(numbers, out),
     }
 }
@@ -60,12 +102,38 @@ fn get_ratios(openly: bool, body: &[u8], count: usize, out: &mut [u64]) -> bool
     }
 }
 
-// The positions' field at an offset: its tests, and its positions at the front of the output.
-pub(crate) fn read_positions(input: &[u8], at: usize, count: usize, out: &mut [u64]) -> Part
-    requires { ⌜ (at ≤ length (now input)) × (at ≤ farthest) × (count ≤ length (now out)) × (count ≤ maxPoints) ⌝ }
-    ensures { λ r. ⌜ CodedRead Coding.Positions false count (now (input .entry)) at r (now (out .entry)) (now (out .exit)) ⌝ }
+// Whether the head of the field at an offset is whole, and a run in a form has fewer points than the count.
+fn has_many(form: Form, input: &[u8], at: usize, count: usize) -> bool
+    requires { ⌜ at ≤ length (now input) ⌝ }
+    ensures { λ r. ⌜ r ≡ both (leb (at + headSize) (length (now (input .entry)))) (ltb (pointsOf form) count) ⌝ }
 {
-    let tags = [POSITIONS_TAG];
+    HEAD_SIZE <= input.len() - at && points_of(form) < count
+}
+
+// The positions' field, in the form that its tag names, at its offset: its tests, and its positions at the front of the output. The count's field
+// stands at `place`, and a run in the form may have fewer points than that says: 15, before the body is looked at.
+pub(crate) fn read_positions(
+    form: Form,
+    input: &[u8],
+    at: usize,
+    place: usize,
+    count: usize,
+    out: &mut [u64],
+) -> Part
+    requires { ⌜ (form ≡ formIn (now input)) × (at ≡ positionsAt (now input)) × (place ≡ countAt (now input)) × (count ≡ countIn (now input))
+        × (at ≤ length (now input)) × (at ≤ farthest) × (count ≤ length (now out)) × (count ≤ maxPoints) ⌝ }
+    ensures { λ r. ⌜ CodedRead (positionsTests (now (input .entry))) (readPositions (tableOf form) count) (now (input .entry)) at r (now (out .entry)) (now (out .exit)) ⌝ }
+{
+    if has_many(form, input, at, count) {
+        return Part {
+            refusal: Refusal {
+                number: 15,
+                place: place as u32,
+            },
+            end: 0,
+        };
+    }
+    let tags = [OLD_TAG, WIDE_TAG];
     let field = read_field(input, at, &tags, Length::Any);
     let refusal = field.refusal;
     let number = refusal.number;
@@ -74,7 +142,7 @@ pub(crate) fn read_positions(input: &[u8], at: usize, count: usize, out: &mut [u
     }
     let from = field.from;
     let to = field.to;
-    if !position_codec::get_positions(&input[from..to], count, out) {
+    if !position_codec::get_positions(form, &input[from..to], count, out) {
         return Part {
             refusal: Refusal {
                 number: 17,
@@ -86,7 +154,7 @@ pub(crate) fn read_positions(input: &[u8], at: usize, count: usize, out: &mut [u
     Part { refusal, end: to }
 }
 
-// The same of the ratios' field, by the open rule or strictly.
+// The ratios' field, by the open rule or strictly, at its offset.
 pub(crate) fn read_ratios(
     openly: bool,
     input: &[u8],
@@ -94,8 +162,9 @@ pub(crate) fn read_ratios(
     count: usize,
     out: &mut [u64],
 ) -> Part
-    requires { ⌜ (at ≤ length (now input)) × (at ≤ farthest) × (count ≤ length (now out)) × (count ≤ maxPoints) ⌝ }
-    ensures { λ r. ⌜ CodedRead Coding.Ratios openly count (now (input .entry)) at r (now (out .entry)) (now (out .exit)) ⌝ }
+    requires { ⌜ (at ≡ ratiosAt (now input)) × (count ≡ countIn (now input))
+        × (at ≤ length (now input)) × (at ≤ farthest) × (count ≤ length (now out)) × (count ≤ maxPoints) ⌝ }
+    ensures { λ r. ⌜ CodedRead (ratiosTests (ratiosBy openly) (now (input .entry))) (ratiosBy openly count) (now (input .entry)) at r (now (out .entry)) (now (out .exit)) ⌝ }
 {
     let tags = [RATIOS_TAG];
     let field = read_field(input, at, &tags, Length::Any);

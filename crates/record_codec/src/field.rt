@@ -1,10 +1,11 @@
 // A field of a record: where its body stands, or the refusal of one that is not whole or not of its kind.
 // Document 01, "The record": a tag byte, a two-byte length, then the body.
 ghost use mathlib.Core.Path.{_≡_};
-ghost use Prim.Native.Nat.{_≤_};
+ghost use Prim.Native.Nat.{_≤_, _<_};
+ghost use lib.Dec.{eqb};
 ghost use lib.ListN.{length};
 ghost use Rattle.lists.specs.Lists.{member};
-ghost use Rattle.record_format.specs.Fields.{fieldTests};
+ghost use Rattle.record_format.specs.Fields.{tagAt, fieldTests};
 ghost use Rattle.record_codec.specs.Fields.{farthest, lengthAsked, lengthGood, FieldRead};
 use record_format::HEAD_SIZE;
 use refusals::Refusal;
@@ -23,7 +24,7 @@ pub struct Field {
 }
 
 // Whether a tag is one of some.
-fn has_tag(tags: &[u8], tag: u8) -> bool
+fn is_among(tags: &[u8], tag: u8) -> bool
     ensures { λ r. ⌜ r ≡ member tag (now (tags .entry)) ⌝ }
 {
     let mut i = 0;
@@ -34,6 +35,14 @@ fn has_tag(tags: &[u8], tag: u8) -> bool
         i += 1;
     }
     false
+}
+
+// Whether the field at an offset has this tag, which is not 0; past the end of the input there is none.
+pub(crate) fn has_tag(input: &[u8], at: usize, tag: u8) -> bool
+    requires { ⌜ 0 < tag ⌝ }
+    ensures { λ r. ⌜ r ≡ eqb (tagAt (now (input .entry)) at) tag ⌝ }
+{
+    at < input.len() && input[at] == tag
 }
 
 // Whether a stated length is the one that is asked for.
@@ -69,7 +78,7 @@ pub(crate) fn read_field(input: &[u8], at: usize, tags: &[u8], asked: Length) ->
     if input.len() - at < HEAD_SIZE {
         return no_field(10, at);
     }
-    if !has_tag(tags, input[at]) {
+    if !is_among(tags, input[at]) {
         return no_field(11, at);
     }
     let n = bits::get_bytes(input, at + 1, 2) as usize;

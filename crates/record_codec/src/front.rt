@@ -5,12 +5,12 @@ ghost use mathlib.Core.List.{[], _∷_};
 ghost use mathlib.Core.Option.{some};
 ghost use Prim.Native.Nat.{_≤_};
 ghost use lib.ListN.{length};
-ghost use lib.Dec.{eqb};
-ghost use Rattle.record_format.specs.Fields.{tagAt, fieldTests};
-ghost use Rattle.record_format.specs.Runs.{sideTag, rateSize, countSize};
+ghost use Rattle.record_format.specs.Fields.{fieldTests};
+ghost use Rattle.record_format.specs.Runs.{rateSize, countSize};
 ghost use Rattle.record_format.specs.Reading.{otherRate, rateAt, sideAt, rateTests, countTests, countAt};
 ghost use Rattle.record_codec.specs.Fields.{farthest, NumberRead, SideRead, FrontRead};
 use super::field::Length;
+use super::field::has_tag;
 use super::field::read_field;
 use record_format::COUNT_SIZE;
 use record_format::COUNT_TAG;
@@ -104,19 +104,12 @@ fn read_rate(expected: u32, input: &[u8]) -> Number
     found
 }
 
-// Whether the field at an offset is that of a side: its tag tells.
-fn has_side(input: &[u8], at: usize) -> bool
-    ensures { λ r. ⌜ r ≡ eqb (tagAt (now (input .entry)) at) sideTag ⌝ }
-{
-    at < input.len() && input[at] == SIDE_TAG
-}
-
 // The side, at the offset past the rate: 20. Where another field stands there, or none, it is 0, and ends where it begins.
 fn read_side(input: &[u8], at: usize) -> Number
     requires { ⌜ (at ≡ sideAt (now input)) × (at ≤ length (now input)) × (at ≤ farthest) ⌝ }
     ensures { λ r. ⌜ SideRead (now (input .entry)) r ⌝ }
 {
-    if !has_side(input, at) {
+    if !has_tag(input, at, SIDE_TAG) {
         return Number {
             refusal: Refusal {
                 number: 0,

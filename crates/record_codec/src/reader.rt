@@ -2,6 +2,8 @@
 ghost use mathlib.Core.Path.{_≡_};
 ghost use Rattle.record_format.specs.Reading.{refusalAnswer, lacksRoom, readWith, readStrict, readOpen};
 ghost use Rattle.record_codec.specs.Fields.{ratiosBy, Answered};
+use super::coding::form_at;
+use super::coding::form_tag;
 use super::coding::read_positions;
 use super::coding::read_ratios;
 use super::front::read_front;
@@ -20,6 +22,7 @@ fn refuse_read(refusal: Refusal, positions: &mut [u64], ratios: &mut [u64]) -> R
         rate: 0,
         side: 0,
         count: 0,
+        form: 0,
         used: 0,
     }
 }
@@ -58,7 +61,8 @@ fn read_record(
             ratios,
         );
     }
-    let points = read_positions(input, front.end, count, positions);
+    let form = form_at(input, front.end);
+    let points = read_positions(form, input, front.end, front.place, count, positions);
     let positions_refused = points.refusal;
     let positions_number = positions_refused.number;
     if positions_number != 0 {
@@ -76,6 +80,7 @@ fn read_record(
         rate: front.rate,
         side: front.side,
         count: count as u32,
+        form: form_tag(form) as u32,
         used: values.end as u64,
     }
 }

@@ -5,19 +5,21 @@ ghost use mathlib.Core.Bool.{true};
 ghost use Prim.Native.Nat.{_≤_};
 ghost use lib.ListN.{length, drop};
 ghost use Rattle.bits.specs.Digits.{bytesOf};
-ghost use Rattle.limits.specs.Points.{maxPoints};
+ghost use Rattle.limits.specs.Points.{maxPoints, firstHigh};
 ghost use Rattle.outputs.specs.Outputs.{Placed, zeros};
 ghost use Rattle.position_format.specs.Positions.{validPositions};
-ghost use Rattle.position_format.specs.Rows.{rows};
+ghost use Rattle.position_format.specs.Tables.{tableOf};
 ghost use Rattle.refusals.specs.Tests.{firstOf};
 ghost use Rattle.record_format.specs.Fields.{fieldOf, headSize, laid};
 ghost use Rattle.record_format.specs.Runs.{run, sideFields, frontFields, recordOf};
-ghost use Rattle.record_format.specs.Writing.{runTests, writeAnswer, writeOutput};
+ghost use Rattle.record_format.specs.Writing.{stepTests, runTests, writeAnswer, writeOutput};
 ghost use Rattle.record_codec.specs.Fields.{tagOf, codedBy, Codable};
 use super::coding::Coding;
+use super::coding::points_of;
 use super::coding::put_body;
 use super::coding::tag_of;
 use outputs::Wrote;
+use position_format::Form;
 use record_format::COUNT_SIZE;
 use record_format::COUNT_TAG;
 use record_format::HEAD_SIZE;
@@ -98,15 +100,25 @@ fn put_front(rate: u32, side: u32, count: usize, out: &mut [u8]) -> Wrote
 }
 
 // The record of a run that no test but 6 applies to.
-fn put_record(rate: u32, side: u32, positions: &[u64], ratios: &[u64], out: &mut [u8]) -> Wrote
-    requires { ⌜ (validPositions rows (now positions) ≡ true) × (length (now positions) ≤ maxPoints) × (length (now ratios) ≤ maxPoints) ⌝ }
-    ensures { λ r. ⌜ Placed (recordOf (run rate side (now (positions .entry)) (now (ratios .entry)))) r (now (out .entry)) (now (out .exit)) ⌝ }
+fn put_record(
+    rate: u32,
+    side: u32,
+    form: Form,
+    positions: &[u64],
+    ratios: &[u64],
+    out: &mut [u8],
+) -> Wrote
+    requires { ⌜ (validPositions (tableOf form) (now positions) ≡ true) × (length (now positions) ≤ maxPoints) × (length (now ratios) ≤ maxPoints) ⌝ }
+    ensures { λ r. ⌜ Placed (recordOf (run rate side form (now (positions .entry)) (now (ratios .entry)))) r (now (out .entry)) (now (out .exit)) ⌝ }
 {
     let Wrote::Done(front_end) = put_front(rate, side, positions.len(), out) else {
         return Wrote::NoRoom;
     };
-    let Wrote::Done(positions_size) = put_coded(Coding::Positions, positions, &mut out[front_end..])
-    else {
+    let Wrote::Done(positions_size) = put_coded(
+        Coding::Positions(form),
+        positions,
+        &mut out[front_end..],
+    ) else {
         return Wrote::NoRoom;
     };
     let positions_end = front_end + positions_size;
@@ -117,9 +129,41 @@ fn put_record(rate: u32, side: u32, positions: &[u64], ratios: &[u64], out: &mut
     Wrote::Done(positions_end + ratios_size)
 }
 
+// The refusal of positions by a step that document 01's table does not hold: 5.
+fn old_steps(positions: &[u64]) -> Refusal
+    requires { ⌜ (length (now positions) ≤ firstHigh (now positions)) × (length (now positions) ≤ maxPoints) ⌝ }
+    ensures { λ r. ⌜ r ≡ firstOf (stepTests Form.Old (now (positions .entry))) ⌝ }
+{
+    let outside = position_codec::first_outside(positions);
+    if outside < positions.len() {
+        return Refusal {
+            number: 5,
+            place: outside as u32,
+        };
+    }
+    Refusal {
+        number: 0,
+        place: 0,
+    }
+}
+
+// The same in a form: the wide one has a code for every step.
+fn check_steps(form: Form, positions: &[u64]) -> Refusal
+    requires { ⌜ (length (now positions) ≤ firstHigh (now positions)) × (length (now positions) ≤ maxPoints) ⌝ }
+    ensures { λ r. ⌜ r ≡ firstOf (stepTests form (now (positions .entry))) ⌝ }
+{
+    match form {
+        Form::Old => old_steps(positions),
+        Form::Wide => Refusal {
+            number: 0,
+            place: 0,
+        },
+    }
+}
+
 // The refusal of a run by tests 1, 21 and 2 to 5, in this order, each over the whole run.
-fn check_run(rate: u32, side: u32, positions: &[u64], ratios: &[u64]) -> Refusal
-    ensures { λ r. ⌜ r ≡ firstOf (runTests (run rate side (now (positions .entry)) (now (ratios .entry)))) ⌝ }
+fn check_run(rate: u32, side: u32, form: Form, positions: &[u64], ratios: &[u64]) -> Refusal
+    ensures { λ r. ⌜ r ≡ firstOf (runTests (run rate side form (now (positions .entry)) (now (ratios .entry)))) ⌝ }
 {
     if !limits::is_rate(rate) {
         return Refusal {
@@ -139,7 +183,7 @@ fn check_run(rate: u32, side: u32, positions: &[u64], ratios: &[u64]) -> Refusal
             place: 0,
         };
     }
-    if limits::MAX_POINTS < positions.len() {
+    if points_of(form) < positions.len() {
         return Refusal {
             number: 3,
             place: 0,
@@ -152,17 +196,7 @@ fn check_run(rate: u32, side: u32, positions: &[u64], ratios: &[u64]) -> Refusal
             place: high as u32,
         };
     }
-    let outside = position_codec::first_outside(positions);
-    if outside < positions.len() {
-        return Refusal {
-            number: 5,
-            place: outside as u32,
-        };
-    }
-    Refusal {
-        number: 0,
-        place: 0,
-    }
+    check_steps(form, positions)
 }
 
 // A refused writing: the output is 0 from end to end.
@@ -177,17 +211,25 @@ fn refuse_write(refusal: Refusal, out: &mut [u8]) -> WriteAnswer
     }
 }
 
-// Writes the record of a run at the front of the output: tests 1, 21 and 2 to 6 in this order. Side 0 stands for none.
-pub fn write(rate: u32, side: u32, positions: &[u64], ratios: &[u64], out: &mut [u8]) -> WriteAnswer
-    ensures { λ r. ⌜ (r ≡ writeAnswer (run rate side (now (positions .entry)) (now (ratios .entry))) (now (out .entry)))
-        × (now (out .exit) ≡ writeOutput (run rate side (now (positions .entry)) (now (ratios .entry))) (now (out .entry))) ⌝ }
+// Writes the record of a run, in a form, at the front of the output: tests 1, 21 and 2 to 6 in this order, 3 by the form, and 5 only in the old one.
+// Side 0 stands for none.
+pub fn write(
+    rate: u32,
+    side: u32,
+    form: Form,
+    positions: &[u64],
+    ratios: &[u64],
+    out: &mut [u8],
+) -> WriteAnswer
+    ensures { λ r. ⌜ (r ≡ writeAnswer (run rate side form (now (positions .entry)) (now (ratios .entry))) (now (out .entry)))
+        × (now (out .exit) ≡ writeOutput (run rate side form (now (positions .entry)) (now (ratios .entry))) (now (out .entry))) ⌝ }
 {
-    let refusal = check_run(rate, side, positions, ratios);
+    let refusal = check_run(rate, side, form, positions, ratios);
     let number = refusal.number;
     if number != 0 {
         return refuse_write(refusal, out);
     }
-    let Wrote::Done(n) = put_record(rate, side, positions, ratios, out) else {
+    let Wrote::Done(n) = put_record(rate, side, form, positions, ratios, out) else {
         return refuse_write(
             Refusal {
                 number: 6,

@@ -1,7 +1,8 @@
--- Document 01, "Bytes to compare", and document 02, No. 2: lines of the listing and its whole output, as one table, proved from the definitions
--- by one statement.
+-- Document 01, "Bytes to compare", and document 02, No. 2 and No. 3: lines of the listing and its whole output, as one table, proved from the
+-- definitions by one statement.
 --   Example, example         a text, and its bytes as they should be
---   listedText, refusedText  the output in full, and the line of a refusal; sidedText: the output of the same run on side 4
+--   listedText, refusedText  the output in full, and the line of a refusal; sidedText: the output of the same run on side 4; pausedText: that of a
+--                            run in the wide form
 --   examples                 the rows; examples-hold: each is as it is given
 use mathlib.Core.Path.{_≡_, refl}
 use mathlib.Core.List.{List, [], _∷_, _++_, map}
@@ -34,6 +35,15 @@ listedText =
 -- the output with `side 4` after the first line
 abbrev pub sidedText : List ℕ
 sidedText = take 11 listedText ++ (115 ∷ 105 ∷ 100 ∷ 101 ∷ 32 ∷ 52 ∷ 10 ∷ drop 11 listedText)
+
+-- the output of a run in the wide form, whose tape is rewound at the third point: `span -89478475`
+abbrev pub pausedText : List ℕ
+pausedText =
+    take 19 listedText
+    ++ (115 ∷ 112 ∷ 97 ∷ 110 ∷ 32 ∷ 45 ∷ 56 ∷ 57 ∷ 52 ∷ 55 ∷ 56 ∷ 52 ∷ 55 ∷ 53 ∷ 10
+    ∷ 56 ∷ 53 ∷ 56 ∷ 57 ∷ 57 ∷ 51 ∷ 53 ∷ 53 ∷ 53 ∷ 50 ∷ (take 18 (drop 28 listedText)
+    ++ (56 ∷ 53 ∷ 56 ∷ 57 ∷ 57 ∷ 51 ∷ 54 ∷ 53 ∷ 49 ∷ 50 ∷ (take 18 (drop 28 listedText)
+    ++ (49 ∷ 57 ∷ 50 ∷ 48 ∷ take 18 (drop 28 listedText))))))
 
 -- `refused 10 at 0`
 abbrev pub refusedText : List ℕ

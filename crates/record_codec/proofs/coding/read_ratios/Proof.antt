@@ -1,9 +1,15 @@
 -- `read_ratios` meets its contract, by what `read_field` and `get_ratios` find.
-use mathlib.Core.Path.{refl}
+use mathlib.Core.List.{[], _∷_}
+use mathlib.Core.Path.{_≡_, sym, ap₂}
+use Prim.Native.Nat.{ℕ}
+use native.Mathlib.Omega.{arith}
 use borrow.Author.Needs.{needs}
 use borrow.Author.Tests.{not-true, not-false}
-use Rattle.record_codec.specs.declared.coding.Coding.the-variants.{Ratios}
-use Rattle.record_codec.proofs.Codings.{coded-refused, body-order, body-inside, coded-none, coded-found}
+use Rattle.refusals.specs.Tests.{firstOf}
+use Rattle.record_format.specs.Runs.{ratiosTag}
+use Rattle.record_format.specs.Reading.{ratiosTests}
+use Rattle.record_codec.specs.Fields.{ratiosBy}
+use Rattle.record_codec.proofs.Codings.{codedTests, coded-refused, body-order, body-inside, coded-none, coded-found}
 use Rattle.record_codec.proofs.coding.read_ratios.Statement.{statement}
 use Rattle.record_codec.proofs.coding.read_ratios.Tie as tie
 
@@ -17,6 +23,13 @@ field k = k .before .before
 abbrev found : tie.After-get-ratios → tie.Else1
 found k = k .before .before .before
 
+-- the tests of the field, at the offset that was given
+tests-are : (e : tie.Start) → let a = e .args in let s = a .input .now in
+    firstOf (ratiosTests (ratiosBy (a .openly)) s) ≡ firstOf (codedTests s (ratiosTag ∷ []) (ratiosBy (a .openly) (a .count)) 18 (a .at))
+tests-are e =
+    let a = e .args in
+    ap₂ (λ (c p : ℕ). firstOf (codedTests (a .input .now) (ratiosTag ∷ []) (ratiosBy (a .openly) c) 18 p)) (sym (e .pre .1)) (sym (e .pre .0))
+
 slice-aggregate-read-field : tie.Need-slice-aggregate-read-field
 slice-aggregate-read-field c = search needs
 
@@ -27,25 +40,25 @@ returns : tie.Need-returns
 returns c =
     let k = c .before .before in
     let a = entry k .args in
-    coded-refused Ratios (a .openly) (a .count) (a .input .now) (a .at) _ refl (k .read-field .result) (k .read-field .ensures) (a .out .now) (a .out .now) (c .if1 .taken)
+    coded-refused (ratiosTests (ratiosBy (a .openly)) (a .input .now)) (ratiosTag ∷ []) (ratiosBy (a .openly) (a .count)) 18 (λ z. omega arith) (a .input .now) (a .at) (tests-are (entry k)) (k .read-field .result) (k .read-field .ensures) (a .out .now) (a .out .now) (c .if1 .taken)
 
 sub-get-ratios : tie.Need-sub-get-ratios
 sub-get-ratios c =
     let k = field c in
     let a = entry k .args in
-    body-order Ratios (a .openly) (a .count) (a .input .now) (a .at) _ refl (k .read-field .result) (k .read-field .ensures) (c .if1 .left)
+    body-order (ratiosTests (ratiosBy (a .openly)) (a .input .now)) (ratiosTag ∷ []) (ratiosBy (a .openly) (a .count)) 18 (λ z. omega arith) (a .input .now) (a .at) (tests-are (entry k)) (k .read-field .result) (k .read-field .ensures) (c .if1 .left)
 
 part-get-ratios-start : tie.Need-part-get-ratios-start
 part-get-ratios-start c =
     let k = field c in
     let a = entry k .args in
-    body-order Ratios (a .openly) (a .count) (a .input .now) (a .at) _ refl (k .read-field .result) (k .read-field .ensures) (c .if1 .left)
+    body-order (ratiosTests (ratiosBy (a .openly)) (a .input .now)) (ratiosTag ∷ []) (ratiosBy (a .openly) (a .count)) 18 (λ z. omega arith) (a .input .now) (a .at) (tests-are (entry k)) (k .read-field .result) (k .read-field .ensures) (c .if1 .left)
 
 part-get-ratios-end : tie.Need-part-get-ratios-end
 part-get-ratios-end c =
     let k = field c in
     let a = entry k .args in
-    body-inside Ratios (a .openly) (a .count) (a .input .now) (a .at) _ refl (k .read-field .result) (k .read-field .ensures) (c .if1 .left)
+    body-inside (ratiosTests (ratiosBy (a .openly)) (a .input .now)) (ratiosTag ∷ []) (ratiosBy (a .openly) (a .count)) 18 (λ z. omega arith) (a .input .now) (a .at) (tests-are (entry k)) (k .read-field .result) (k .read-field .ensures) (c .if1 .left)
 
 get-ratios-requires : tie.Need-get-ratios-requires
 get-ratios-requires c κs = search needs
@@ -62,8 +75,8 @@ returns-2 c =
     let g = found b in
     let k = field g in
     let a = entry k .args in
-    coded-none Ratios (a .openly) (a .count) (a .input .now) (a .at) _ refl (k .read-field .result) (k .read-field .ensures) (g .if1 .left)
-    (b .get-ratios .result) (a .out .now) _ (b .get-ratios .ensures) (not-true _ (c .if2 .taken)) _ refl
+    coded-none (ratiosTests (ratiosBy (a .openly)) (a .input .now)) (ratiosTag ∷ []) (ratiosBy (a .openly) (a .count)) 18 (λ z. omega arith) (a .input .now) (a .at) (tests-are (entry k)) (k .read-field .result) (k .read-field .ensures) (g .if1 .left)
+    (b .get-ratios .result) (a .out .now) _ (b .get-ratios .ensures) (not-true _ (c .if2 .taken))
 
 same-length-2 : tie.Need-same-length-2
 same-length-2 c = search needs
@@ -74,7 +87,7 @@ returns-3 c =
     let g = found b in
     let k = field g in
     let a = entry k .args in
-    coded-found Ratios (a .openly) (a .count) (a .input .now) (a .at) _ refl (k .read-field .result) (k .read-field .ensures) (g .if1 .left)
+    coded-found (ratiosTests (ratiosBy (a .openly)) (a .input .now)) (ratiosTag ∷ []) (ratiosBy (a .openly) (a .count)) 18 (λ z. omega arith) (a .input .now) (a .at) (tests-are (entry k)) (k .read-field .result) (k .read-field .ensures) (g .if1 .left)
     (b .get-ratios .result) (a .out .now) _ (b .get-ratios .ensures) (not-false _ (c .if2 .left))
 
 pub read-ratios-spec : {M : Type 1} → statement M

@@ -1,12 +1,12 @@
--- `has_tag` meets its contract. The loop's invariant: the tag is one of all exactly if it is one of those from i on.
+-- `is_among` meets its contract. The loop's invariant: the tag is one of all exactly if it is one of those from i on.
 use mathlib.Core.Path.{_≡_, refl, sym, _∙_}
 use Prim.Native.Nat.{_≤_, _-_}
 use native.Mathlib.Omega.{arith}
 use lib.ListN.{length, drop}
 use Rattle.lists.specs.Lists.{member}
 use Rattle.lists.proofs.Lists.{member-here, member-next, member-end}
-use Rattle.record_codec.proofs.field.has_tag.Statement.{statement}
-use Rattle.record_codec.proofs.field.has_tag.Tie as tie
+use Rattle.record_codec.proofs.field.is_among.Statement.{statement}
+use Rattle.record_codec.proofs.field.is_among.Tie as tie
 
 abbrev Inv-loop : tie.InvT-loop
 Inv-loop tags tag i₀ i = (i ≤ length tags) × (member tag tags ≡ member tag (drop i tags))
@@ -46,8 +46,8 @@ returns-2 c =
     let a = c .before .before .args in
     sym (l .inv .1 ∙ member-end (a .tag) (a .tags .now) (l .i) (c .loop-test .left))
 
-pub has-tag-spec : {M : Type 1} → statement M
-has-tag-spec =
+pub is-among-spec : {M : Type 1} → statement M
+is-among-spec =
     tie.close
     (tie.spec
     Inv-loop

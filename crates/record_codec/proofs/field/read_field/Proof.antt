@@ -17,14 +17,14 @@ use Rattle.record_codec.proofs.field.read_field.Tie as tie
 abbrev at-head : tie.Else1 → tie.Start
 at-head k = k .before .before .before
 
-abbrev at-tag : tie.After-has-tag → tie.Else1
+abbrev at-tag : tie.After-is-among → tie.Else1
 at-tag k = k .before .before
 
-abbrev at-length : tie.After-is-length → tie.After-has-tag
+abbrev at-length : tie.After-is-length → tie.After-is-among
 at-length k = k .before .before .before
 
 -- what is asked of the field at the entry
-abbrev args-tag : tie.After-has-tag → tie.Start
+abbrev args-tag : tie.After-is-among → tie.Start
 args-tag k = at-head (at-tag k)
 
 abbrev args-length : tie.After-is-length → tie.Start
@@ -44,11 +44,11 @@ returns c =
     let k = c .before .before .before .before in
     field-head (k .args .input .now) (k .args .tags .now) (asked k) (k .args .at) _ (c .no-field .ensures) (k .pre .0) (c .before .if1 .taken)
 
-shared-slice-read-has-tag : tie.Need-shared-slice-read-has-tag
-shared-slice-read-has-tag c = search needs
+shared-slice-read-is-among : tie.Need-shared-slice-read-is-among
+shared-slice-read-is-among c = search needs
 
-has-tag-requires : tie.Need-has-tag-requires
-has-tag-requires c κs = search needs
+is-among-requires : tie.Need-is-among-requires
+is-among-requires c κs = search needs
 
 no-field-requires-2 : tie.Need-no-field-requires-2
 no-field-requires-2 c κs = search needs
@@ -58,7 +58,7 @@ returns-2 c =
     let t = c .before .before in
     let k = args-tag t in
     field-tag (k .args .input .now) (k .args .tags .now) (asked k) (k .args .at) (k .pre .0) (at-tag t .if1 .left) _ (c .no-field2 .ensures)
-    (sym (t .has-tag .ensures) ∙ not-true _ (c .before .if2 .taken))
+    (sym (t .is-among .ensures) ∙ not-true _ (c .before .if2 .taken))
 
 add-get-bytes : tie.Need-add-get-bytes
 add-get-bytes c = search needs
@@ -74,7 +74,7 @@ no-field-requires-3 c κs = search needs
 
 -- what the tests of tag and length left
 tag-good : (l : tie.After-is-length) → member (getD (args-length l .args .input .now) (args-length l .args .at) 0) (args-length l .args .tags .now) ≡ true
-tag-good l = sym (at-length l .has-tag .ensures) ∙ not-false _ (l .before .before .if2 .left)
+tag-good l = sym (at-length l .is-among .ensures) ∙ not-false _ (l .before .before .if2 .left)
 
 length-good : (o : tie.Else3) → lengthGood (asked (args-length (o .before))) (o .before .before .get-bytes .result) ≡ true
 length-good o = sym (o .before .is-length .ensures) ∙ not-false _ (o .if3 .left)
@@ -122,8 +122,8 @@ read-field-spec =
     sub-if1
     no-field-requires
     returns
-    shared-slice-read-has-tag
-    has-tag-requires
+    shared-slice-read-is-among
+    is-among-requires
     no-field-requires-2
     returns-2
     add-get-bytes

@@ -13,10 +13,10 @@ use Rattle.record_codec.proofs.front.read_side.Statement.{statement}
 use Rattle.record_codec.proofs.front.read_side.Tie as tie
 
 -- the entry, the tag, and the field of a side that is not refused, as later places see them
-abbrev entry : tie.After-has-side → tie.Start
+abbrev entry : tie.After-has-tag → tie.Start
 entry k = k .before .before
 
-abbrev tagged : tie.After-read-number → tie.After-has-side
+abbrev tagged : tie.After-read-number → tie.After-has-tag
 tagged k = k .before .before
 
 abbrev number : tie.Else2 → tie.After-read-number
@@ -26,14 +26,14 @@ abbrev found : tie.After-is-side → tie.Else2
 found k = k .before .before
 
 -- the tag at the offset is that past the rate
-same-tag : (k : tie.After-has-side) → k .has-side .result ≡ hasSide (entry k .args .input .now)
-same-tag k = k .has-side .ensures ∙ ap (λ (p : ℕ). eqb (tagAt (entry k .args .input .now) p) sideTag) (entry k .pre .0)
+same-tag : (k : tie.After-has-tag) → k .has-tag .result ≡ hasSide (entry k .args .input .now)
+same-tag k = k .has-tag .ensures ∙ ap (λ (p : ℕ). eqb (tagAt (entry k .args .input .now) p) sideTag) (entry k .pre .0)
 
 present : (k : tie.After-read-number) → hasSide (entry (tagged k) .args .input .now) ≡ true
 present k = sym (same-tag (tagged k)) ∙ not-false _ (k .before .if1 .left)
 
-has-side-requires : tie.Need-has-side-requires
-has-side-requires c κs = search needs
+has-tag-requires : tie.Need-has-tag-requires
+has-tag-requires c κs = search needs
 
 returns : tie.Need-returns
 returns c =
@@ -80,7 +80,7 @@ pub read-side-spec : {M : Type 1} → statement M
 read-side-spec =
     tie.close
     (tie.spec
-    has-side-requires
+    has-tag-requires
     returns
     read-number-requires
     returns-2

@@ -1,12 +1,15 @@
 -- `read_record` meets its contract: a law of readings answers each return.
 use mathlib.Core.Bool.{false}
-use mathlib.Core.Path.{_≡_, sym, _∙_}
+use mathlib.Core.Path.{_≡_, sym, ap, _∙_}
+use Prim.Native.Nat.{ℕ}
 use native.Mathlib.Omega.{arith}
 use borrow.Author.Needs.{needs}
 use lib.ListN.{length}
-use Rattle.record_format.specs.Reading.{lacksRoom}
+use Rattle.record_format.specs.Fields.{tagAt}
+use Rattle.record_format.specs.Runs.{formOf}
+use Rattle.record_format.specs.Reading.{lacksRoom, formIn}
 use Rattle.record_codec.proofs.Fronts.{place-near}
-use Rattle.record_codec.proofs.Readings.{answered-as, read-front, read-lacks, room-positions, room-ratios, read-positions, positions-inside, positions-near, read-ratios, read-found}
+use Rattle.record_codec.proofs.Readings.{answered-as, read-front, read-lacks, room-positions, room-ratios, read-positions, ratios-at, positions-inside, positions-near, read-ratios, read-found}
 use Rattle.record_codec.proofs.reader.read_record.Statement.{statement}
 use Rattle.record_codec.proofs.reader.read_record.Tie as tie
 
@@ -18,8 +21,11 @@ entry k = k .before .before .before .before
 abbrev front : tie.Else1 → tie.After-read-front
 front k = k .before .before
 
+abbrev formed : tie.After-read-positions → tie.After-form-at
+formed k = k .before .before
+
 abbrev room : tie.After-read-positions → tie.Else2
-room k = k .before .before
+room k = formed k .before
 
 abbrev positions : tie.After-positions-refused → tie.After-read-positions
 positions k = k .before .before .before
@@ -61,6 +67,12 @@ module _ (k : tie.Else2) where
   enough : lacksRoom (length (start .args .positions .now)) (length (start .args .ratios .now)) (fronted .read-front .result .count) ≡ false
   enough = sym (lacked .lacks .ensures) ∙ k .if2 .left
 
+-- the form of the positions, which the tag past the front names
+form-is : (k : tie.After-form-at) → k .form-at .result ≡ formIn (start (k .before) .args .input .now)
+form-is k =
+    let r = k .before in
+    k .form-at .ensures ∙ ap (λ (p : ℕ). formOf (tagAt (start r .args .input .now) p)) (fronted r .read-front .ensures .next (good-front r))
+
 -- ---- the needs
 
 read-front-requires : tie.Need-read-front-requires
@@ -87,8 +99,8 @@ returns c =
 lacks-requires : tie.Need-lacks-requires
 lacks-requires c κs = search needs
 
-cast-t24 : tie.Need-cast-t24
-cast-t24 c =
+cast-t25 : tie.Need-cast-t25
+cast-t25 c =
     let l = c .before .before in
     let near = place-near (front (l .before) .read-front .ensures) (l .before .if1 .left) in
     omega arith
@@ -113,9 +125,13 @@ returns-2 c =
     (sym (l .lacks .ensures) ∙ i .if2 .taken))
     (room-cleared c .refuse-read2 .ensures)
 
+form-at-requires : tie.Need-form-at-requires
+form-at-requires c κs = search needs
+
 read-positions-requires : tie.Need-read-positions-requires
 read-positions-requires c κs =
-    let k = c .before in
+    let m = c .before in
+    let k = m .before in
     let g = good-front k in
     let h = fronted k .read-front .ensures in
     let next = h .next g in
@@ -124,7 +140,7 @@ read-positions-requires c κs =
     let count = h .count g in
     let few = h .few g in
     let a = start k .args in
-    (omega arith, omega arith, room-positions (a .openly) (a .expected) (a .input .now) (a .positions .now) (a .ratios .now) _ h g (enough k), omega arith)
+    (form-is m, next, h .place g, count, omega arith, omega arith, room-positions (a .openly) (a .expected) (a .input .now) (a .positions .now) (a .ratios .now) _ h g (enough k), omega arith)
 
 refuse-read-requires-3 : tie.Need-refuse-read-requires-3
 refuse-read-requires-3 c κs = search needs
@@ -143,7 +159,7 @@ returns-3 c =
     let f = fronted r in
     let a = start r .args in
     answered-as
-    (read-positions (a .openly) (a .expected) (a .input .now) (a .positions .now) (a .ratios .now) (f .read-front .result) (f .read-front .ensures) (good-front r) (enough r) (p .read-positions .result) _ (p .read-positions .ensures) (i .if3 .taken) (p .read-positions .kept .1 .1 .1 .0))
+    (read-positions (a .openly) (a .expected) (a .input .now) (a .positions .now) (a .ratios .now) (f .read-front .result) (f .read-front .ensures) (good-front r) (enough r) (p .read-positions .result) _ (formed p .form-at .result) (form-is (formed p)) (p .read-positions .ensures) (i .if3 .taken) (p .read-positions .kept .1 .1 .1 .1 .1 .0))
     (positions-cleared c .refuse-read3 .ensures)
 
 read-ratios-requires : tie.Need-read-ratios-requires
@@ -158,9 +174,10 @@ read-ratios-requires c κs =
     let near = f .read-front .ensures .near g in
     let count = f .read-front .ensures .count g in
     let few = f .read-front .ensures .few g in
-    let inside = positions-inside (a .openly) (a .expected) (a .input .now) (a .positions .now) (a .ratios .now) (f .read-front .result) (f .read-front .ensures) (good-front r) (enough r) (p .read-positions .result) _ (p .read-positions .ensures) (i .if3 .left) in
-    let close = positions-near (a .openly) (a .expected) (a .input .now) (a .positions .now) (a .ratios .now) (f .read-front .result) (f .read-front .ensures) (good-front r) (enough r) (p .read-positions .result) _ (p .read-positions .ensures) (i .if3 .left) in
-    (omega arith, omega arith, room-ratios (a .openly) (a .expected) (a .input .now) (a .positions .now) (a .ratios .now) _ (f .read-front .ensures) g (enough r), omega arith)
+    let at = ratios-at (a .openly) (a .expected) (a .input .now) (a .positions .now) (a .ratios .now) (f .read-front .result) (f .read-front .ensures) (good-front r) (enough r) (p .read-positions .result) _ (formed p .form-at .result) (form-is (formed p)) (p .read-positions .ensures) (i .if3 .left) in
+    let inside = positions-inside (a .openly) (a .expected) (a .input .now) (a .positions .now) (a .ratios .now) (f .read-front .result) (f .read-front .ensures) (good-front r) (enough r) (p .read-positions .result) _ (formed p .form-at .result) (form-is (formed p)) (p .read-positions .ensures) (i .if3 .left) in
+    let close = positions-near (a .openly) (a .expected) (a .input .now) (a .positions .now) (a .ratios .now) (f .read-front .result) (f .read-front .ensures) (good-front r) (enough r) (p .read-positions .result) _ (formed p .form-at .result) (form-is (formed p)) (p .read-positions .ensures) (i .if3 .left) in
+    (at, count, omega arith, omega arith, room-ratios (a .openly) (a .expected) (a .input .now) (a .positions .now) (a .ratios .now) _ (f .read-front .ensures) g (enough r), omega arith)
 
 refuse-read-requires-4 : tie.Need-refuse-read-requires-4
 refuse-read-requires-4 c κs = search needs
@@ -181,17 +198,23 @@ returns-4 c =
     let f = fronted r in
     let a = start r .args in
     answered-as
-    (read-ratios (a .openly) (a .expected) (a .input .now) (a .positions .now) (a .ratios .now) (f .read-front .result) (f .read-front .ensures) (good-front r) (enough r) (p .read-positions .result) _ (p .read-positions .ensures) (i .if3 .left)
-    (q .read-ratios .result) _ (q .read-ratios .ensures) (j .if4 .taken) (p .read-positions .kept .1 .1 .1 .0) (q .read-ratios .kept .1 .1 .1 .1 .0))
+    (read-ratios (a .openly) (a .expected) (a .input .now) (a .positions .now) (a .ratios .now) (f .read-front .result) (f .read-front .ensures) (good-front r) (enough r) (p .read-positions .result) _ (formed p .form-at .result) (form-is (formed p)) (p .read-positions .ensures) (i .if3 .left)
+    (q .read-ratios .result) _ (q .read-ratios .ensures) (j .if4 .taken) (p .read-positions .kept .1 .1 .1 .1 .1 .0) (q .read-ratios .kept .1 .1 .1 .1 .0))
     (ratios-cleared c .refuse-read4 .ensures)
 
-cast-t42 : tie.Need-cast-t42
-cast-t42 c =
+cast-t43 : tie.Need-cast-t43
+cast-t43 c =
     let q = ratios (c .before) in
     let r = room (positions (later q .before)) in
     let count = fronted r .read-front .ensures .count (good-front r) in
     let few = fronted r .read-front .ensures .few (good-front r) in
     omega arith
+
+form-tag-requires : tie.Need-form-tag-requires
+form-tag-requires c κs = search needs
+
+cast-t45 : tie.Need-cast-t45
+cast-t45 c = search needs
 
 same-length-9 : tie.Need-same-length-9
 same-length-9 c = search needs
@@ -201,14 +224,15 @@ same-length-10 c = search needs
 
 returns-5 : tie.Need-returns-5
 returns-5 c =
-    let q = ratios (c .before) in
+    let last = c .before in
+    let q = ratios (last .before) in
     let i = later q in
     let p = positions (i .before) in
     let r = room p in
     let f = fronted r in
     let a = start r .args in
-    read-found (a .openly) (a .expected) (a .input .now) (a .positions .now) (a .ratios .now) (f .read-front .result) (f .read-front .ensures) (good-front r) (enough r) (p .read-positions .result) _ (p .read-positions .ensures) (i .if3 .left)
-    (q .read-ratios .result) _ (q .read-ratios .ensures) (c .if4 .left)
+    read-found (a .openly) (a .expected) (a .input .now) (a .positions .now) (a .ratios .now) (f .read-front .result) (f .read-front .ensures) (good-front r) (enough r) (p .read-positions .result) _ (formed p .form-at .result) (form-is (formed p)) (p .read-positions .ensures) (i .if3 .left)
+    (q .read-ratios .result) _ (q .read-ratios .ensures) (last .if4 .left) (c .form-tag .result) (c .form-tag .ensures)
 
 pub read-record-spec : {M : Type 1} → statement M
 read-record-spec =
@@ -220,11 +244,12 @@ read-record-spec =
     same-length-2
     returns
     lacks-requires
-    cast-t24
+    cast-t25
     refuse-read-requires-2
     same-length-3
     same-length-4
     returns-2
+    form-at-requires
     read-positions-requires
     refuse-read-requires-3
     same-length-5
@@ -235,7 +260,9 @@ read-record-spec =
     same-length-7
     same-length-8
     returns-4
-    cast-t42
+    cast-t43
+    form-tag-requires
+    cast-t45
     same-length-9
     same-length-10
     returns-5)

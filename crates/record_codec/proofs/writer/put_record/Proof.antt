@@ -10,8 +10,8 @@ use Rattle.outputs.specs.Outputs.{Placed}
 use Rattle.outputs.specs.declared.Wrote.the-variants.{Done}
 use Rattle.record_format.specs.Fields.{Field, fieldOf, laid}
 use Rattle.record_format.specs.Runs.{Run, run, positionsTag, ratiosTag, frontFields, fieldsOf, recordOf}
-use Rattle.position_format.specs.Rows.{rows}
 use Rattle.position_format.specs.Positions.{codedPositions}
+use Rattle.position_format.specs.Tables.{tableOf}
 use Rattle.ratio_format.specs.Bodies.{codedRatios}
 use Rattle.record_codec.proofs.Writings.{first-none, first-done, room-left, more-none, more-fits, more-done}
 use Rattle.record_codec.proofs.writer.put_record.Statement.{statement}
@@ -44,13 +44,13 @@ closed k = k .before .before .before .before
 
 module _ (e : tie.Start) where
   abbrev given-run : Run
-  given-run = run (e .args .rate) (e .args .side) (e .args .positions .now) (e .args .ratios .now)
+  given-run = run (e .args .rate) (e .args .side) (e .args .form) (e .args .positions .now) (e .args .ratios .now)
 
   abbrev front : List Field
   front = frontFields (e .args .rate) (e .args .side) (length (e .args .positions .now))
 
   abbrev positions-field : Field
-  positions-field = fieldOf positionsTag (codedPositions rows (e .args .positions .now))
+  positions-field = fieldOf (positionsTag (e .args .form)) (codedPositions (tableOf (e .args .form)) (e .args .positions .now))
 
   abbrev ratios-field : Field
   ratios-field = fieldOf ratiosTag (codedRatios (e .args .ratios .now))
@@ -188,8 +188,8 @@ returns-3 c =
     more-none (front e ++ (positions-field e ∷ [])) (ratios-field e ∷ []) (e .args .out .now) _ _ (positions-done k) _ _ (n .put-coded2 .ensures)
     [] (fieldsOf (given-run e)) (last-then e) (c .enum-told3 .given .1)
 
-add-t11 : tie.Need-add-t11
-add-t11 c =
+add-t12 : tie.Need-add-t12
+add-t12 c =
     let k = c .before in
     let d = closing (closed k) in
     let e = positions-entry d in
@@ -234,6 +234,6 @@ put-record-spec =
     enum-told-3
     same-length-3
     returns-3
-    add-t11
+    add-t12
     same-length-4
     returns-4)

@@ -9,7 +9,7 @@ use Rattle.refusals.specs.Tests.{firstOf}
 use Rattle.record_format.specs.declared.WriteAnswer.{WriteAnswer}
 use Rattle.record_format.specs.Runs.{Run, run, recordOf}
 use Rattle.record_format.specs.Writing.{runTests}
-use Rattle.record_format.proofs.Writing.{accepted-fits, clear-accepts, run-refused, run-no-room, run-written}
+use Rattle.record_format.proofs.Writing.{accepted-fits, fitting-few, clear-accepts, run-refused, run-no-room, run-written}
 use Rattle.record_codec.proofs.Writings.{short-of, wrote-all}
 use Rattle.record_codec.proofs.writer.write.Statement.{statement}
 use Rattle.record_codec.proofs.writer.write.Tie as tie
@@ -31,7 +31,7 @@ accepted k = k .before .before
 -- ---- the run, and that its tests refuse nothing
 
 abbrev given-run : tie.After-check-run → Run
-given-run k = run (entry k .args .rate) (entry k .args .side) (entry k .args .positions .now) (entry k .args .ratios .now)
+given-run k = run (entry k .args .rate) (entry k .args .side) (entry k .args .form) (entry k .args .positions .now) (entry k .args .ratios .now)
 
 clear : (k : tie.Else1) → firstOf (runTests (given-run (k .before))) .number ≡ 0
 clear k = sym (ap (λ (f : Refusal). f .number) (k .before .check-run .ensures)) ∙ k .if1 .left
@@ -65,7 +65,8 @@ put-record-requires c κs =
     let k = c .before in
     let r = given-run (k .before) in
     let f = accepted-fits r (clear-accepts r (clear k)) in
-    (f .valid, f .few, omega (arith, f .few, f .paired))
+    let few = fitting-few r f in
+    (f .valid, few, omega (arith, few, f .paired))
 
 enum-known-n : tie.Need-enum-known-n
 enum-known-n c = search needs
@@ -89,7 +90,7 @@ returns-2 c =
     let o = entry (k .before) .args .out .now in
     let h = run-no-room r o (clear k) (short-of (recordOf r) o _ _ (p .put-record .ensures) (t .enum-told .given .1)) in
     let e = cleared .refuse-write2 .ensures in
-    (e .0 ∙ h .0, e .1 ∙ ap (λ (n : ℕ). replicate n 0) (p .put-record .kept .1 .1 .1 .1 .0) ∙ h .1)
+    (e .0 ∙ h .0, e .1 ∙ ap (λ (n : ℕ). replicate n 0) (p .put-record .kept .1 .1 .1 .1 .1 .0) ∙ h .1)
 
 same-length-3 : tie.Need-same-length-3
 same-length-3 c = search needs

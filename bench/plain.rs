@@ -3,12 +3,13 @@
 //! at each entry; the run's own slice is the window. Its calls are not inlined, since those of
 //! the library cannot be.
 
-use crate::answers::WINDOW;
 use crate::answers::{Cursor, Live, Making, Reading, Stepped, Written};
+use crate::answers::{OLD, WIDE, WINDOW};
 
 const RATES: [u32; 6] = [44_100, 48_000, 88_200, 96_000, 176_400, 192_000];
 const LAST_SIDE: u32 = 26;
 const MOST_POINTS: usize = 4_096;
+const WIDE_POINTS: usize = 3_500;
 const LAST_POSITION: u64 = (1 << 62) - 1;
 const STEPS: std::ops::RangeInclusive<i64> = -(1 << 31) + 1..=1 << 31;
 
@@ -120,6 +121,11 @@ impl Bits<'_> {
         }
     }
 
+    fn lay_64(&mut self, number: u64) {
+        self.lay(number >> 32, 32);
+        self.lay(number & 0xffff_ffff, 32);
+    }
+
     fn byte(&mut self, byte: u8) {
         if let Some(cell) = self.out.get_mut(self.at) {
             *cell = byte;
@@ -128,8 +134,8 @@ impl Bits<'_> {
     }
 }
 
-/// Codes the positions and answers the length, or the index of a step outside the table.
-fn put_positions(positions: &[u64], out: &mut [u8]) -> Result<usize, usize> {
+/// Codes the positions in a form and answers the length, or the index of a step outside its table.
+fn put_positions<const FORM: u32>(positions: &[u64], out: &mut [u8]) -> Result<usize, usize> {
     let mut bits = Bits {
         out,
         at: 0,
@@ -137,8 +143,7 @@ fn put_positions(positions: &[u64], out: &mut [u8]) -> Result<usize, usize> {
         width: 0,
     };
     for &position in positions.iter().take(2) {
-        bits.lay(position >> 32, 32);
-        bits.lay(position & 0xffff_ffff, 32);
+        bits.lay_64(position);
     }
     for (n, three) in positions.windows(3).enumerate() {
         let (before, last, position) = (three[0] as i64, three[1] as i64, three[2] as i64);
@@ -149,7 +154,12 @@ fn put_positions(positions: &[u64], out: &mut [u8]) -> Result<usize, usize> {
             -63..=64 => bits.lay(0b10 << 7 | low(7), 9),
             -255..=256 => bits.lay(0b110 << 9 | low(9), 12),
             -2047..=2048 => bits.lay(0b1110 << 12 | low(12), 16),
+            _ if STEPS.contains(&step) && FORM == WIDE => bits.lay(0b11110 << 32 | low(32), 37),
             _ if STEPS.contains(&step) => bits.lay(0b1111 << 32 | low(32), 36),
+            _ if FORM == WIDE => {
+                bits.lay(0b11111, 5);
+                bits.lay_64(step as u64);
+            }
             _ => return Err(n + 2),
         }
     }
@@ -159,8 +169,53 @@ fn put_positions(positions: &[u64], out: &mut [u8]) -> Result<usize, usize> {
     Ok(bits.at)
 }
 
-/// Decodes positions into a slice of their count, or nothing where the body is no coding.
-fn take_positions(body: &[u8], positions: &mut [u64]) -> Option<()> {
+/// Bits not yet taken stand at the top of `held`, with zeros below them.
+struct Held<'a> {
+    bytes: std::slice::Iter<'a, u8>,
+    held: u64,
+    width: u32,
+}
+
+impl Held<'_> {
+    /// Holds at least 57 bits, or all that are left.
+    #[inline(always)]
+    fn fill(&mut self) {
+        while self.width <= 56 {
+            let Some(&byte) = self.bytes.next() else {
+                break;
+            };
+            self.held |= u64::from(byte) << (56 - self.width);
+            self.width += 8;
+        }
+    }
+
+    #[inline(always)]
+    fn drop(&mut self, width: u32) {
+        self.held <<= width;
+        self.width -= width;
+    }
+
+    /// Takes 64 bits behind a prefix.
+    #[inline(always)]
+    fn take_64(&mut self, prefix: u32) -> Option<u64> {
+        if self.width < prefix + 32 {
+            return None;
+        }
+        self.drop(prefix);
+        let high = self.held >> 32;
+        self.drop(32);
+        self.fill();
+        if self.width < 32 {
+            return None;
+        }
+        let low = self.held >> 32;
+        self.drop(32);
+        Some(high << 32 | low)
+    }
+}
+
+/// Decodes positions of a form into a slice of their count, or nothing where the body is no coding.
+fn take_positions<const FORM: u32>(body: &[u8], positions: &mut [u64]) -> Option<()> {
     let raw = positions.len().min(2);
     let (first, rest) = body.split_at_checked(8 * raw)?;
     for (position, bytes) in positions.iter_mut().zip(first.chunks(8)) {
@@ -169,43 +224,50 @@ fn take_positions(body: &[u8], positions: &mut [u64]) -> Option<()> {
             return None;
         }
     }
-    // Bits not yet taken stand at the top of `held`, with zeros below them.
-    let mut bytes = rest.iter();
-    let (mut held, mut width) = (0_u64, 0);
+    let mut bits = Held {
+        bytes: rest.iter(),
+        held: 0,
+        width: 0,
+    };
+    let most = if FORM == WIDE { 5 } else { 4 };
     for n in 2..positions.len() {
-        while width <= 56 {
-            let Some(&byte) = bytes.next() else { break };
-            held |= u64::from(byte) << (56 - width);
-            width += 8;
-        }
-        let ones = (!held).leading_zeros().min(4);
-        let (prefix, after) = [(1, 0), (2, 7), (3, 9), (4, 12), (4, 32)][ones as usize];
-        if width < prefix + after {
-            return None;
-        }
-        let mut step = 0;
-        if ones > 0 {
-            let low = (held << prefix >> (64 - after)) as i64;
-            step = if low > 1 << (after - 1) {
-                low - (1 << after)
-            } else {
-                low
-            };
-            let held_before = [0..=0, 0..=0, -63..=64, -255..=256, -2047..=2048];
-            if held_before[ones as usize].contains(&step) {
+        bits.fill();
+        let ones = (!bits.held).leading_zeros().min(most);
+        let step = if ones == 5 {
+            let step = bits.take_64(5)? as i64;
+            if STEPS.contains(&step) {
                 return None;
             }
-        }
-        held <<= prefix + after;
-        width -= prefix + after;
+            step
+        } else {
+            let (prefix, after) = [(1, 0), (2, 7), (3, 9), (4, 12), (most, 32)][ones as usize];
+            if bits.width < prefix + after {
+                return None;
+            }
+            let mut step = 0;
+            if ones > 0 {
+                let low = (bits.held << prefix >> (64 - after)) as i64;
+                step = if low > 1 << (after - 1) {
+                    low - (1 << after)
+                } else {
+                    low
+                };
+                let held_before = [0..=0, 0..=0, -63..=64, -255..=256, -2047..=2048];
+                if held_before[ones as usize].contains(&step) {
+                    return None;
+                }
+            }
+            bits.drop(prefix + after);
+            step
+        };
         let last = positions[n - 1] as i64;
-        let difference = (last - positions[n - 2] as i64) + step;
+        let difference = (last - positions[n - 2] as i64).checked_add(step)?;
         if difference < -last || difference > LAST_POSITION as i64 - last {
             return None;
         }
         positions[n] = (last + difference) as u64;
     }
-    (held == 0 && width < 8 && bytes.next().is_none()).then_some(())
+    (bits.held == 0 && bits.width < 8 && bits.bytes.next().is_none()).then_some(())
 }
 
 // Records
@@ -213,6 +275,7 @@ fn take_positions(body: &[u8], positions: &mut [u64]) -> Option<()> {
 fn try_write(
     rate: u32,
     side: u32,
+    form: u32,
     positions: &[u64],
     ratios: &[u64],
     out: &mut [u8],
@@ -226,7 +289,11 @@ fn try_write(
     if positions.len() != ratios.len() {
         return Err((2, 0));
     }
-    if positions.len() > MOST_POINTS {
+    let most = match form {
+        WIDE => WIDE_POINTS,
+        _ => MOST_POINTS,
+    };
+    if positions.len() > most {
         return Err((3, 0));
     }
     if let Some(index) = positions.iter().position(|&t| t > LAST_POSITION) {
@@ -234,7 +301,11 @@ fn try_write(
     }
     let count_at = if side == 0 { 7 } else { 11 };
     let (head, rest) = out.split_at_mut(out.len().min(count_at + 8));
-    let length = put_positions(positions, rest).map_err(|index| (5, index))?;
+    let coded = match form {
+        WIDE => put_positions::<WIDE>(positions, rest),
+        _ => put_positions::<OLD>(positions, rest),
+    };
+    let length = coded.map_err(|index| (5, index))?;
     if rest.len() < length + 3 {
         return Err((6, 0));
     }
@@ -246,7 +317,7 @@ fn try_write(
     }
     head[..3].copy_from_slice(&[2, 0, 2]);
     head[3..5].copy_from_slice(&(positions.len() as u16).to_be_bytes());
-    head[5] = 3;
+    head[5] = if form == WIDE { WIDE } else { OLD } as u8;
     head[6..].copy_from_slice(&(length as u16).to_be_bytes());
     let (head, body) = rest[length..].split_at_mut(3);
     let mut at = 0;
@@ -260,8 +331,15 @@ fn try_write(
 }
 
 #[inline(never)]
-pub fn write(rate: u32, side: u32, positions: &[u64], ratios: &[u64], out: &mut [u8]) -> Written {
-    match try_write(rate, side, positions, ratios, out) {
+pub fn write(
+    rate: u32,
+    side: u32,
+    form: u32,
+    positions: &[u64],
+    ratios: &[u64],
+    out: &mut [u8],
+) -> Written {
+    match try_write(rate, side, form, positions, ratios, out) {
         Ok(length) => written(0, 0, length),
         Err((number, place)) => {
             out.fill(0);
@@ -300,7 +378,7 @@ fn try_read(
     positions: &mut [u64],
     ratios: &mut [u64],
     strict: bool,
-) -> Result<(u32, u8, usize, usize), Refusal> {
+) -> Result<Reading, Refusal> {
     let rate = u32::from_be_bytes(body(record, 0, 1, Some(4))?.try_into().unwrap());
     if !RATES.contains(&rate) {
         return Err((13, 0));
@@ -325,8 +403,20 @@ fn try_read(
         return Err((16, count_at));
     }
     let field = count_at + 5;
-    let coded = body(record, field, 3, None)?;
-    take_positions(coded, &mut positions[..count]).ok_or((17, field))?;
+    let form = if record.get(field) == Some(&(WIDE as u8)) {
+        WIDE
+    } else {
+        OLD
+    };
+    if form == WIDE && count > WIDE_POINTS && record.len() >= field + 3 {
+        return Err((15, count_at));
+    }
+    let coded = body(record, field, form as u8, None)?;
+    let taken = match form {
+        WIDE => take_positions::<WIDE>(coded, &mut positions[..count]),
+        _ => take_positions::<OLD>(coded, &mut positions[..count]),
+    };
+    taken.ok_or((17, field))?;
     let field = field + 3 + coded.len();
     let coded = body(record, field, 4, None)?;
     let mut at = 0;
@@ -339,7 +429,15 @@ fn try_read(
     if at != coded.len() {
         return Err((18, field));
     }
-    Ok((rate, side, count, field + 3 + at))
+    Ok(Reading {
+        number: 0,
+        place: 0,
+        rate,
+        side: u32::from(side),
+        count: count as u32,
+        form,
+        used: (field + 3 + at) as u64,
+    })
 }
 
 #[inline(always)]
@@ -350,22 +448,21 @@ fn read(
     ratios: &mut [u64],
     strict: bool,
 ) -> Reading {
-    let (number, place, rate, side, count, used) =
-        match try_read(expected, record, positions, ratios, strict) {
-            Ok((rate, side, count, used)) => (0, 0, rate, side, count, used),
-            Err((number, place)) => {
-                positions.fill(0);
-                ratios.fill(0);
-                (number, place, 0, 0, 0, 0)
+    match try_read(expected, record, positions, ratios, strict) {
+        Ok(reading) => reading,
+        Err((number, place)) => {
+            positions.fill(0);
+            ratios.fill(0);
+            Reading {
+                number,
+                place: place as u32,
+                rate: 0,
+                side: 0,
+                count: 0,
+                form: 0,
+                used: 0,
             }
-        };
-    Reading {
-        number,
-        place: place as u32,
-        rate,
-        side: u32::from(side),
-        count: count as u32,
-        used: used as u64,
+        }
     }
 }
 

@@ -3,6 +3,10 @@
 /// How many ratios a window holds.
 pub const WINDOW: usize = 127;
 
+/// The forms of a record, by the tag of the positions' field.
+pub const OLD: u32 = 3;
+pub const WIDE: u32 = 5;
+
 /// What writing a run and adding a ratio answer.
 #[repr(C)]
 #[derive(Clone, Copy, Debug, PartialEq)]
@@ -12,7 +16,7 @@ pub struct Written {
     pub length: u64,
 }
 
-/// What strict and open reading answer.
+/// What strict and open reading answer; `form` is 0 with a refusal.
 #[repr(C)]
 #[derive(Clone, Copy, Debug, PartialEq)]
 pub struct Reading {
@@ -21,6 +25,7 @@ pub struct Reading {
     pub rate: u32,
     pub side: u32,
     pub count: u32,
+    pub form: u32,
     pub used: u64,
 }
 

@@ -327,7 +327,7 @@ impl Test {
 
     /// Writes faulty runs, each in both forms.
     fn spoiled_writes(&mut self, run: &Run) {
-        for _ in 0..7 {
+        for _ in 0..8 {
             let mut run = run.clone();
             for _ in 0..1 + self.random.below(3) {
                 run.spoil(&mut self.random);
@@ -1083,7 +1083,7 @@ impl Test {
             let count = other_number(&mut self.random, 4_096);
             self.cursor_new(count);
         }
-        for _ in 0..2_500 {
+        for _ in 0..3_000 {
             let run = Run::any(&mut self.random);
             self.write_and_read(&run);
             self.spoiled_writes(&run);

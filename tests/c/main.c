@@ -683,6 +683,8 @@ static void check_steps(void)
     const uint8_t raw_least[9] = {0xFF, 0xFF, 0xFF, 0xFF, 0xFC, 0, 0, 0, 8};
     const uint8_t raw_64[9] = {0xF8, 0, 0, 0, 0, 0, 0, 2, 0};
     const uint8_t last[9] = {0xFC, 0, 0, 0, 0, 0, 0, 0, 0};
+    const uint8_t one_above[9] = {0xFB, 0xFF, 0xFF, 0xFF, 0xFF, 0xFF, 0xFF, 0xFF, 0xF8};
+    const uint8_t one_below[9] = {0xFC, 0, 0, 0, 0, 0, 0, 0, 8};
     const uint8_t fill[9] = {0xF8, 0, 0, 0, 4, 0, 0, 0, 9};
     const uint8_t old_most[5] = {0xF8, 0, 0, 0, 0};
 
@@ -700,8 +702,10 @@ static void check_steps(void)
     refuse_step(middle, middle, last, 9, "reading, step -2^63");
     refuse_step(0, top, last, 9, "reading, step -2^63 from the last position");
     refuse_step(0, top, largest, 9, "reading, a position above 64 bits");
-    refuse_step(top, top, above, 9, "reading, a position above the last");
-    refuse_step(0, 0, below, 9, "reading, a position below 0");
+    refuse_step(top, top, above, 9, "reading, a position far above the last");
+    refuse_step(0, 0, below, 9, "reading, a position far below 0");
+    refuse_step(top, 0, one_above, 9, "reading, the position 2^62");
+    refuse_step(0, top, one_below, 9, "reading, the position -1");
     refuse_step(middle, middle, fill, 9, "reading, a fill bit behind 64 bits");
     refuse_step(middle, middle, above, 8, "reading, 64 bits cut");
     refuse_step(middle, middle, old_most, 5, "reading, the old code of 2^31");
@@ -831,6 +835,23 @@ static void check_form_refusals(void)
                 "writing, not too many for the old form");
 }
 
+/* Calls that know no form take as many points as the old one. */
+static void check_formless_limits(void)
+{
+    static const uint64_t positions[FARIGOLENC_POINTS + 1] = {0};
+    farigolenc_live live = farigolenc_live_new();
+    uint8_t out[FARIGOLENC_RATIO_FORM];
+
+    check(farigolenc_span(48000, positions, FARIGOLENC_POINTS).number == 0, "span of 4096 points");
+    check(farigolenc_span(48000, positions, FARIGOLENC_POINTS + 1).number == 3,
+          "span of 4097 points");
+    check(farigolenc_cursor_new(FARIGOLENC_POINTS).number == 0, "making, count of 4096");
+    live.fill = FARIGOLENC_WINDOW;
+    live.seen = FARIGOLENC_POINTS - 1;
+    check(farigolenc_live_add(&live, 7, out, sizeof out).number == 0, "live, ratio 4096");
+    check(live.seen == FARIGOLENC_POINTS, "live, ratio 4096");
+}
+
 int main(void)
 {
     const uint32_t limits[] = {3499, 3500, 3501, 3502, 4095, 4096};
@@ -849,6 +870,7 @@ int main(void)
         check_limit(SIDE, limits[i]);
     }
     check_form_refusals();
+    check_formless_limits();
     check_kinds();
     check_spans();
     check_reasons();

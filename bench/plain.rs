@@ -1,7 +1,8 @@
 //! A straightforward implementation of writing, reading, live addition and stepping, to be timed
 //! beside the library. It scans the window newest first, stops at an equal ratio, and takes both counts
 //! at each entry; the run's own slice is the window. Its calls are not inlined, since those of
-//! the library cannot be.
+//! the library cannot be. Writing and reading are compiled for each form apart, so that the old
+//! one is as fast as without the wide one.
 
 use crate::answers::{Cursor, Live, Making, Reading, Stepped, Written};
 use crate::answers::{OLD, WIDE, WINDOW};
@@ -121,11 +122,6 @@ impl Bits<'_> {
         }
     }
 
-    fn lay_64(&mut self, number: u64) {
-        self.lay(number >> 32, 32);
-        self.lay(number & 0xffff_ffff, 32);
-    }
-
     fn byte(&mut self, byte: u8) {
         if let Some(cell) = self.out.get_mut(self.at) {
             *cell = byte;
@@ -143,7 +139,8 @@ fn put_positions<const FORM: u32>(positions: &[u64], out: &mut [u8]) -> Result<u
         width: 0,
     };
     for &position in positions.iter().take(2) {
-        bits.lay_64(position);
+        bits.lay(position >> 32, 32);
+        bits.lay(position & 0xffff_ffff, 32);
     }
     for (n, three) in positions.windows(3).enumerate() {
         let (before, last, position) = (three[0] as i64, three[1] as i64, three[2] as i64);
@@ -157,8 +154,8 @@ fn put_positions<const FORM: u32>(positions: &[u64], out: &mut [u8]) -> Result<u
             _ if STEPS.contains(&step) && FORM == WIDE => bits.lay(0b11110 << 32 | low(32), 37),
             _ if STEPS.contains(&step) => bits.lay(0b1111 << 32 | low(32), 36),
             _ if FORM == WIDE => {
-                bits.lay(0b11111, 5);
-                bits.lay_64(step as u64);
+                bits.lay(0b11111 << 32 | step as u64 >> 32, 37);
+                bits.lay(low(32), 32);
             }
             _ => return Err(n + 2),
         }
@@ -167,51 +164,6 @@ fn put_positions<const FORM: u32>(positions: &[u64], out: &mut [u8]) -> Result<u
         bits.lay(0, 8 - bits.width);
     }
     Ok(bits.at)
-}
-
-/// Bits not yet taken stand at the top of `held`, with zeros below them.
-struct Held<'a> {
-    bytes: std::slice::Iter<'a, u8>,
-    held: u64,
-    width: u32,
-}
-
-impl Held<'_> {
-    /// Holds at least 57 bits, or all that are left.
-    #[inline(always)]
-    fn fill(&mut self) {
-        while self.width <= 56 {
-            let Some(&byte) = self.bytes.next() else {
-                break;
-            };
-            self.held |= u64::from(byte) << (56 - self.width);
-            self.width += 8;
-        }
-    }
-
-    #[inline(always)]
-    fn drop(&mut self, width: u32) {
-        self.held <<= width;
-        self.width -= width;
-    }
-
-    /// Takes 64 bits behind a prefix.
-    #[inline(always)]
-    fn take_64(&mut self, prefix: u32) -> Option<u64> {
-        if self.width < prefix + 32 {
-            return None;
-        }
-        self.drop(prefix);
-        let high = self.held >> 32;
-        self.drop(32);
-        self.fill();
-        if self.width < 32 {
-            return None;
-        }
-        let low = self.held >> 32;
-        self.drop(32);
-        Some(high << 32 | low)
-    }
 }
 
 /// Decodes positions of a form into a slice of their count, or nothing where the body is no coding.
@@ -224,29 +176,46 @@ fn take_positions<const FORM: u32>(body: &[u8], positions: &mut [u64]) -> Option
             return None;
         }
     }
-    let mut bits = Held {
-        bytes: rest.iter(),
-        held: 0,
-        width: 0,
+    // Bits not yet taken stand at the top of `held`, with zeros below them.
+    let mut bytes = rest.iter();
+    let (mut held, mut width) = (0_u64, 0);
+    let mut fill = |held: &mut u64, width: &mut u32| {
+        while *width <= 56 {
+            let Some(&byte) = bytes.next() else { break };
+            *held |= u64::from(byte) << (56 - *width);
+            *width += 8;
+        }
     };
     let most = if FORM == WIDE { 5 } else { 4 };
     for n in 2..positions.len() {
-        bits.fill();
-        let ones = (!bits.held).leading_zeros().min(most);
-        let step = if ones == 5 {
-            let step = bits.take_64(5)? as i64;
+        fill(&mut held, &mut width);
+        let ones = (!held).leading_zeros().min(most);
+        let mut step = 0;
+        if ones == 5 {
+            // The 64 bits in two halves, since fewer than 69 are held.
+            if width < 5 + 32 {
+                return None;
+            }
+            let high = held << 5 >> 32;
+            held <<= 5 + 32;
+            width -= 5 + 32;
+            fill(&mut held, &mut width);
+            if width < 32 {
+                return None;
+            }
+            step = (high << 32 | held >> 32) as i64;
+            held <<= 32;
+            width -= 32;
             if STEPS.contains(&step) {
                 return None;
             }
-            step
         } else {
             let (prefix, after) = [(1, 0), (2, 7), (3, 9), (4, 12), (most, 32)][ones as usize];
-            if bits.width < prefix + after {
+            if width < prefix + after {
                 return None;
             }
-            let mut step = 0;
             if ones > 0 {
-                let low = (bits.held << prefix >> (64 - after)) as i64;
+                let low = (held << prefix >> (64 - after)) as i64;
                 step = if low > 1 << (after - 1) {
                     low - (1 << after)
                 } else {
@@ -257,9 +226,9 @@ fn take_positions<const FORM: u32>(body: &[u8], positions: &mut [u64]) -> Option
                     return None;
                 }
             }
-            bits.drop(prefix + after);
-            step
-        };
+            held <<= prefix + after;
+            width -= prefix + after;
+        }
         let last = positions[n - 1] as i64;
         let difference = (last - positions[n - 2] as i64).checked_add(step)?;
         if difference < -last || difference > LAST_POSITION as i64 - last {
@@ -267,15 +236,14 @@ fn take_positions<const FORM: u32>(body: &[u8], positions: &mut [u64]) -> Option
         }
         positions[n] = (last + difference) as u64;
     }
-    (bits.held == 0 && bits.width < 8 && bits.bytes.next().is_none()).then_some(())
+    (held == 0 && width < 8 && bytes.next().is_none()).then_some(())
 }
 
 // Records
 
-fn try_write(
+fn try_write<const FORM: u32>(
     rate: u32,
     side: u32,
-    form: u32,
     positions: &[u64],
     ratios: &[u64],
     out: &mut [u8],
@@ -289,9 +257,10 @@ fn try_write(
     if positions.len() != ratios.len() {
         return Err((2, 0));
     }
-    let most = match form {
-        WIDE => WIDE_POINTS,
-        _ => MOST_POINTS,
+    let most = if FORM == WIDE {
+        WIDE_POINTS
+    } else {
+        MOST_POINTS
     };
     if positions.len() > most {
         return Err((3, 0));
@@ -301,11 +270,7 @@ fn try_write(
     }
     let count_at = if side == 0 { 7 } else { 11 };
     let (head, rest) = out.split_at_mut(out.len().min(count_at + 8));
-    let coded = match form {
-        WIDE => put_positions::<WIDE>(positions, rest),
-        _ => put_positions::<OLD>(positions, rest),
-    };
-    let length = coded.map_err(|index| (5, index))?;
+    let length = put_positions::<FORM>(positions, rest).map_err(|index| (5, index))?;
     if rest.len() < length + 3 {
         return Err((6, 0));
     }
@@ -317,7 +282,7 @@ fn try_write(
     }
     head[..3].copy_from_slice(&[2, 0, 2]);
     head[3..5].copy_from_slice(&(positions.len() as u16).to_be_bytes());
-    head[5] = if form == WIDE { WIDE } else { OLD } as u8;
+    head[5] = FORM as u8;
     head[6..].copy_from_slice(&(length as u16).to_be_bytes());
     let (head, body) = rest[length..].split_at_mut(3);
     let mut at = 0;
@@ -331,6 +296,22 @@ fn try_write(
 }
 
 #[inline(never)]
+fn write_in<const FORM: u32>(
+    rate: u32,
+    side: u32,
+    positions: &[u64],
+    ratios: &[u64],
+    out: &mut [u8],
+) -> Written {
+    match try_write::<FORM>(rate, side, positions, ratios, out) {
+        Ok(length) => written(0, 0, length),
+        Err((number, place)) => {
+            out.fill(0);
+            written(number, place, 0)
+        }
+    }
+}
+
 pub fn write(
     rate: u32,
     side: u32,
@@ -339,12 +320,9 @@ pub fn write(
     ratios: &[u64],
     out: &mut [u8],
 ) -> Written {
-    match try_write(rate, side, form, positions, ratios, out) {
-        Ok(length) => written(0, 0, length),
-        Err((number, place)) => {
-            out.fill(0);
-            written(number, place, 0)
-        }
+    match form {
+        WIDE => write_in::<WIDE>(rate, side, positions, ratios, out),
+        _ => write_in::<OLD>(rate, side, positions, ratios, out),
     }
 }
 
@@ -372,13 +350,13 @@ fn body(record: &[u8], at: usize, tag: u8, length: Option<usize>) -> Result<&[u8
 }
 
 #[inline(always)]
-fn try_read(
+fn try_read<const FORM: u32>(
     expected: u32,
     record: &[u8],
     positions: &mut [u64],
     ratios: &mut [u64],
     strict: bool,
-) -> Result<Reading, Refusal> {
+) -> Result<(u32, u8, usize, usize), Refusal> {
     let rate = u32::from_be_bytes(body(record, 0, 1, Some(4))?.try_into().unwrap());
     if !RATES.contains(&rate) {
         return Err((13, 0));
@@ -403,20 +381,11 @@ fn try_read(
         return Err((16, count_at));
     }
     let field = count_at + 5;
-    let form = if record.get(field) == Some(&(WIDE as u8)) {
-        WIDE
-    } else {
-        OLD
-    };
-    if form == WIDE && count > WIDE_POINTS && record.len() >= field + 3 {
+    if FORM == WIDE && count > WIDE_POINTS && record.len() >= field + 3 {
         return Err((15, count_at));
     }
-    let coded = body(record, field, form as u8, None)?;
-    let taken = match form {
-        WIDE => take_positions::<WIDE>(coded, &mut positions[..count]),
-        _ => take_positions::<OLD>(coded, &mut positions[..count]),
-    };
-    taken.ok_or((17, field))?;
+    let coded = body(record, field, FORM as u8, None)?;
+    take_positions::<FORM>(coded, &mut positions[..count]).ok_or((17, field))?;
     let field = field + 3 + coded.len();
     let coded = body(record, field, 4, None)?;
     let mut at = 0;
@@ -429,40 +398,48 @@ fn try_read(
     if at != coded.len() {
         return Err((18, field));
     }
-    Ok(Reading {
-        number: 0,
-        place: 0,
-        rate,
-        side: u32::from(side),
-        count: count as u32,
-        form,
-        used: (field + 3 + at) as u64,
-    })
+    Ok((rate, side, count, field + 3 + at))
 }
 
-#[inline(always)]
-fn read(
+#[inline(never)]
+fn read_in<const FORM: u32, const STRICT: bool>(
     expected: u32,
     record: &[u8],
     positions: &mut [u64],
     ratios: &mut [u64],
-    strict: bool,
 ) -> Reading {
-    match try_read(expected, record, positions, ratios, strict) {
-        Ok(reading) => reading,
-        Err((number, place)) => {
-            positions.fill(0);
-            ratios.fill(0);
-            Reading {
-                number,
-                place: place as u32,
-                rate: 0,
-                side: 0,
-                count: 0,
-                form: 0,
-                used: 0,
+    let (number, place, rate, side, count, form, used) =
+        match try_read::<FORM>(expected, record, positions, ratios, STRICT) {
+            Ok((rate, side, count, used)) => (0, 0, rate, side, count, FORM, used),
+            Err((number, place)) => {
+                positions.fill(0);
+                ratios.fill(0);
+                (number, place, 0, 0, 0, 0, 0)
             }
-        }
+        };
+    Reading {
+        number,
+        place: place as u32,
+        rate,
+        side: u32::from(side),
+        count: count as u32,
+        form,
+        used: used as u64,
+    }
+}
+
+/// Reads in the form of the tag that stands where a record has that of its positions' field.
+fn read<const STRICT: bool>(
+    expected: u32,
+    record: &[u8],
+    positions: &mut [u64],
+    ratios: &mut [u64],
+) -> Reading {
+    let field = if record.get(7) == Some(&6) { 16 } else { 12 };
+    if record.get(field) == Some(&(WIDE as u8)) {
+        read_in::<WIDE, STRICT>(expected, record, positions, ratios)
+    } else {
+        read_in::<OLD, STRICT>(expected, record, positions, ratios)
     }
 }
 
@@ -473,7 +450,7 @@ pub fn read_strict(
     positions: &mut [u64],
     ratios: &mut [u64],
 ) -> Reading {
-    read(expected, record, positions, ratios, true)
+    read::<true>(expected, record, positions, ratios)
 }
 
 #[inline(never)]
@@ -483,7 +460,7 @@ pub fn read_open(
     positions: &mut [u64],
     ratios: &mut [u64],
 ) -> Reading {
-    read(expected, record, positions, ratios, false)
+    read::<false>(expected, record, positions, ratios)
 }
 
 // Live coding

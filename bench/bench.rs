@@ -20,7 +20,7 @@ mod answers;
 mod library;
 mod plain;
 
-use answers::{Cursor, Live, Making, Reading, Stepped, Written, OLD, WIDE};
+use answers::{Cursor, Live, Making, Reading, Stepped, Write, Written, OLD, WIDE};
 use std::hint::black_box;
 
 const POINTS: usize = 4_096;
@@ -183,7 +183,7 @@ impl Output {
 
 /// One implementation's calls.
 struct Calls {
-    write: fn(u32, u32, u32, &[u64], &[u64], &mut [u8]) -> Written,
+    write: Write,
     read_strict: fn(u32, &[u8], &mut [u64], &mut [u64]) -> Reading,
     read_open: fn(u32, &[u8], &mut [u64], &mut [u64]) -> Reading,
     live_new: fn() -> Live,

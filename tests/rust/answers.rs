@@ -16,6 +16,9 @@ pub struct Written {
     pub length: u64,
 }
 
+/// Writing a run, by whichever implementation: rate, side, form, positions, ratios, output.
+pub type Write = fn(u32, u32, u32, &[u64], &[u64], &mut [u8]) -> Written;
+
 /// What strict and open reading answer; `form` is 0 with a refusal.
 #[repr(C)]
 #[derive(Clone, Copy, Debug, PartialEq)]

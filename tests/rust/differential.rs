@@ -12,7 +12,7 @@ mod inputs;
 mod library;
 mod reference;
 
-use answers::{Cursor, Explained, Kind, Live, Making, Reading, Span, Stepped, Written};
+use answers::{Cursor, Explained, Kind, Live, Making, Reading, Span, Stepped, Write, Written};
 use answers::{OLD, WIDE, WINDOW};
 use inputs::*;
 use std::cmp::Reverse;

@@ -1,6 +1,6 @@
 //! Random inputs for the differential test: runs, records, bodies and outputs, sound and faulty.
 
-use crate::answers::{Written, OLD, WIDE, WINDOW};
+use crate::answers::{Write, Written, OLD, WIDE, WINDOW};
 use crate::reference;
 
 pub const RATES: [u32; 6] = [44_100, 48_000, 88_200, 96_000, 176_400, 192_000];
@@ -295,7 +295,7 @@ impl Bits {
 
     /// Ones in the place of the fill bits of the last byte.
     pub fn fill(&self) -> u8 {
-        (1 << (8 - self.0.len() % 8) % 8) - 1
+        (1 << ((8 - self.0.len() % 8) % 8)) - 1
     }
 
     /// The bytes, with zeros to the end of the last one.
@@ -489,9 +489,6 @@ pub fn other_number(random: &mut Random, near: u64) -> u64 {
         more, less, wide, wide, 0, 126, 127, 128, 4_095, 4_096, 4_097, most, any,
     ])
 }
-
-/// Writing, by the reference or by the library.
-pub type Write = fn(u32, u32, u32, &[u64], &[u64], &mut [u8]) -> Written;
 
 #[derive(Clone, Debug)]
 pub struct Run {

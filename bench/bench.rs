@@ -6,8 +6,8 @@
 //! Live addition and stepping are set beside straightforward ones that take and return their
 //! state by value; the straightforward step is a C function as the library's is, so that both
 //! are handed the state in the same way. Positions are timed in runs of one ratio throughout,
-//! which takes a byte and no search. Runs have no side but in a table of their own. At the end
-//! stand the targets that were not met.
+//! which takes a byte and no search; so are those of the wide form, in a table of its own. Runs
+//! have no side but in a table of their own. At the end stand the targets that were not met.
 //!
 //! Each sample of the library is timed between two of the straightforward implementation. A
 //! ratio says how many times as fast the library is as the mean of these two; printed are
@@ -20,13 +20,14 @@ mod answers;
 mod library;
 mod plain;
 
-use answers::{Cursor, Live, Making, Reading, Stepped, Written};
+use answers::{Cursor, Live, Making, Reading, Stepped, Write, Written, OLD, WIDE};
 use std::hint::black_box;
 
 const POINTS: usize = 4_096;
+const WIDE_POINTS: usize = 3_500;
 const SHORT: usize = 8;
 const RATE: u32 = 96_000;
-const LONGEST_RECORD: usize = 55_325;
+const LONGEST_RECORD: usize = 61_709;
 const SAMPLES: usize = 21;
 /// How many seconds a sample of the straightforward implementation should take at least.
 const SAMPLE: f64 = 0.000_8;
@@ -109,33 +110,49 @@ fn ratios(kind: usize) -> Vec<u64> {
     (0..POINTS).map(next).collect()
 }
 
-/// Positions 960 apart, each off by nothing or by an irregular amount.
-fn positions(regular: bool) -> Vec<u64> {
+/// Positions 960 apart, each off by nothing or by an irregular amount, or with a long pause after
+/// every hundred, for which the old form has no step.
+fn positions(steps: &str) -> Vec<u64> {
     let mut random = Random(77);
-    let mut off = || match random.below(8) {
-        _ if regular => 0,
-        0 => random.below(900),
-        1 | 2 => random.below(200),
-        _ => random.below(30),
+    let mut pauses = 0;
+    let mut off = |n: u64| match (steps, random.below(8)) {
+        ("irregular", 0) => random.below(900),
+        ("irregular", 1 | 2) => random.below(200),
+        ("irregular", _) => random.below(30),
+        ("pauses", _) => {
+            if n % 100 == 50 {
+                pauses += (1 << 32) + random.below(1 << 40);
+            }
+            pauses
+        }
+        _ => 0,
     };
-    (0..POINTS as u64).map(|n| 960 * n + off()).collect()
+    (0..POINTS as u64).map(|n| 960 * n + off(n)).collect()
 }
 
 struct Run<'a> {
     side: u32,
+    form: u32,
     positions: &'a [u64],
     ratios: &'a [u64],
     record: Vec<u8>,
 }
 
-/// The runs of a side, so many points each.
-fn runs<'a>(side: u32, positions: &'a [u64], ratios: &'a [u64], length: usize) -> Vec<Run<'a>> {
+/// The runs of a side in a form, so many points each.
+fn runs<'a>(
+    side: u32,
+    form: u32,
+    positions: &'a [u64],
+    ratios: &'a [u64],
+    length: usize,
+) -> Vec<Run<'a>> {
     let run = |(positions, ratios)| {
         let mut record = vec![0; LONGEST_RECORD];
-        let written = plain::write(RATE, side, positions, ratios, &mut record);
+        let written = plain::write(RATE, side, form, positions, ratios, &mut record);
         record.truncate(written.length as usize);
         Run {
             side,
+            form,
             positions,
             ratios,
             record,
@@ -166,7 +183,7 @@ impl Output {
 
 /// One implementation's calls.
 struct Calls {
-    write: fn(u32, u32, &[u64], &[u64], &mut [u8]) -> Written,
+    write: Write,
     read_strict: fn(u32, &[u8], &mut [u64], &mut [u64]) -> Reading,
     read_open: fn(u32, &[u8], &mut [u64], &mut [u64]) -> Reading,
     live_new: fn() -> Live,
@@ -225,8 +242,8 @@ fn ratios_body(record: &[u8]) -> &[u8] {
 fn work(calls: &Calls, call: Call, run: &Run, out: &mut Output) {
     match call {
         Call::Write => {
-            let (side, bytes) = (run.side, &mut out.bytes);
-            let written = (calls.write)(RATE, side, run.positions, run.ratios, bytes);
+            let (side, form, bytes) = (run.side, run.form, &mut out.bytes);
+            let written = (calls.write)(RATE, side, form, run.positions, run.ratios, bytes);
             assert_eq!(written.length, run.record.len() as u64);
         }
         Call::Strict | Call::Open => {
@@ -237,7 +254,7 @@ fn work(calls: &Calls, call: Call, run: &Run, out: &mut Output) {
             };
             let read = read(RATE, &run.record, &mut out.positions, &mut out.ratios);
             assert_eq!(read.used, run.record.len() as u64);
-            assert_eq!(read.side, run.side);
+            assert_eq!((read.side, read.form), (run.side, run.form));
         }
         Call::Live => {
             let mut state = (calls.live_new)();
@@ -365,7 +382,8 @@ fn measure(call: Call, runs: &[Run], samples: usize) -> Cell {
             }
         })
     });
-    let megabytes = (8 * POINTS) as f64 / 1e6;
+    let points: usize = runs.iter().map(|run| run.ratios.len()).sum();
+    let megabytes = (8 * points) as f64 / 1e6;
     Cell {
         copy: megabytes / median(copies.collect()),
         plain: megabytes / median(plains),
@@ -434,11 +452,11 @@ fn table(call: Call, length: usize, samples: usize) -> Vec<String> {
         print!("{name:24}");
         let ratios = ratios(kind);
         for (steps, all_ratios) in steps.iter().zip(&mut all_ratios) {
-            let positions = positions(*steps != "irregular");
+            let positions = positions(steps);
             let what = format!("{} of {length} points, {name}, {steps}", self::name(call));
             all_ratios.push(cell(
                 call,
-                &runs(0, &positions, &ratios, length),
+                &runs(0, OLD, &positions, &ratios, length),
                 samples,
                 |cell| target(call, length, kind, cell.plain),
                 what.trim_end_matches(", "),
@@ -455,24 +473,30 @@ fn table(call: Call, length: usize, samples: usize) -> Vec<String> {
     missed
 }
 
-/// Prints how fast runs of one ratio throughout are, and answers where they are slower than
-/// those of the straightforward implementation: positions should never be.
-fn positions_table(samples: usize) -> Vec<String> {
+/// Prints how fast runs of one ratio throughout are in a form, and answers where they are slower
+/// than those of the straightforward implementation: positions should never be.
+fn positions_table(form: u32, samples: usize) -> Vec<String> {
     let mut missed = Vec::new();
-    println!("\npositions, {POINTS} points of one ratio");
-    let steps = ["regular", "irregular"];
-    head(&steps);
+    let (what, points, steps): (_, _, &[&str]) = match form {
+        WIDE => {
+            let steps = &["regular", "irregular", "pauses"];
+            ("positions in the wide form", WIDE_POINTS, steps)
+        }
+        _ => ("positions", POINTS, &["regular", "irregular"]),
+    };
+    println!("\n{what}, {points} points of one ratio");
+    head(steps);
     let ratios = ratios(SAME);
     for call in [Call::Write, Call::Strict, Call::Open] {
         print!("{:24}", name(call));
         for steps in steps {
-            let positions = positions(steps == "regular");
+            let positions = positions(steps);
             cell(
                 call,
-                &runs(0, &positions, &ratios, POINTS),
+                &runs(0, form, &positions[..points], &ratios[..points], points),
                 samples,
                 |_| 1.0,
-                &format!("positions, {} of one ratio, {steps}", name(call)),
+                &format!("{what}, {} of one ratio, {steps}", name(call)),
                 &mut missed,
             );
         }
@@ -488,13 +512,13 @@ fn sides_table(samples: usize) -> Vec<String> {
     println!("\nside {SIDE}, two sines, regular steps, by the number of points");
     let lengths = [POINTS, SHORT];
     head(&lengths.map(|length| length.to_string()));
-    let (positions, ratios) = (positions(true), ratios(SINES));
+    let (positions, ratios) = (positions("regular"), ratios(SINES));
     for call in [Call::Write, Call::Strict, Call::Open] {
         print!("{:24}", name(call));
         for length in lengths {
             cell(
                 call,
-                &runs(SIDE, &positions, &ratios, length),
+                &runs(SIDE, OLD, &positions, &ratios, length),
                 samples,
                 |cell| target(call, length, SINES, cell.plain),
                 &format!("side {SIDE}, {} of {length} points", name(call)),
@@ -510,11 +534,11 @@ fn sides_table(samples: usize) -> Vec<String> {
 /// straightforward implementation.
 fn growth(samples: usize) {
     println!("\ntwo sines, irregular steps: ns a point by the number of points, library (plain)");
-    let (positions, ratios) = (positions(false), ratios(SINES));
+    let (positions, ratios) = (positions("irregular"), ratios(SINES));
     for call in [Call::Write, Call::Strict, Call::Open] {
         print!("{:24}", name(call));
         for length in [256, 1_024, POINTS] {
-            let cell = measure(call, &runs(0, &positions, &ratios, length), samples);
+            let cell = measure(call, &runs(0, OLD, &positions, &ratios, length), samples);
             let (library, plain) = (8_000.0 / cell.library, 8_000.0 / cell.plain);
             print!(" | {length:5}: {library:6.1} ({plain:6.1})");
         }
@@ -545,7 +569,9 @@ fn main() {
             missed.extend(table(call, length, samples));
         }
     }
-    missed.extend(positions_table(samples));
+    for form in [OLD, WIDE] {
+        missed.extend(positions_table(form, samples));
+    }
     missed.extend(sides_table(samples));
     growth(samples);
     println!("\ntargets not met: {}", missed.len());

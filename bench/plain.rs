@@ -1,14 +1,16 @@
 //! A straightforward implementation of writing, reading, live addition and stepping, to be timed
 //! beside the library. It scans the window newest first, stops at an equal ratio, and takes both counts
 //! at each entry; the run's own slice is the window. Its calls are not inlined, since those of
-//! the library cannot be.
+//! the library cannot be. Writing and reading are compiled for each form apart, so that the old
+//! one is as fast as without the wide one.
 
-use crate::answers::WINDOW;
 use crate::answers::{Cursor, Live, Making, Reading, Stepped, Written};
+use crate::answers::{OLD, WIDE, WINDOW};
 
 const RATES: [u32; 6] = [44_100, 48_000, 88_200, 96_000, 176_400, 192_000];
 const LAST_SIDE: u32 = 26;
 const MOST_POINTS: usize = 4_096;
+const WIDE_POINTS: usize = 3_500;
 const LAST_POSITION: u64 = (1 << 62) - 1;
 const STEPS: std::ops::RangeInclusive<i64> = -(1 << 31) + 1..=1 << 31;
 
@@ -128,8 +130,8 @@ impl Bits<'_> {
     }
 }
 
-/// Codes the positions and answers the length, or the index of a step outside the table.
-fn put_positions(positions: &[u64], out: &mut [u8]) -> Result<usize, usize> {
+/// Codes the positions in a form and answers the length, or the index of a step outside its table.
+fn put_positions<const FORM: u32>(positions: &[u64], out: &mut [u8]) -> Result<usize, usize> {
     let mut bits = Bits {
         out,
         at: 0,
@@ -149,7 +151,12 @@ fn put_positions(positions: &[u64], out: &mut [u8]) -> Result<usize, usize> {
             -63..=64 => bits.lay(0b10 << 7 | low(7), 9),
             -255..=256 => bits.lay(0b110 << 9 | low(9), 12),
             -2047..=2048 => bits.lay(0b1110 << 12 | low(12), 16),
+            _ if STEPS.contains(&step) && FORM == WIDE => bits.lay(0b11110 << 32 | low(32), 37),
             _ if STEPS.contains(&step) => bits.lay(0b1111 << 32 | low(32), 36),
+            _ if FORM == WIDE => {
+                bits.lay(0b11111 << 32 | step as u64 >> 32, 37);
+                bits.lay(low(32), 32);
+            }
             _ => return Err(n + 2),
         }
     }
@@ -159,8 +166,8 @@ fn put_positions(positions: &[u64], out: &mut [u8]) -> Result<usize, usize> {
     Ok(bits.at)
 }
 
-/// Decodes positions into a slice of their count, or nothing where the body is no coding.
-fn take_positions(body: &[u8], positions: &mut [u64]) -> Option<()> {
+/// Decodes positions of a form into a slice of their count, or nothing where the body is no coding.
+fn take_positions<const FORM: u32>(body: &[u8], positions: &mut [u64]) -> Option<()> {
     let raw = positions.len().min(2);
     let (first, rest) = body.split_at_checked(8 * raw)?;
     for (position, bytes) in positions.iter_mut().zip(first.chunks(8)) {
@@ -172,34 +179,58 @@ fn take_positions(body: &[u8], positions: &mut [u64]) -> Option<()> {
     // Bits not yet taken stand at the top of `held`, with zeros below them.
     let mut bytes = rest.iter();
     let (mut held, mut width) = (0_u64, 0);
-    for n in 2..positions.len() {
-        while width <= 56 {
+    let mut fill = |held: &mut u64, width: &mut u32| {
+        while *width <= 56 {
             let Some(&byte) = bytes.next() else { break };
-            held |= u64::from(byte) << (56 - width);
-            width += 8;
+            *held |= u64::from(byte) << (56 - *width);
+            *width += 8;
         }
-        let ones = (!held).leading_zeros().min(4);
-        let (prefix, after) = [(1, 0), (2, 7), (3, 9), (4, 12), (4, 32)][ones as usize];
-        if width < prefix + after {
-            return None;
-        }
+    };
+    let most = if FORM == WIDE { 5 } else { 4 };
+    for n in 2..positions.len() {
+        fill(&mut held, &mut width);
+        let ones = (!held).leading_zeros().min(most);
         let mut step = 0;
-        if ones > 0 {
-            let low = (held << prefix >> (64 - after)) as i64;
-            step = if low > 1 << (after - 1) {
-                low - (1 << after)
-            } else {
-                low
-            };
-            let held_before = [0..=0, 0..=0, -63..=64, -255..=256, -2047..=2048];
-            if held_before[ones as usize].contains(&step) {
+        if ones == 5 {
+            // The 64 bits in two halves, since fewer than 69 are held.
+            if width < 5 + 32 {
                 return None;
             }
+            let high = held << 5 >> 32;
+            held <<= 5 + 32;
+            width -= 5 + 32;
+            fill(&mut held, &mut width);
+            if width < 32 {
+                return None;
+            }
+            step = (high << 32 | held >> 32) as i64;
+            held <<= 32;
+            width -= 32;
+            if STEPS.contains(&step) {
+                return None;
+            }
+        } else {
+            let (prefix, after) = [(1, 0), (2, 7), (3, 9), (4, 12), (most, 32)][ones as usize];
+            if width < prefix + after {
+                return None;
+            }
+            if ones > 0 {
+                let low = (held << prefix >> (64 - after)) as i64;
+                step = if low > 1 << (after - 1) {
+                    low - (1 << after)
+                } else {
+                    low
+                };
+                let held_before = [0..=0, 0..=0, -63..=64, -255..=256, -2047..=2048];
+                if held_before[ones as usize].contains(&step) {
+                    return None;
+                }
+            }
+            held <<= prefix + after;
+            width -= prefix + after;
         }
-        held <<= prefix + after;
-        width -= prefix + after;
         let last = positions[n - 1] as i64;
-        let difference = (last - positions[n - 2] as i64) + step;
+        let difference = (last - positions[n - 2] as i64).checked_add(step)?;
         if difference < -last || difference > LAST_POSITION as i64 - last {
             return None;
         }
@@ -210,7 +241,7 @@ fn take_positions(body: &[u8], positions: &mut [u64]) -> Option<()> {
 
 // Records
 
-fn try_write(
+fn try_write<const FORM: u32>(
     rate: u32,
     side: u32,
     positions: &[u64],
@@ -226,7 +257,12 @@ fn try_write(
     if positions.len() != ratios.len() {
         return Err((2, 0));
     }
-    if positions.len() > MOST_POINTS {
+    let most = if FORM == WIDE {
+        WIDE_POINTS
+    } else {
+        MOST_POINTS
+    };
+    if positions.len() > most {
         return Err((3, 0));
     }
     if let Some(index) = positions.iter().position(|&t| t > LAST_POSITION) {
@@ -234,7 +270,7 @@ fn try_write(
     }
     let count_at = if side == 0 { 7 } else { 11 };
     let (head, rest) = out.split_at_mut(out.len().min(count_at + 8));
-    let length = put_positions(positions, rest).map_err(|index| (5, index))?;
+    let length = put_positions::<FORM>(positions, rest).map_err(|index| (5, index))?;
     if rest.len() < length + 3 {
         return Err((6, 0));
     }
@@ -246,7 +282,7 @@ fn try_write(
     }
     head[..3].copy_from_slice(&[2, 0, 2]);
     head[3..5].copy_from_slice(&(positions.len() as u16).to_be_bytes());
-    head[5] = 3;
+    head[5] = FORM as u8;
     head[6..].copy_from_slice(&(length as u16).to_be_bytes());
     let (head, body) = rest[length..].split_at_mut(3);
     let mut at = 0;
@@ -260,13 +296,33 @@ fn try_write(
 }
 
 #[inline(never)]
-pub fn write(rate: u32, side: u32, positions: &[u64], ratios: &[u64], out: &mut [u8]) -> Written {
-    match try_write(rate, side, positions, ratios, out) {
+fn write_in<const FORM: u32>(
+    rate: u32,
+    side: u32,
+    positions: &[u64],
+    ratios: &[u64],
+    out: &mut [u8],
+) -> Written {
+    match try_write::<FORM>(rate, side, positions, ratios, out) {
         Ok(length) => written(0, 0, length),
         Err((number, place)) => {
             out.fill(0);
             written(number, place, 0)
         }
+    }
+}
+
+pub fn write(
+    rate: u32,
+    side: u32,
+    form: u32,
+    positions: &[u64],
+    ratios: &[u64],
+    out: &mut [u8],
+) -> Written {
+    match form {
+        WIDE => write_in::<WIDE>(rate, side, positions, ratios, out),
+        _ => write_in::<OLD>(rate, side, positions, ratios, out),
     }
 }
 
@@ -294,7 +350,7 @@ fn body(record: &[u8], at: usize, tag: u8, length: Option<usize>) -> Result<&[u8
 }
 
 #[inline(always)]
-fn try_read(
+fn try_read<const FORM: u32>(
     expected: u32,
     record: &[u8],
     positions: &mut [u64],
@@ -325,8 +381,11 @@ fn try_read(
         return Err((16, count_at));
     }
     let field = count_at + 5;
-    let coded = body(record, field, 3, None)?;
-    take_positions(coded, &mut positions[..count]).ok_or((17, field))?;
+    if FORM == WIDE && count > WIDE_POINTS && record.len() >= field + 3 {
+        return Err((15, count_at));
+    }
+    let coded = body(record, field, FORM as u8, None)?;
+    take_positions::<FORM>(coded, &mut positions[..count]).ok_or((17, field))?;
     let field = field + 3 + coded.len();
     let coded = body(record, field, 4, None)?;
     let mut at = 0;
@@ -342,21 +401,20 @@ fn try_read(
     Ok((rate, side, count, field + 3 + at))
 }
 
-#[inline(always)]
-fn read(
+#[inline(never)]
+fn read_in<const FORM: u32, const STRICT: bool>(
     expected: u32,
     record: &[u8],
     positions: &mut [u64],
     ratios: &mut [u64],
-    strict: bool,
 ) -> Reading {
-    let (number, place, rate, side, count, used) =
-        match try_read(expected, record, positions, ratios, strict) {
-            Ok((rate, side, count, used)) => (0, 0, rate, side, count, used),
+    let (number, place, rate, side, count, form, used) =
+        match try_read::<FORM>(expected, record, positions, ratios, STRICT) {
+            Ok((rate, side, count, used)) => (0, 0, rate, side, count, FORM, used),
             Err((number, place)) => {
                 positions.fill(0);
                 ratios.fill(0);
-                (number, place, 0, 0, 0, 0)
+                (number, place, 0, 0, 0, 0, 0)
             }
         };
     Reading {
@@ -365,7 +423,23 @@ fn read(
         rate,
         side: u32::from(side),
         count: count as u32,
+        form,
         used: used as u64,
+    }
+}
+
+/// Reads in the form of the tag that stands where a record has that of its positions' field.
+fn read<const STRICT: bool>(
+    expected: u32,
+    record: &[u8],
+    positions: &mut [u64],
+    ratios: &mut [u64],
+) -> Reading {
+    let field = if record.get(7) == Some(&6) { 16 } else { 12 };
+    if record.get(field) == Some(&(WIDE as u8)) {
+        read_in::<WIDE, STRICT>(expected, record, positions, ratios)
+    } else {
+        read_in::<OLD, STRICT>(expected, record, positions, ratios)
     }
 }
 
@@ -376,7 +450,7 @@ pub fn read_strict(
     positions: &mut [u64],
     ratios: &mut [u64],
 ) -> Reading {
-    read(expected, record, positions, ratios, true)
+    read::<true>(expected, record, positions, ratios)
 }
 
 #[inline(never)]
@@ -386,7 +460,7 @@ pub fn read_open(
     positions: &mut [u64],
     ratios: &mut [u64],
 ) -> Reading {
-    read(expected, record, positions, ratios, false)
+    read::<false>(expected, record, positions, ratios)
 }
 
 // Live coding

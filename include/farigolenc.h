@@ -4,9 +4,16 @@
  * positions (0 to 2^62 - 1) and as many ratios, at most 4096 of each. A ratio is
  * the 64 bits of an IEEE 754 double; all calls work on the bits, so that 0 and -0
  * differ and every not-a-number is kept. Rates are 44100, 48000, 88200, 96000,
- * 176400 and 192000. A record that is written has 18 to 55325 bytes. Its fields
+ * 176400 and 192000. A record that is written has 18 to 61709 bytes. Its fields
  * are the rate's, where the side is not 0 the side's, the count's, the positions'
  * and the ratios'.
+ *
+ * A record has one of two forms, which the tag of its positions' field tells. The
+ * old form, tag 3, has no code for a step outside -2^31 + 1 to 2^31, such as a
+ * long pause makes; its records have at most 55325 bytes. The wide form, tag 5,
+ * has a code for each step between positions, and takes at most 3500 points. A run
+ * that both forms take has a record in each. Calls that are given neither a form
+ * nor a record know of no form, and their limit is 4096.
  *
  * Answers begin with a number, 0 for success or the number of a refusal, and a
  * place, 0 on success:
@@ -14,9 +21,9 @@
  *   no.  given when                                            place
  *    1   rate not in the list                                  0
  *    2   as many ratios as positions are not given             0
- *    3   more than 4096 points                                 0
+ *    3   more than 4096 points, or 3500 in the wide form       0
  *    4   a position above 2^62 - 1                             first such index
- *    5   a step outside -2^31 + 1 to 2^31                      first such index
+ *    5   old form: a step outside -2^31 + 1 to 2^31            first such index
  *    6   output shorter than what would be written             0
  *    7   a kept state is bad                                   0
  *    8   stepping: all given, body used up                     0
@@ -25,7 +32,7 @@
  *   12   a rate not 4 long, a count not 2, or a side not 1     field
  *   13   rate in the record not in the list                    field
  *   14   a rate was expected (not 0) and differs               field
- *   15   count above 4096                                      field, or 0 in
+ *   15   count above 4096, or 3500 in the wide form            field, or 0 in
  *                                                              making a reader
  *   16   an output has room for fewer than count numbers       field
  *   17   the positions' field is not the coding of count       field
@@ -38,7 +45,7 @@
  *
  * Indices count from 0; the step at index n is
  * (t[n] - t[n-1]) - (t[n-1] - t[n-2]). "Field" is the offset of the field's tag
- * in the record.
+ * in the record; for 15 it is always that of the count's field.
  *
  * On success an output keeps what it held past the part that was written. On a
  * refusal every other returned number is 0, a kept state is unchanged, and all
@@ -63,7 +70,7 @@
  * back to 0, when something that stands here changes or goes, so that a program
  * must be looked at and compiled again; the minor grows by one when something is
  * added. Records have no version. */
-#define FARIGOLENC_VERSION_MAJOR 2
+#define FARIGOLENC_VERSION_MAJOR 3
 #define FARIGOLENC_VERSION_MINOR 0
 
 #include <stddef.h>
@@ -73,24 +80,31 @@
 extern "C" {
 #endif
 
-/* Largest side, and largest number of points, ratios in a window, bytes in a
- * record that farigolenc_write writes, and bytes that farigolenc_live_add
- * writes. */
+/* Largest side, and largest number of points, points in the wide form, ratios in a
+ * window, bytes in a record that farigolenc_write writes, and bytes that
+ * farigolenc_live_add writes. */
 #define FARIGOLENC_SIDES 26
 #define FARIGOLENC_POINTS 4096
+#define FARIGOLENC_WIDE_POINTS 3500
 #define FARIGOLENC_WINDOW 127
-#define FARIGOLENC_RECORD 55325
+#define FARIGOLENC_RECORD 61709
 #define FARIGOLENC_RATIO_FORM 9
 
-/* Writes the record of a run; with side 0 it has no field for the side. Tests 1,
- * 21, then 2 to 6 in order. */
+/* The forms of a record, by the tag of the positions' field. */
+#define FARIGOLENC_OLD 3
+#define FARIGOLENC_WIDE 5
+
+/* Writes the record of a run; with side 0 it has no field for the side. A `form`
+ * of FARIGOLENC_WIDE is the wide form, and every other number is the old one, so
+ * that what a reading gave can be handed back. Tests 1, 21, then 2 to 6 in order:
+ * 3 with the limit of the form, and 5 in the old form alone. */
 typedef struct {
     uint32_t number, place;
     uint64_t length; /* bytes written */
 } farigolenc_write_answer;
 
 farigolenc_write_answer farigolenc_write(
-    uint32_t rate, uint32_t side,
+    uint32_t rate, uint32_t side, uint32_t form,
     const uint64_t *positions, size_t positions_length,
     const uint64_t *ratios, size_t ratios_length,
     uint8_t *out, size_t out_length);
@@ -98,14 +112,19 @@ farigolenc_write_answer farigolenc_write(
 /* Reads the record at the start of `record`; bytes after it are not looked at.
  * `expected` is the rate that the record must have, or 0 for any. Strict
  * reading accepts only what farigolenc_write writes; open reading accepts any
- * open form in the ratios' field. Takes the fields in order, and in each tests
- * 10 (head), 11, 12, 10 (body), then its contents: 13 and 14 of the rate, 20 of
- * the side, 15 and 16 of the count, 17 of the positions, 18 of the ratios. */
+ * open form in the ratios' field. Both take records of both forms. Takes the
+ * fields in order, and in each tests 10 (head), 11, 12, 10 (body), then its
+ * contents: 13 and 14 of the rate, 20 of the side, 15 (above 4096) and 16 of the
+ * count, 17 of the positions, 18 of the ratios. In the wide form 15 is tested once
+ * more, with 3500, straight after 11 of the positions' field and before its body:
+ * a wide record that states 3501 to 4096 points is refused by 16 where an output
+ * is too short for them, and else by 15. */
 typedef struct {
     uint32_t number, place;
     uint32_t rate;
     uint32_t side; /* 0 where the record has no field for it */
     uint32_t count;
+    uint32_t form; /* FARIGOLENC_OLD or FARIGOLENC_WIDE; 0 on a refusal */
     uint64_t used; /* bytes of the record */
 } farigolenc_read_answer;
 

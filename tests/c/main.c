@@ -1,6 +1,6 @@
-/* Calls every function of farigolenc.h from C99: writes a run, reads it, adds its
- * ratios live, steps through them, explains each, and tries sides, kinds, spans,
- * reasons and refusals.
+/* Calls every function of farigolenc.h from C99: writes a run in both forms, reads
+ * it, adds its ratios live, steps through them, explains each, and tries sides,
+ * forms, kinds, spans, reasons and refusals.
  * Prints "ok" and returns 0, or says what differs and returns 1. */
 
 #include "farigolenc.h"
@@ -12,6 +12,7 @@
 #define SIDE 3
 #define ROOM (POINTS + 5)
 #define DIRT 0xA5
+#define LAST_POSITION ((UINT64_C(1) << 62) - 1)
 
 /* The states have no padding. */
 typedef char live_is_packed[sizeof(farigolenc_live) == 129 * 8 ? 1 : -1];
@@ -21,6 +22,7 @@ typedef char cursor_is_packed[sizeof(farigolenc_cursor) == 131 * 8 ? 1 : -1];
 typedef char rate_is_third[offsetof(farigolenc_read_answer, rate) == 8 ? 1 : -1];
 typedef char side_is_fourth[offsetof(farigolenc_read_answer, side) == 12 ? 1 : -1];
 typedef char count_is_fifth[offsetof(farigolenc_read_answer, count) == 16 ? 1 : -1];
+typedef char form_is_sixth[offsetof(farigolenc_read_answer, form) == 20 ? 1 : -1];
 typedef char used_is_last[offsetof(farigolenc_read_answer, used) == 24 ? 1 : -1];
 typedef char reading_is_32_bytes[sizeof(farigolenc_read_answer) == 32 ? 1 : -1];
 
@@ -45,6 +47,16 @@ static int all_are(const void *memory, size_t length, int byte)
     }
     return 1;
 }
+
+static const uint32_t forms[2] = {FARIGOLENC_OLD, FARIGOLENC_WIDE};
+
+/* Numbers that are no form's, with which the old form is written. */
+static const uint32_t other_forms[] = {0, 1, 2, 4, 6, 7, 256 + 5, 65536 + 5, UINT32_MAX};
+
+typedef farigolenc_read_answer reading(uint32_t, const uint8_t *, size_t, uint64_t *, size_t,
+                                       uint64_t *, size_t);
+
+static reading *const readings[2] = {farigolenc_read_strict, farigolenc_read_open};
 
 static uint64_t bits_of(double value)
 {
@@ -74,14 +86,14 @@ static void check_example(void)
     memset(out, DIRT, sizeof out);
     memset(read_positions, DIRT, sizeof read_positions);
     memset(read_ratios, DIRT, sizeof read_ratios);
-    written = farigolenc_write(96000, 0, positions, 3, ratios, 3, out, sizeof out);
+    written = farigolenc_write(96000, 0, FARIGOLENC_OLD, positions, 3, ratios, 3, out, sizeof out);
     check(written.number == 0 && written.place == 0 && written.length == 46, "example, written");
     check(memcmp(out, example, 46) == 0, "example, bytes");
     check(all_are(out + 46, 4, DIRT), "example, bytes past the record");
 
     read = farigolenc_read_strict(0, example, 46, read_positions, 3, read_ratios, 3);
     check(read.number == 0 && read.place == 0 && read.rate == 96000 && read.side == 0 &&
-              read.count == 3 && read.used == 46,
+              read.count == 3 && read.form == FARIGOLENC_OLD && read.used == 46,
           "example, read");
     check(memcmp(read_positions, positions, sizeof positions) == 0, "example, positions");
     check(read_ratios[0] == half && read_ratios[1] == half && read_ratios[2] == half,
@@ -91,8 +103,9 @@ static void check_example(void)
     check(span.number == 0 && span.place == 0 && span.milliseconds == 20, "example, span");
 }
 
-/* A run with references, xor forms and exceptions, and steps of several rows. */
-static void make_run(uint64_t *positions, uint64_t *ratios)
+/* A run with references, xor forms and exceptions, and steps of several rows, in the wide form
+ * also of its last. */
+static void make_run(uint32_t form, uint64_t *positions, uint64_t *ratios)
 {
     uint64_t noise = 88172645463325252u, position = 1000;
     size_t i;
@@ -101,6 +114,7 @@ static void make_run(uint64_t *positions, uint64_t *ratios)
         noise ^= noise >> 7;
         noise ^= noise << 17;
         position += 480 + (i % 3 == 0 ? noise % 4000 : 0);
+        position += form == FARIGOLENC_WIDE && i % 20 == 7 ? noise >> 16 : 0;
         positions[i] = position;
         switch (i % 4) {
         case 0:
@@ -118,12 +132,12 @@ static void make_run(uint64_t *positions, uint64_t *ratios)
     }
 }
 
-static void check_reading(const char *which, farigolenc_read_answer read, uint64_t length,
-                          const uint64_t *positions, const uint64_t *ratios,
+static void check_reading(const char *which, farigolenc_read_answer read, uint32_t form,
+                          uint64_t length, const uint64_t *positions, const uint64_t *ratios,
                           const uint64_t *read_positions, const uint64_t *read_ratios)
 {
     check(read.number == 0 && read.place == 0 && read.rate == 48000 && read.side == SIDE &&
-              read.count == POINTS && read.used == length,
+              read.count == POINTS && read.form == form && read.used == length,
           which);
     check(memcmp(read_positions, positions, POINTS * 8) == 0, "positions that were read");
     check(memcmp(read_ratios, ratios, POINTS * 8) == 0, "ratios that were read");
@@ -152,7 +166,7 @@ static void check_form(farigolenc_explain_answer why, const uint8_t *form, uint6
     }
 }
 
-static void check_run(void)
+static void check_run(uint32_t form)
 {
     static uint64_t positions[POINTS], ratios[POINTS];
     static uint64_t read_positions[ROOM], read_ratios[ROOM];
@@ -165,8 +179,8 @@ static void check_run(void)
     const uint8_t *body;
     size_t field, length, total = 0, i;
 
-    make_run(positions, ratios);
-    written = farigolenc_write(48000, SIDE, positions, POINTS, ratios, POINTS, record,
+    make_run(form, positions, ratios);
+    written = farigolenc_write(48000, SIDE, form, positions, POINTS, ratios, POINTS, record,
                                sizeof record);
     check(written.number == 0 && written.place == 0 && written.length > 22, "run, written");
     if (written.number != 0) {
@@ -178,13 +192,13 @@ static void check_run(void)
     check_reading("strict reading",
                   farigolenc_read_strict(48000, record, sizeof record, read_positions, ROOM,
                                          read_ratios, ROOM),
-                  written.length, positions, ratios, read_positions, read_ratios);
+                  form, written.length, positions, ratios, read_positions, read_ratios);
     memset(read_positions, DIRT, sizeof read_positions);
     memset(read_ratios, DIRT, sizeof read_ratios);
     check_reading("open reading",
                   farigolenc_read_open(0, record, (size_t)written.length, read_positions, ROOM,
                                        read_ratios, ROOM),
-                  written.length, positions, ratios, read_positions, read_ratios);
+                  form, written.length, positions, ratios, read_positions, read_ratios);
 
     /* The ratios' field stands after those of rate, side and count (16 bytes) and of the
      * positions. */
@@ -236,8 +250,6 @@ static void put_side(uint8_t *record, uint8_t side)
 
 static void check_sides(void)
 {
-    static uint64_t positions[FARIGOLENC_POINTS], ratios[FARIGOLENC_POINTS];
-    static uint8_t largest[FARIGOLENC_RECORD];
     const uint64_t points[3] = {0, 960, 1920};
     const uint64_t half = UINT64_C(0x3FE0000000000000);
     const uint64_t halves[3] = {UINT64_C(0x3FE0000000000000), UINT64_C(0x3FE0000000000000),
@@ -247,21 +259,20 @@ static void check_sides(void)
     farigolenc_write_answer written;
     farigolenc_read_answer read;
     uint32_t side;
-    size_t i;
     int open;
 
     for (side = 1; side <= FARIGOLENC_SIDES; side++) {
         put_side(sided, (uint8_t)side);
         memset(out, DIRT, sizeof out);
-        written = farigolenc_write(96000, side, points, 3, halves, 3, out, sizeof out);
+        written = farigolenc_write(96000, side, FARIGOLENC_OLD, points, 3, halves, 3, out,
+                                   sizeof out);
         check(written.number == 0 && written.place == 0 && written.length == 50, "side, written");
         check(memcmp(out, sided, 50) == 0, "side, bytes");
         check(all_are(out + 50, 2, DIRT), "side, bytes past the record");
         for (open = 0; open < 2; open++) {
             memset(read_positions, DIRT, sizeof read_positions);
             memset(read_ratios, DIRT, sizeof read_ratios);
-            read = (open ? farigolenc_read_open : farigolenc_read_strict)(
-                96000, out, sizeof out, read_positions, 4, read_ratios, 4);
+            read = readings[open](96000, out, sizeof out, read_positions, 4, read_ratios, 4);
             check(read.number == 0 && read.place == 0 && read.rate == 96000, "side, read");
             check(read.side == side && read.count == 3 && read.used == 50, "side, numbers read");
             check(memcmp(read_positions, points, sizeof points) == 0, "side, positions");
@@ -271,23 +282,30 @@ static void check_sides(void)
                   "side, outputs past the run");
         }
     }
+}
 
-    /* The largest records: every step takes 36 bits and every ratio nine bytes. */
-    for (i = 0; i < FARIGOLENC_POINTS; i++) {
-        positions[i] = i % 2 * 5000;
+/* The largest record of each form, without a side and with one: every step takes 36 bits, in the
+ * wide form 69, and every ratio nine bytes. */
+static void check_largest(uint32_t form, size_t points, uint64_t far, size_t length)
+{
+    static uint64_t positions[FARIGOLENC_POINTS], ratios[FARIGOLENC_POINTS];
+    static uint8_t largest[FARIGOLENC_RECORD];
+    farigolenc_write_answer written;
+    size_t i;
+
+    for (i = 0; i < points; i++) {
+        positions[i] = i % 2 * far;
         ratios[i] = i % 128 * ((UINT64_C(1) << 56) + 1);
     }
-    written = farigolenc_write(44100, FARIGOLENC_SIDES, positions, FARIGOLENC_POINTS, ratios,
-                               FARIGOLENC_POINTS, largest, sizeof largest);
-    check(written.number == 0 && written.length == FARIGOLENC_RECORD, "largest record");
-    written = farigolenc_write(44100, FARIGOLENC_SIDES, positions, FARIGOLENC_POINTS, ratios,
-                               FARIGOLENC_POINTS, largest, sizeof largest - 1);
+    written = farigolenc_write(44100, FARIGOLENC_SIDES, form, positions, points, ratios, points,
+                               largest, length);
+    check(written.number == 0 && written.length == length, "largest record");
+    written = farigolenc_write(44100, FARIGOLENC_SIDES, form, positions, points, ratios, points,
+                               largest, length - 1);
     check(written.number == 6 && written.length == 0, "largest record, a byte too few");
-    check(all_are(largest, sizeof largest - 1, 0), "largest record, a byte too few");
-    written = farigolenc_write(44100, 0, positions, FARIGOLENC_POINTS, ratios, FARIGOLENC_POINTS,
-                               largest, sizeof largest);
-    check(written.number == 0 && written.length == FARIGOLENC_RECORD - 4,
-          "largest record without a side");
+    check(all_are(largest, length - 1, 0), "largest record, a byte too few");
+    written = farigolenc_write(44100, 0, form, positions, points, ratios, points, largest, length);
+    check(written.number == 0 && written.length == length - 4, "largest record without a side");
 }
 
 static void check_kind(uint64_t ratio, uint32_t kind, uint32_t negative, uint64_t value,
@@ -393,36 +411,47 @@ static void check_reasons(void)
     refuse_reason(xored, 0, 0, 22, "reason, no ratios");
 }
 
-static void refuse_writing(uint32_t rate, uint32_t side, const uint64_t *positions, size_t points,
-                           size_t ratios, size_t room, uint32_t number, uint32_t place,
-                           const char *what)
+static void refuse_form(uint32_t rate, uint32_t side, uint32_t form, const uint64_t *positions,
+                        size_t points, size_t ratios, size_t room, uint32_t number, uint32_t place,
+                        const char *what)
 {
-    static const uint64_t values[3] = {1, 2, 3};
+    static const uint64_t values[FARIGOLENC_POINTS + 1] = {1, 2, 3};
     uint8_t out[200];
     farigolenc_write_answer written;
 
     memset(out, DIRT, sizeof out);
-    written = farigolenc_write(rate, side, positions, points, values, ratios, out, room);
+    written = farigolenc_write(rate, side, form, positions, points, values, ratios, out, room);
     check(written.number == number && written.place == place && written.length == 0, what);
     check(all_are(out, room, 0) && all_are(out + room, sizeof out - room, DIRT), what);
+}
+
+/* A run that is refused alike in both forms. */
+static void refuse_writing(uint32_t rate, uint32_t side, const uint64_t *positions, size_t points,
+                           size_t ratios, size_t room, uint32_t number, uint32_t place,
+                           const char *what)
+{
+    int i;
+    for (i = 0; i < 2; i++) {
+        refuse_form(rate, side, forms[i], positions, points, ratios, room, number, place, what);
+    }
 }
 
 static void refuse_reading(uint32_t expected, const uint8_t *record, size_t length, size_t room,
                            uint32_t number, uint32_t place, const char *what)
 {
-    uint64_t positions[8], ratios[8];
+    static uint64_t positions[FARIGOLENC_POINTS], ratios[FARIGOLENC_POINTS];
     farigolenc_read_answer read;
     int open;
 
     for (open = 0; open < 2; open++) {
         memset(positions, DIRT, sizeof positions);
         memset(ratios, DIRT, sizeof ratios);
-        read = (open ? farigolenc_read_open : farigolenc_read_strict)(
-            expected, record, length, positions, room, ratios, 8);
+        read = readings[open](expected, record, length, positions, room, ratios, FARIGOLENC_POINTS);
         check(read.number == number && read.place == place, what);
-        check(read.rate == 0 && read.side == 0 && read.count == 0 && read.used == 0, what);
+        check(read.rate == 0 && read.side == 0 && read.count == 0, what);
+        check(read.form == 0 && read.used == 0, what);
         check(all_are(positions, room * 8, 0) && all_are(ratios, sizeof ratios, 0), what);
-        check(all_are(positions + room, (8 - room) * 8, DIRT), what);
+        check(all_are(positions + room, (FARIGOLENC_POINTS - room) * 8, DIRT), what);
     }
 }
 
@@ -518,7 +547,7 @@ static void check_refusals(void)
     refuse_writing(0, 0, sound, 3, 3, 200, 1, 0, "writing, unlisted rate");
     refuse_writing(48000, 0, sound, 3, 2, 200, 2, 0, "writing, a ratio missing");
     refuse_writing(48000, 0, above, 3, 3, 200, 4, 2, "writing, large position");
-    refuse_writing(48000, 0, far, 3, 3, 200, 5, 2, "writing, large step");
+    refuse_form(48000, 0, FARIGOLENC_OLD, far, 3, 3, 200, 5, 2, "writing, large step");
     refuse_writing(48000, 0, sound, 3, 3, 40, 6, 0, "writing, short output");
     refuse_writing(48000, 0, sound, 3, 3, 0, 6, 0, "writing, no output");
 
@@ -574,11 +603,274 @@ static void check_refusals(void)
     check(all_are(&making.cursor, sizeof making.cursor, 0), "making, count too large");
 }
 
+static void put_position(uint8_t *bytes, uint64_t position)
+{
+    int i;
+    for (i = 0; i < 8; i++) {
+        bytes[i] = (uint8_t)(position >> (56 - 8 * i));
+    }
+}
+
+/* The example's rate and ratios with other positions, in the wide form: two, and the code of the
+ * step at the third. Returns the record's length. */
+static size_t put_wide(uint8_t *record, uint64_t first, uint64_t second, const uint8_t *code,
+                       size_t size)
+{
+    memcpy(record, example, 12);
+    record[12] = FARIGOLENC_WIDE;
+    record[13] = 0;
+    record[14] = (uint8_t)(16 + size);
+    put_position(record + 15, first);
+    put_position(record + 23, second);
+    memcpy(record + 31, code, size);
+    memcpy(record + 31 + size, example + 32, 14);
+    return 45 + size;
+}
+
+/* Three positions are written with this code, read, and written again in the form that was read. */
+static void check_step(uint64_t first, uint64_t second, uint64_t third, const uint8_t *code,
+                       size_t size, const char *what)
+{
+    const uint64_t half = UINT64_C(0x3FE0000000000000);
+    uint64_t positions[3], ratios[3], read_positions[3], read_ratios[3];
+    uint8_t record[60], out[60];
+    size_t length = put_wide(record, first, second, code, size);
+    farigolenc_write_answer written;
+    farigolenc_read_answer read;
+    int open;
+
+    positions[0] = first;
+    positions[1] = second;
+    positions[2] = third;
+    ratios[0] = ratios[1] = ratios[2] = half;
+    written = farigolenc_write(96000, 0, FARIGOLENC_WIDE, positions, 3, ratios, 3, out, sizeof out);
+    check(written.number == 0 && written.place == 0 && written.length == length, what);
+    check(memcmp(out, record, length) == 0, what);
+    for (open = 0; open < 2; open++) {
+        read = readings[open](96000, record, length, read_positions, 3, read_ratios, 3);
+        check(read.number == 0 && read.place == 0 && read.rate == 96000 && read.side == 0, what);
+        check(read.count == 3 && read.form == FARIGOLENC_WIDE && read.used == length, what);
+        check(memcmp(read_positions, positions, sizeof positions) == 0, what);
+        check(memcmp(read_ratios, ratios, sizeof ratios) == 0, what);
+        memset(out, DIRT, sizeof out);
+        written = farigolenc_write(read.rate, read.side, read.form, read_positions, read.count,
+                                   read_ratios, read.count, out, sizeof out);
+        check(written.number == 0 && written.length == length, what);
+        check(memcmp(out, record, length) == 0, what);
+    }
+}
+
+static void refuse_step(uint64_t first, uint64_t second, const uint8_t *code, size_t size,
+                        const char *what)
+{
+    uint8_t record[60];
+    size_t length = put_wide(record, first, second, code, size);
+    refuse_reading(0, record, length, 3, 17, 12, what);
+}
+
+/* Codes of the last two rows, 11110 with 32 bits and 11111 with 64, and three fill bits. */
+static void check_steps(void)
+{
+    const uint64_t middle = UINT64_C(1) << 40, top = LAST_POSITION, far = UINT64_C(1) << 31;
+    const uint8_t most[5] = {0xF4, 0, 0, 0, 0};
+    const uint8_t least[5] = {0xF4, 0, 0, 0, 8};
+    const uint8_t above[9] = {0xF8, 0, 0, 0, 4, 0, 0, 0, 8};
+    const uint8_t below[9] = {0xFF, 0xFF, 0xFF, 0xFF, 0xFC, 0, 0, 0, 0};
+    const uint8_t largest[9] = {0xFB, 0xFF, 0xFF, 0xFF, 0xFF, 0xFF, 0xFF, 0xFF, 0xF0};
+    const uint8_t smallest[9] = {0xFC, 0, 0, 0, 0, 0, 0, 0, 0x10};
+    const uint8_t raw_none[9] = {0xF8, 0, 0, 0, 0, 0, 0, 0, 0};
+    const uint8_t raw_most[9] = {0xF8, 0, 0, 0, 4, 0, 0, 0, 0};
+    const uint8_t raw_least[9] = {0xFF, 0xFF, 0xFF, 0xFF, 0xFC, 0, 0, 0, 8};
+    const uint8_t raw_64[9] = {0xF8, 0, 0, 0, 0, 0, 0, 2, 0};
+    const uint8_t last[9] = {0xFC, 0, 0, 0, 0, 0, 0, 0, 0};
+    const uint8_t one_above[9] = {0xFB, 0xFF, 0xFF, 0xFF, 0xFF, 0xFF, 0xFF, 0xFF, 0xF8};
+    const uint8_t one_below[9] = {0xFC, 0, 0, 0, 0, 0, 0, 0, 8};
+    const uint8_t fill[9] = {0xF8, 0, 0, 0, 4, 0, 0, 0, 9};
+    const uint8_t old_most[5] = {0xF8, 0, 0, 0, 0};
+
+    check_step(middle, middle, middle + far, most, 5, "wide, step 2^31");
+    check_step(middle, middle, middle - far + 1, least, 5, "wide, step -2^31 + 1");
+    check_step(middle, middle, middle + far + 1, above, 9, "wide, step 2^31 + 1");
+    check_step(middle, middle, middle - far, below, 9, "wide, step -2^31");
+    check_step(top, 0, top, largest, 9, "wide, step 2^63 - 2");
+    check_step(0, top, 0, smallest, 9, "wide, step -(2^63 - 2)");
+
+    refuse_step(middle, middle, raw_none, 9, "reading, step 0 in 64 bits");
+    refuse_step(middle, middle, raw_64, 9, "reading, step 64 in 64 bits");
+    refuse_step(middle, middle, raw_most, 9, "reading, step 2^31 in 64 bits");
+    refuse_step(middle, middle, raw_least, 9, "reading, step -2^31 + 1 in 64 bits");
+    refuse_step(middle, middle, last, 9, "reading, step -2^63");
+    refuse_step(0, top, last, 9, "reading, step -2^63 from the last position");
+    refuse_step(0, top, largest, 9, "reading, a position above 64 bits");
+    refuse_step(top, top, above, 9, "reading, a position far above the last");
+    refuse_step(0, 0, below, 9, "reading, a position far below 0");
+    refuse_step(top, 0, one_above, 9, "reading, the position 2^62");
+    refuse_step(0, top, one_below, 9, "reading, the position -1");
+    refuse_step(middle, middle, fill, 9, "reading, a fill bit behind 64 bits");
+    refuse_step(middle, middle, above, 8, "reading, 64 bits cut");
+    refuse_step(middle, middle, old_most, 5, "reading, the old code of 2^31");
+}
+
+static void check_forms(void)
+{
+    const uint64_t points[3] = {0, 960, 1920};
+    const uint64_t far[3] = {0, 0, (UINT64_C(1) << 31) + 1};
+    const uint64_t halves[3] = {UINT64_C(0x3FE0000000000000), UINT64_C(0x3FE0000000000000),
+                                UINT64_C(0x3FE0000000000000)};
+    uint8_t record[46], out[46];
+    uint64_t positions[3], ratios[3];
+    farigolenc_write_answer written;
+    farigolenc_read_answer read;
+    size_t i;
+
+    /* The steps of the example have the same codes in both forms. */
+    memcpy(record, example, 46);
+    record[12] = FARIGOLENC_WIDE;
+    written = farigolenc_write(96000, 0, FARIGOLENC_WIDE, points, 3, halves, 3, out, 46);
+    check(written.number == 0 && written.length == 46, "wide example, written");
+    check(memcmp(out, record, 46) == 0, "wide example, bytes");
+    read = farigolenc_read_strict(0, record, 46, positions, 3, ratios, 3);
+    check(read.number == 0 && read.form == FARIGOLENC_WIDE && read.used == 46, "wide example");
+    check(memcmp(positions, points, sizeof points) == 0, "wide example, positions");
+
+    for (i = 0; i < sizeof other_forms / sizeof other_forms[0]; i++) {
+        memset(out, DIRT, sizeof out);
+        written = farigolenc_write(96000, 0, other_forms[i], points, 3, halves, 3, out, 46);
+        check(written.number == 0 && written.length == 46, "another number for the old form");
+        check(memcmp(out, example, 46) == 0, "another number for the old form, bytes");
+        refuse_form(96000, 0, other_forms[i], far, 3, 3, 200, 5, 2,
+                    "another number for the old form, large step");
+    }
+    for (i = 0; i < 256; i++) {
+        if (i != FARIGOLENC_OLD && i != FARIGOLENC_WIDE) {
+            record[12] = (uint8_t)i;
+            refuse_reading(0, record, 46, 8, 11, 12, "reading, no form's tag");
+        }
+    }
+}
+
+/* A count around the limits, in a record of which all positions are 0 and all ratios the same; the
+ * forms have the same code for it. */
+static void check_limit(uint32_t side, uint32_t points)
+{
+    static uint64_t zeros[FARIGOLENC_POINTS], positions[FARIGOLENC_POINTS];
+    static uint64_t ratios[FARIGOLENC_POINTS];
+    static uint8_t record[FARIGOLENC_RECORD];
+    const uint32_t count_at = side == 0 ? 7 : 11, at = count_at + 5;
+    const size_t most = FARIGOLENC_POINTS, cut = at + 100;
+    const int too_many = points > FARIGOLENC_WIDE_POINTS;
+    farigolenc_write_answer written;
+    farigolenc_read_answer read;
+    size_t length, i;
+    int form, open;
+
+    written = farigolenc_write(48000, side, FARIGOLENC_OLD, zeros, points, zeros, points, record,
+                               sizeof record);
+    check(written.number == 0, "limit, written in the old form");
+    length = (size_t)written.length;
+    if (too_many) {
+        refuse_form(48000, side, FARIGOLENC_WIDE, zeros, points, points, 200, 3, 0,
+                    "writing, too many for the wide form");
+    } else {
+        written = farigolenc_write(48000, side, FARIGOLENC_WIDE, zeros, points, zeros, points,
+                                   record, sizeof record);
+        check(written.number == 0 && written.length == length, "limit, written in the wide form");
+    }
+
+    for (form = 0; form < 2; form++) {
+        record[at] = (uint8_t)forms[form];
+        refuse_reading(0, record, length, points - 1, 16, count_at, "limit, short output");
+        for (i = 0; i < 3; i++) {
+            refuse_reading(0, record, at + i, most, 10, at, "limit, head cut");
+        }
+        if (forms[form] == FARIGOLENC_WIDE && too_many) {
+            refuse_reading(0, record, length, most, 15, count_at, "limit, wide");
+            refuse_reading(0, record, at + 3, most, 15, count_at, "limit, wide, no body");
+            refuse_reading(0, record, cut, most, 15, count_at, "limit, wide, body cut");
+            record[cut] = 1;
+            refuse_reading(0, record, length, most, 15, count_at, "limit, wide, no coding");
+            record[cut] = 0;
+            continue;
+        }
+        refuse_reading(0, record, cut, most, 10, at, "limit, body cut");
+        record[at + 3] = 0xFF;
+        refuse_reading(0, record, length, most, 17, at, "limit, no coding");
+        record[at + 3] = 0;
+        for (open = 0; open < 2; open++) {
+            read = readings[open](0, record, length, positions, most, ratios, most);
+            check(read.number == 0 && read.place == 0 && read.count == points, "limit, read");
+            check(read.form == forms[form] && read.used == length, "limit, read in its form");
+        }
+    }
+    record[at] = 9;
+    refuse_reading(0, record, length, most, 11, at, "limit, no form's tag");
+    for (form = 0; form < 2; form++) {
+        record[at] = (uint8_t)forms[form];
+        record[at - 2] = 0x10;
+        record[at - 1] = 1;
+        refuse_reading(0, record, length, most, 15, count_at, "more than any form takes");
+        refuse_reading(0, record, at, most, 15, count_at, "more than any form takes, no positions");
+    }
+}
+
+/* Tests of writing that know the form. */
+static void check_form_refusals(void)
+{
+    static uint64_t many[FARIGOLENC_POINTS + 1];
+    const uint64_t far[3] = {0, 0, LAST_POSITION};
+    const uint64_t wide = FARIGOLENC_WIDE_POINTS + 1;
+
+    refuse_form(48000, 0, FARIGOLENC_OLD, far, 3, 3, 200, 5, 2, "writing, long pause");
+    refuse_form(48000, 0, FARIGOLENC_OLD, far, 3, 3, 0, 5, 2, "writing, long pause, no output");
+    refuse_form(48000, 0, FARIGOLENC_WIDE, far, 3, 3, 0, 6, 0, "writing, wide, no output");
+    refuse_form(48000, 0, FARIGOLENC_WIDE, far, 3, 3, 57, 6, 0, "writing, wide, short output");
+    refuse_writing(48000, 0, many, FARIGOLENC_POINTS + 1, FARIGOLENC_POINTS + 1, 200, 3, 0,
+                   "writing, too many for both forms");
+    many[3] = LAST_POSITION + 1;
+    refuse_form(48000, 0, FARIGOLENC_WIDE, many, wide, wide, 200, 3, 0,
+                "writing, wide, too many before a large position");
+    refuse_form(48000, 0, FARIGOLENC_WIDE, many, wide, wide - 1, 200, 2, 0,
+                "writing, wide, a ratio missing before too many");
+    refuse_form(48000, 0, FARIGOLENC_OLD, many, wide, wide, 200, 4, 3,
+                "writing, not too many for the old form");
+}
+
+/* Calls that know no form take as many points as the old one. */
+static void check_formless_limits(void)
+{
+    static const uint64_t positions[FARIGOLENC_POINTS + 1] = {0};
+    farigolenc_live live = farigolenc_live_new();
+    uint8_t out[FARIGOLENC_RATIO_FORM];
+
+    check(farigolenc_span(48000, positions, FARIGOLENC_POINTS).number == 0, "span of 4096 points");
+    check(farigolenc_span(48000, positions, FARIGOLENC_POINTS + 1).number == 3,
+          "span of 4097 points");
+    check(farigolenc_cursor_new(FARIGOLENC_POINTS).number == 0, "making, count of 4096");
+    live.fill = FARIGOLENC_WINDOW;
+    live.seen = FARIGOLENC_POINTS - 1;
+    check(farigolenc_live_add(&live, 7, out, sizeof out).number == 0, "live, ratio 4096");
+    check(live.seen == FARIGOLENC_POINTS, "live, ratio 4096");
+}
+
 int main(void)
 {
+    const uint32_t limits[] = {3499, 3500, 3501, 3502, 4095, 4096};
+    size_t i;
+
     check_example();
-    check_run();
+    check_run(FARIGOLENC_OLD);
+    check_run(FARIGOLENC_WIDE);
     check_sides();
+    check_largest(FARIGOLENC_OLD, FARIGOLENC_POINTS, 5000, 55325);
+    check_largest(FARIGOLENC_WIDE, FARIGOLENC_WIDE_POINTS, LAST_POSITION, FARIGOLENC_RECORD);
+    check_steps();
+    check_forms();
+    for (i = 0; i < sizeof limits / sizeof limits[0]; i++) {
+        check_limit(0, limits[i]);
+        check_limit(SIDE, limits[i]);
+    }
+    check_form_refusals();
+    check_formless_limits();
     check_kinds();
     check_spans();
     check_reasons();

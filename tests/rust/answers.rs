@@ -3,6 +3,10 @@
 /// How many ratios a window holds.
 pub const WINDOW: usize = 127;
 
+/// The forms of a record, by the tag of the positions' field.
+pub const OLD: u32 = 3;
+pub const WIDE: u32 = 5;
+
 /// What writing a run and adding a ratio answer.
 #[repr(C)]
 #[derive(Clone, Copy, Debug, PartialEq)]
@@ -12,7 +16,10 @@ pub struct Written {
     pub length: u64,
 }
 
-/// What strict and open reading answer.
+/// Writing a run, by whichever implementation: rate, side, form, positions, ratios, output.
+pub type Write = fn(u32, u32, u32, &[u64], &[u64], &mut [u8]) -> Written;
+
+/// What strict and open reading answer; `form` is 0 with a refusal.
 #[repr(C)]
 #[derive(Clone, Copy, Debug, PartialEq)]
 pub struct Reading {
@@ -21,6 +28,7 @@ pub struct Reading {
     pub rate: u32,
     pub side: u32,
     pub count: u32,
+    pub form: u32,
     pub used: u64,
 }
 

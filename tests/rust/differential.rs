@@ -7,12 +7,13 @@
 //! the case in hex and ends with 1. With `trace` it prints each case before it runs.
 
 mod answers;
+mod forms;
 mod inputs;
 mod library;
 mod reference;
 
-use answers::WINDOW;
-use answers::{Cursor, Explained, Kind, Live, Making, Reading, Span, Stepped, Written};
+use answers::{Cursor, Explained, Kind, Live, Making, Reading, Span, Stepped, Write, Written};
+use answers::{OLD, WIDE, WINDOW};
 use inputs::*;
 use std::cmp::Reverse;
 use std::collections::BTreeMap;
@@ -29,14 +30,18 @@ struct Test {
     trace: bool,
     random: Random,
     cases: u64,
-    /// How often each call returned each number, reading each side, some numbers at each place,
-    /// and 18 without a side (0) and with one (1), and explain each reason, place and sum.
+    /// How often each call returned each number, reading each side and form, some numbers at each
+    /// place, 18 without a side (0) and with one (1), 17 and 18 in each form, and explain each
+    /// reason, place and sum.
     numbers: BTreeMap<(&'static str, u32), u64>,
 }
 
-type Write = fn(u32, u32, &[u64], &[u64], &mut [u8]) -> Written;
 type Read = fn(u32, &[u8], &mut [u64], &mut [u64]) -> Reading;
 type Add = fn(&mut Live, u64, &mut [u8]) -> Written;
+
+// The place of 15 where the form gives it, and that of 16 where it would.
+const LATER_15: &str = "reading, place of 15 by the form";
+const EARLIER_16: &str = "reading, place of 16 before it";
 
 fn hex(bytes: &[u8]) -> String {
     bytes.iter().map(|byte| format!("{byte:02x}")).collect()
@@ -84,25 +89,18 @@ impl Test {
         expected
     }
 
-    fn write(
-        &mut self,
-        rate: u32,
-        side: u32,
-        positions: &[u64],
-        ratios: &[u64],
-        room: usize,
-    ) -> Written {
+    fn write(&mut self, run: &Run, room: usize) -> Written {
         let memory = self.random.memory::<u8>(room);
+        let call = match run.form {
+            WIDE => "write, wide form",
+            _ => "write, old form",
+        };
         let (written, _) = self.case::<Write, _>(
-            "write",
-            || {
-                let run = format!("positions {positions:x?} ratios {ratios:x?}");
-                let memory = hex(&memory);
-                format!("rate {rate:x} side {side:x} {run} room {room} memory {memory}")
-            },
+            call,
+            || format!("{run:x?} room {room} memory {}", hex(&memory)),
             |write| {
                 let mut memory = memory.clone();
-                let written = write(rate, side, positions, ratios, lent(&mut memory));
+                let written = run.write(write, lent(&mut memory));
                 (written, memory)
             },
             [reference::write, library::write],
@@ -111,11 +109,12 @@ impl Test {
         written
     }
 
-    /// Reads strictly and openly.
-    fn read(&mut self, expected: u32, record: &[u8], rooms: [usize; 2]) {
+    /// Reads strictly and openly; answers what strict reading answered.
+    fn read(&mut self, expected: u32, record: &[u8], rooms: [usize; 2]) -> Reading {
+        let front = Front::of(record);
         let strict: [Read; 2] = [reference::read_strict, library::read_strict];
         let open: [Read; 2] = [reference::read_open, library::read_open];
-        for (call, both) in [("read_strict", strict), ("read_open", open)] {
+        let [reading, _] = [("read_strict", strict), ("read_open", open)].map(|(call, both)| {
             let memory = rooms.map(|room| self.random.memory::<u64>(room));
             let (reading, ..) = self.case(
                 call,
@@ -133,18 +132,33 @@ impl Test {
             );
             let mut seen = |what, number| *self.numbers.entry((what, number)).or_default() += 1;
             match reading.number {
-                0 => seen("reading, side", reading.side),
+                0 => {
+                    seen("reading, side", reading.side);
+                    seen("reading, form", reading.form);
+                }
                 10 => seen("reading, place of 10", reading.place),
                 11 => seen("reading, place of 11", reading.place),
                 12 => seen("reading, place of 12", reading.place),
+                15 if front.count <= MOST_POINTS => seen(LATER_15, reading.place),
                 15 => seen("reading, place of 15", reading.place),
+                16 if front.tag == WIDE && front.count > WIDE_POINTS => {
+                    seen(EARLIER_16, reading.place);
+                }
                 16 => seen("reading, place of 16", reading.place),
-                17 => seen("reading, place of 17", reading.place),
-                18 => seen("reading, 18 behind a side", u32::from(record[7] == SIDE)),
+                17 => {
+                    seen("reading, place of 17", reading.place);
+                    seen("reading, 17 in a form", front.tag);
+                }
+                18 => {
+                    seen("reading, 18 behind a side", u32::from(front.count_at == 11));
+                    seen("reading, 18 in a form", front.tag);
+                }
                 20 => seen("reading, place of 20", reading.place),
                 _ => {}
             }
-        }
+            reading
+        });
+        reading
     }
 
     fn span(&mut self, rate: u32, positions: &[u64]) {
@@ -265,7 +279,7 @@ impl Test {
         let long = length + 1 + self.random.below(20);
         let short = self.random.below(length);
         for room in [length, length - 1, long, short, 0] {
-            self.write(run.rate, run.side, &run.positions, &run.ratios, room);
+            self.write(run, room);
         }
         self.read(0, &record, [count, count]);
         self.read(run.rate, &record, [count + 3, count + 1]);
@@ -275,10 +289,7 @@ impl Test {
     /// Reads with some expected rate and some room, and with bytes after the record.
     fn read_in_many_ways(&mut self, record: &[u8], run: &Run) {
         let random = &mut self.random;
-        let count_at = if record.get(7) == Some(&SIDE) { 14 } else { 10 };
-        let stated = record.get(count_at..count_at + 2).map_or(0, |bytes| {
-            usize::from(u16::from_be_bytes([bytes[0], bytes[1]]))
-        });
+        let stated = Front::of(record).count;
         let mut count = run.ratios.len();
         if stated <= MOST_POINTS + 3 && random.one_in(2) {
             count = stated;
@@ -314,15 +325,18 @@ impl Test {
         }
     }
 
+    /// Writes faulty runs, each in both forms.
     fn spoiled_writes(&mut self, run: &Run) {
-        for _ in 0..7 {
+        for _ in 0..8 {
             let mut run = run.clone();
             for _ in 0..1 + self.random.below(3) {
                 run.spoil(&mut self.random);
             }
             let room = 22 + 18 * run.ratios.len();
             let room = self.random.pick(&[room, room, room / 2, 0]);
-            self.write(run.rate, run.side, &run.positions, &run.ratios, room);
+            for form in [OLD, WIDE] {
+                self.write(&run.in_form(form), room);
+            }
         }
     }
 
@@ -331,7 +345,7 @@ impl Test {
         for _ in 0..15 {
             let mut fields = fields.clone();
             for _ in 0..1 + self.random.below(3) {
-                fields.spoil(&mut self.random, run.ratios.len());
+                fields.spoil(&mut self.random, run);
             }
             let mut record = fields.join();
             if self.random.one_in(6) {
@@ -365,12 +379,12 @@ impl Test {
         }
     }
 
-    /// Sound heads around bodies made by hand.
-    fn made_bodies(&mut self, count: usize) {
+    /// Sound heads of a run around bodies made by hand.
+    fn made_bodies(&mut self, run: &Run) {
         let random = &mut self.random;
-        let run = Run::short(random, count);
+        let count = run.ratios.len();
         let mut fields = Fields::split(&run.record());
-        fields.set_body(POSITIONS, positions_body(random, count));
+        fields.set_body(POSITIONS, positions_body(random, run.form, count));
         let record = fields.join();
         self.read(0, &record, [count, count]);
 
@@ -523,14 +537,14 @@ impl Test {
         let random = &mut self.random;
         let any = |random: &mut Random| random.below(LAST_POSITION as usize + 1) as u64;
         let count = match random.below(40) {
-            0 => random.pick(&[4_095, 4_096, 4_097, 5_000]),
+            0 => random.pick(&[3_501, 4_095, 4_096, 4_097, 5_000]),
             1..=10 => random.below(20),
             _ => random.below(4),
         };
         let mut rate = random.pick(&RATES);
         let mut positions: Vec<u64> = match random.below(3) {
             0 => (0..count).map(|_| any(random)).collect(),
-            1 => any_positions(random, count),
+            1 => any_positions(random, WIDE, count),
             _ => (0..count)
                 .map(|_| random.pick(&[0, LAST_POSITION, 1, 1 << 61]))
                 .collect(),
@@ -667,9 +681,10 @@ impl Test {
         // More ratios stand behind them in memory.
         let longer = [ratios, ratios, &[0, 1]].concat();
         let ratios = &longer[..count];
-        let (positions, mut record) = (vec![0; count], vec![0; LONGEST_RECORD]);
-        let side = any_side(&mut self.random);
-        let written = library::write(48_000, side, &positions, ratios, &mut record);
+        let mut run = Run::short(&mut self.random, count);
+        run.ratios = ratios.to_vec();
+        let mut record = vec![0; LONGEST_RECORD];
+        let written = run.write(library::write, &mut record);
         assert_eq!(written.number, 0, "the test made a run that is refused");
         let fields = Fields::split(&record[..written.length as usize]);
         let mut rest = fields.body(RATIOS);
@@ -766,23 +781,23 @@ impl Test {
         let mut run = run.clone();
         for side in (0..=LAST_SIDE).chain(HIGH_SIDES) {
             run.side = side.min(LAST_SIDE);
-            let length = run.record().len();
-            for room in [length, length - 1] {
-                self.write(run.rate, side, &run.positions, &run.ratios, room);
-            }
+            let (record, count) = (run.record(), run.ratios.len());
             if side <= LAST_SIDE {
-                let count = run.ratios.len();
-                self.read(0, &run.record(), [count, count]);
+                self.read(0, &record, [count, count]);
+            }
+            run.side = side;
+            for room in [record.len(), record.len() - 1] {
+                self.write(&run, room);
             }
         }
     }
 
-    /// Runs that break any of the writer's tests, and several at once: the first in the order of
-    /// the tests counts.
-    fn tests_of_writing(&mut self) {
+    /// Runs that break any of the writer's tests in a form, and several at once: the first in the
+    /// order of the tests counts.
+    fn tests_of_writing(&mut self, form: u32) {
         for broken in 0..1 << 7 {
             let breaks = |test: usize| broken >> test & 1 == 1;
-            let count = if breaks(3) { MOST_POINTS + 1 } else { 5 };
+            let count = if breaks(3) { most_points(form) + 1 } else { 5 };
             let rate = if breaks(0) { 48_001 } else { 48_000 };
             let side = if breaks(1) {
                 self.random.pick(&HIGH_SIDES)
@@ -797,9 +812,17 @@ impl Test {
             if breaks(5) {
                 positions[2] = 1 << 40;
             }
-            let room = if breaks(6) { 17 } else { 60_000 };
-            let written = self.write(rate, side, &positions, &ratios, room);
-            let first = (0..7).find(|&test| breaks(test));
+            let run = Run {
+                rate,
+                side,
+                form,
+                positions,
+                ratios,
+            };
+            let room = if breaks(6) { 17 } else { LONGEST_RECORD };
+            let written = self.write(&run, room);
+            // The wide form has a code for each step.
+            let first = (0..7).find(|&test| breaks(test) && (test, form) != (5, WIDE));
             let wanted = first.map_or(0, |test| [1, 21, 2, 3, 4, 5, 6][test]);
             assert_eq!(written.number, wanted, "another order of the tests");
         }
@@ -896,7 +919,9 @@ impl Test {
 
     /// The side of the disc.
     fn sides(&mut self) {
-        self.tests_of_writing();
+        for form in [OLD, WIDE] {
+            self.tests_of_writing(form);
+        }
         for count in [0, 1, 3] {
             let run = Run::short(&mut self.random, count);
             self.write_sides(&run);
@@ -911,8 +936,16 @@ impl Test {
         let start = 1_u64 << 40;
         let beyond = [MOST_STEP + 1, LEAST_STEP - 1];
         for step in EDGE_STEPS.into_iter().chain(beyond) {
-            let positions = [start, start, start.wrapping_add_signed(step)];
-            self.write(96_000, 0, &positions, &[1, 2, 3], 100);
+            for form in [OLD, WIDE] {
+                let run = Run {
+                    rate: 96_000,
+                    side: 0,
+                    form,
+                    positions: vec![start, start, start.wrapping_add_signed(step)],
+                    ratios: vec![1, 2, 3],
+                };
+                self.write(&run, 100);
+            }
         }
         let pairs: [&[u64]; 6] = [
             &[0xC01A_6666_6666_6666, 0xC00E_6666_6666_6666],
@@ -923,21 +956,23 @@ impl Test {
             &[0, 1 << 63],
         ];
         for ratios in pairs {
-            for side in [0, 7] {
+            for (side, form) in [(0, OLD), (7, OLD), (0, WIDE), (7, WIDE)] {
                 let run = Run {
                     rate: 44_100,
                     side,
-                    positions: any_positions(&mut self.random, ratios.len()),
+                    form,
+                    positions: any_positions(&mut self.random, form, ratios.len()),
                     ratios: ratios.to_vec(),
                 };
                 self.write_and_read(&run);
                 self.damage_everywhere(&run, 20, 1);
             }
         }
-        for side in [0, 4, LAST_SIDE] {
+        for (side, form) in [(0, OLD), (4, OLD), (LAST_SIDE, OLD), (0, WIDE), (4, WIDE)] {
             let listing = Run {
                 rate: 96_000,
                 side,
+                form,
                 positions: vec![0, 960, 1_920],
                 ratios: vec![0x3fe0 << 48; 3],
             };
@@ -952,68 +987,84 @@ impl Test {
         }
     }
 
-    /// Runs of the greatest length and next to it, of one kind.
-    fn long_runs(&mut self, kind: usize) {
-        let run = Run::new(&mut self.random, kind, MOST_POINTS);
-        self.write_and_read(&run);
-        self.live_run(&run);
-        self.span(run.rate, &run.positions);
+    /// A run of the greatest length of its form, and others next to it.
+    fn long_run(&mut self, run: &Run) {
+        let most = run.ratios.len();
+        self.write_and_read(run);
         let record = run.record();
-        let fields = Fields::split(&record);
-        self.step_through(fields.body(RATIOS), MOST_POINTS);
         for _ in 0..6 {
             let mut record = record.clone();
             let at = self.random.below(record.len());
             record[at] = damage(&mut self.random, record[at]);
-            self.read(0, &record, [MOST_POINTS, MOST_POINTS + 2]);
+            self.read(0, &record, [most, most + 2]);
             let cut = self.random.below(record.len());
-            self.read(0, &record[..cut], [MOST_POINTS, MOST_POINTS]);
+            self.read(0, &record[..cut], [most, most]);
         }
         let mut longer = run.clone();
-        longer.positions.push(longer.positions[MOST_POINTS - 1]);
-        let (rate, side) = (run.rate, run.side);
-        self.write(rate, side, &longer.positions, &run.ratios, 60_000);
+        longer.positions.push(longer.positions[most - 1]);
+        self.write(&longer, LONGEST_RECORD + 200);
         longer.ratios.push(1);
-        self.write(rate, side, &longer.positions, &longer.ratios, 60_000);
-        let shorter = &longer.positions[..MOST_POINTS - 1];
-        self.write(rate, side, shorter, &run.ratios[1..], LONGEST_RECORD);
-        self.spoiled_writes(&run);
-        self.made_bodies(MOST_POINTS);
+        self.write(&longer, LONGEST_RECORD + 200);
+        let mut shorter = run.clone();
+        shorter.positions.pop();
+        shorter.ratios.remove(0);
+        self.write(&shorter, LONGEST_RECORD);
+        self.spoiled_writes(run);
+        self.made_bodies(run);
+    }
+
+    /// The ratios of a run of the greatest length, alone.
+    fn long_ratios(&mut self, run: &Run) {
+        self.live_run(run);
+        self.span(run.rate, &run.positions);
+        let fields = Fields::split(&run.record());
+        self.step_through(fields.body(RATIOS), MOST_POINTS);
         self.explain_everywhere(&run.ratios);
         self.explain_elsewhere(&run.ratios);
     }
 
     /// The longest open body has ten bytes for each ratio but the first.
     fn longest_open_record(&mut self) {
-        let mut body = vec![255; 9];
-        for _ in 1..MOST_POINTS {
-            body.extend([128, 8]);
-            body.extend(self.random.bytes(8));
-        }
-        for (side, length) in [(0, 59_416), (LAST_SIDE, 59_420)] {
+        for (form, side, length, cut) in [
+            (OLD, 0, 59_416, 55_325),
+            (OLD, LAST_SIDE, 59_420, 55_325),
+            (WIDE, 0, 65_204, LONGEST_RECORD),
+            (WIDE, LAST_SIDE, 65_208, LONGEST_RECORD),
+        ] {
+            let most = most_points(form);
+            let mut body = vec![255; 9];
+            for _ in 1..most {
+                body.extend([128, 8]);
+                body.extend(self.random.bytes(8));
+            }
+            let high = if form == WIDE { LAST_POSITION } else { 1 << 29 };
             let run = Run {
                 rate: 48_000,
                 side,
-                positions: (0..MOST_POINTS as u64).map(|n| n % 2 << 29).collect(),
-                ratios: vec![0; MOST_POINTS],
+                form,
+                positions: (0..most as u64).map(|n| n % 2 * high).collect(),
+                ratios: vec![0; most],
             };
             let mut fields = Fields::split(&run.record());
-            fields.set_body(RATIOS, body.clone());
+            fields.set_body(RATIOS, body);
             let record = fields.join();
             assert_eq!(record.len(), length);
-            self.read(48_000, &record, [MOST_POINTS, MOST_POINTS]);
-            self.read(0, &record[..LONGEST_RECORD], [MOST_POINTS, MOST_POINTS]);
+            self.read(48_000, &record, [most, most]);
+            self.read(0, &record[..cut], [most, most]);
         }
     }
 
     /// Positions' and ratios' fields with the greatest length that can be stated.
     fn longest_fields(&mut self) {
-        for count in [0, 1, 3, 4_096] {
+        for count in [0, 1, 3, 3_500, 4_096] {
             let zeros = vec![0; 65_535];
             for side in [0, 4] {
-                let long = Fields::new(48_000, side, count, zeros.clone(), Vec::new()).join();
-                self.read(0, &long, [MOST_POINTS, MOST_POINTS]);
-                self.read(0, &long[..long.len() - 4], [MOST_POINTS, MOST_POINTS]);
+                for tag in [POSITIONS, WIDE_POSITIONS] {
+                    let fields = Fields::new(48_000, side, count, tag, zeros.clone(), Vec::new());
+                    let long = fields.join();
+                    self.read(0, &long, [MOST_POINTS, MOST_POINTS]);
+                    self.read(0, &long[..long.len() - 4], [MOST_POINTS, MOST_POINTS]);
+                }
             }
             let run = Run::short(&mut self.random, usize::from(count));
             let mut fields = Fields::split(&run.record());
@@ -1032,7 +1083,7 @@ impl Test {
             let count = other_number(&mut self.random, 4_096);
             self.cursor_new(count);
         }
-        for _ in 0..2_500 {
+        for _ in 0..3_000 {
             let run = Run::any(&mut self.random);
             self.write_and_read(&run);
             self.spoiled_writes(&run);
@@ -1051,10 +1102,12 @@ impl Test {
         }
         for _ in 0..500 {
             let count = 120 + self.random.below(150);
-            self.made_bodies(count);
+            let run = Run::short(&mut self.random, count);
+            self.made_bodies(&run);
             for _ in 0..11 {
                 let count = self.random.below(14);
-                self.made_bodies(count);
+                let run = Run::short(&mut self.random, count);
+                self.made_bodies(&run);
             }
         }
         for _ in 0..250 {
@@ -1068,33 +1121,47 @@ impl Test {
             }
         }
         for kind in 0..Ratios::KINDS {
-            self.long_runs(kind);
+            let run = Run::new(&mut self.random, OLD, kind, MOST_POINTS);
+            self.long_run(&run);
+            self.long_ratios(&run);
+        }
+        for _ in 0..5 {
+            let kind = self.random.below(Ratios::KINDS);
+            let run = Run::new(&mut self.random, WIDE, kind, WIDE_POINTS);
+            self.long_run(&run);
         }
         self.longest_open_record();
         self.longest_fields();
         self.sides();
+        self.forms();
         self.explains();
     }
 
-    /// Prints how often each call returned each number, reading each side and the places that a
-    /// side moves, and explain each reason, places at the window's ends, and each sum; each must
-    /// have come up. The place of 18 depends on the positions too, so that 18 itself is counted,
-    /// without a side (0) and with one (1).
+    /// Prints how often each call returned each number, reading each side, each form and the places
+    /// that a side moves, and explain each reason, places at the window's ends, and each sum; each
+    /// must have come up. The place of 18 depends on the positions too, so that 18 itself is
+    /// counted, without a side (0) and with one (1).
     fn report(&self) {
         let reading = &[0, 10, 11, 12, 13, 14, 15, 16, 17, 18, 20][..];
         let sides: Vec<u32> = (0..=LAST_SIDE).collect();
-        let calls: [(_, &[u32]); 23] = [
-            ("write", &[0, 1, 2, 3, 4, 5, 6, 21]),
+        let calls: [(_, &[u32]); 29] = [
+            ("write, old form", &[0, 1, 2, 3, 4, 5, 6, 21]),
+            ("write, wide form", &[0, 1, 2, 3, 4, 6, 21]),
             ("read_strict", reading),
             ("read_open", reading),
             ("reading, side", &sides),
+            ("reading, form", &[OLD, WIDE]),
             ("reading, place of 10", &[0, 7, 11, 12, 16]),
             ("reading, place of 11", &[0, 7, 11, 12, 16]),
             ("reading, place of 12", &[0, 7, 11]),
             ("reading, place of 15", &[7, 11]),
+            (LATER_15, &[7, 11]),
             ("reading, place of 16", &[7, 11]),
+            (EARLIER_16, &[7, 11]),
             ("reading, place of 17", &[12, 16]),
+            ("reading, 17 in a form", &[OLD, WIDE]),
             ("reading, 18 behind a side", &[0, 1]),
+            ("reading, 18 in a form", &[OLD, WIDE]),
             ("reading, place of 20", &[7]),
             ("span", &[0, 1, 3, 4]),
             ("live_new", &[0]),
@@ -1144,6 +1211,7 @@ fn main() {
         numbers: BTreeMap::new(),
     };
     test.document_cases();
+    test.form_cases();
     for _ in 0..ROUNDS {
         test.round();
     }

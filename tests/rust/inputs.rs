@@ -1,12 +1,30 @@
 //! Random inputs for the differential test: runs, records, bodies and outputs, sound and faulty.
 
-use crate::answers::WINDOW;
+use crate::answers::{Write, Written, OLD, WIDE, WINDOW};
 use crate::reference;
 
 pub const RATES: [u32; 6] = [44_100, 48_000, 88_200, 96_000, 176_400, 192_000];
 pub const MOST_POINTS: usize = 4_096;
+pub const WIDE_POINTS: usize = 3_500;
 pub const LAST_POSITION: u64 = (1 << 62) - 1;
-pub const LONGEST_RECORD: usize = 55_325;
+pub const LONGEST_RECORD: usize = 61_709;
+/// Numbers with which the old form is written, as with its own: next to the numbers of the forms,
+/// at bounds, and such as have the number of the wide form in the low bits.
+pub const OTHER_FORMS: [u32; 13] = [
+    0,
+    1,
+    2,
+    4,
+    6,
+    7,
+    8 + 5,
+    128 + 5,
+    256 + 5,
+    65_536 + 5,
+    (1 << 31) + 5,
+    u32::MAX - 2,
+    u32::MAX,
+];
 pub const LAST_SIDE: u32 = 26;
 /// Sides above the last: next to it, at bounds of a byte and of a number, and such as have a good
 /// side in the low bits.
@@ -69,10 +87,12 @@ impl Random {
         (0..length).map(|_| self.bits() as u8).collect()
     }
 
-    /// An output of the given length with random contents, and guards around it.
+    /// An output of the given length and guards around it. The contents are random in that they
+    /// rise from a random number by a random odd one, which is made much faster than others.
     pub fn memory<T: Cell>(&mut self, length: usize) -> Vec<T> {
-        (0..length + 2 * GUARD)
-            .map(|_| T::from_bits(self.bits()))
+        let (start, rise) = (self.bits(), self.bits() | 1);
+        (0..(length + 2 * GUARD) as u64)
+            .map(|n| T::from_bits(start.wrapping_add(rise.wrapping_mul(n))))
             .collect()
     }
 }
@@ -213,14 +233,141 @@ pub fn special_bits(random: &mut Random) -> u64 {
     sign | exponent | fraction
 }
 
+// Steps
+
 pub const LEAST_STEP: i64 = -(1 << 31) + 1;
 pub const MOST_STEP: i64 = 1 << 31;
 
-/// Steps at and around the bounds of the table's rows.
+/// A row of a table of steps: the prefix, its length, and how many bits follow.
+type Row = (i64, usize, usize);
+
+const OLD_ROWS: [Row; 5] = [(0, 1, 0), (2, 2, 7), (6, 3, 9), (14, 4, 12), (15, 4, 32)];
+const WIDE_ROWS: [Row; 6] = [
+    (0, 1, 0),
+    (2, 2, 7),
+    (6, 3, 9),
+    (14, 4, 12),
+    (30, 5, 32),
+    (31, 5, 64),
+];
+
+/// The table of a form.
+pub fn rows(form: u32) -> &'static [Row] {
+    match form {
+        WIDE => &WIDE_ROWS,
+        _ => &OLD_ROWS,
+    }
+}
+
+/// The index of the first row that holds a step; the last is in the wide table alone.
+pub fn first_row(step: i64) -> usize {
+    match step {
+        0 => 0,
+        -63..=64 => 1,
+        -255..=256 => 2,
+        -2_047..=2_048 => 3,
+        LEAST_STEP..=MOST_STEP => 4,
+        _ => 5,
+    }
+}
+
+/// Bits laid by hand, top bit first.
+#[derive(Default)]
+pub struct Bits(Vec<bool>);
+
+impl Bits {
+    pub fn lay(&mut self, number: i64, width: usize) {
+        self.0
+            .extend((0..width).rev().map(|height| number >> height & 1 == 1));
+    }
+
+    /// Lays a step in a row of a form's table, whether or not it is the row for it.
+    pub fn lay_step(&mut self, form: u32, row: usize, step: i64) {
+        let (prefix, length, width) = rows(form)[row];
+        self.lay(prefix, length);
+        self.lay(step, width);
+    }
+
+    /// Takes some of the last bits off, as many as there are.
+    pub fn cut(&mut self, less: usize) {
+        self.0.truncate(self.0.len().saturating_sub(less));
+    }
+
+    /// Ones in the place of the fill bits of the last byte.
+    pub fn fill(&self) -> u8 {
+        (1 << ((8 - self.0.len() % 8) % 8)) - 1
+    }
+
+    /// The bytes, with zeros to the end of the last one.
+    pub fn bytes(&self) -> Vec<u8> {
+        let byte = |bits: &[bool]| {
+            let number = bits.iter().fold(0, |byte, &bit| byte << 1 | u8::from(bit));
+            number << (8 - bits.len())
+        };
+        self.0.chunks(8).map(byte).collect()
+    }
+}
+
+/// Steps at and around the bounds of the first five rows.
 pub const EDGE_STEPS: [i64; 26] = [
     0, 1, -1, 2, 62, 63, 64, 65, -62, -63, -64, -65, 255, 256, 257, -255, -256, -257, 2_047, 2_048,
     2_049, -2_047, -2_048, -2_049, MOST_STEP, LEAST_STEP,
 ];
+
+/// The least and the largest step between positions.
+pub const FARTHEST_STEPS: [i64; 2] = [-(i64::MAX - 1), i64::MAX - 1];
+
+/// Steps between positions that the wide table alone holds: at the bounds of its last row, at
+/// powers of 2, with low bits that an earlier row holds, and the farthest.
+pub const RAW_STEPS: [i64; 25] = [
+    MOST_STEP + 1,
+    MOST_STEP + 2,
+    LEAST_STEP - 1,
+    LEAST_STEP - 2,
+    (1 << 32) - 1,
+    1 << 32,
+    (1 << 32) + 1,
+    -(1 << 32) + 1,
+    -(1 << 32),
+    -(1 << 32) - 1,
+    (1 << 32) + 64,
+    (1 << 40) - 63,
+    (5 << 32) + MOST_STEP,
+    1 << 61,
+    -(1 << 61),
+    (1 << 62) - 1,
+    1 << 62,
+    (1 << 62) + 1,
+    -(1 << 62) + 1,
+    -(1 << 62),
+    -(1 << 62) - 1,
+    FARTHEST_STEPS[0] + 1,
+    FARTHEST_STEPS[0],
+    FARTHEST_STEPS[1] - 1,
+    FARTHEST_STEPS[1],
+];
+
+/// A step that mostly the wide table alone holds, between positions or not.
+fn raw_step(random: &mut Random) -> i64 {
+    let any = random.bits() as i64 >> random.below(34);
+    let edge = random.pick(&RAW_STEPS);
+    random.pick(&[any, any, edge, edge, edge, edge, i64::MIN, i64::MAX])
+}
+
+/// Three positions with this step at the third, of which there are many.
+pub fn with_step(random: &mut Random, step: i64) -> [u64; 3] {
+    let (step, top) = (i128::from(step), i128::from(LAST_POSITION));
+    let mut between = |least: i128, most: i128| match random.below(3) {
+        0 => least,
+        1 => most,
+        _ => least + random.below((most - least + 1) as usize) as i128,
+    };
+    // The first and the third are the step and twice the second.
+    let second = between((1 - step).max(0) / 2, top - (1 + step).max(0) / 2);
+    let both = step + 2 * second;
+    let first = between((both - top).max(0), both.min(top));
+    [first, second, both - first].map(|position| position as u64)
+}
 
 fn any_step(random: &mut Random, kind: usize) -> i64 {
     match kind {
@@ -238,8 +385,38 @@ fn any_step(random: &mut Random, kind: usize) -> i64 {
     }
 }
 
-/// Positions that the writer accepts.
-pub fn any_positions(random: &mut Random, count: usize) -> Vec<u64> {
+/// Positions that the writer accepts in a form.
+pub fn any_positions(random: &mut Random, form: u32, count: usize) -> Vec<u64> {
+    let mut positions = near_positions(random, count);
+    if form == WIDE && random.one_in(2) {
+        let often = random.pick(&[1, 3, 12, 100]);
+        for n in 0..count {
+            if random.one_in(often) {
+                positions[n] = far_position(random, &positions[..n]);
+            }
+        }
+    }
+    positions
+}
+
+/// A position at a bound, anywhere, or by a step of the wide table from those before it.
+fn far_position(random: &mut Random, before: &[u64]) -> u64 {
+    let any = random.below(LAST_POSITION as usize + 1) as u64;
+    let next = match before {
+        [.., before, last] => {
+            let step = i128::from(raw_step(random));
+            u64::try_from(2 * i128::from(*last) - i128::from(*before) + step)
+        }
+        _ => Ok(any),
+    };
+    match next {
+        Ok(next) if next <= LAST_POSITION && random.one_in(2) => next,
+        _ => random.pick(&[0, LAST_POSITION, any, any]),
+    }
+}
+
+/// Positions that the writer accepts in both forms.
+fn near_positions(random: &mut Random, count: usize) -> Vec<u64> {
     let kind = random.below(10);
     let middle = 1_i64 << 61;
     let top = LAST_POSITION as i64;
@@ -289,6 +466,20 @@ pub fn any_side(random: &mut Random) -> u32 {
     random.pick(&[0, 0, 0, 0, 1, LAST_SIDE, any, any])
 }
 
+/// A number that names a form, in half of all cases the wide one.
+pub fn any_form_number(random: &mut Random) -> u32 {
+    let other = random.pick(&OTHER_FORMS);
+    random.pick(&[WIDE, WIDE, WIDE, WIDE, OLD, OLD, OLD, other])
+}
+
+/// The most points of a run in a form.
+pub fn most_points(form: u32) -> usize {
+    match form {
+        WIDE => WIDE_POINTS,
+        _ => MOST_POINTS,
+    }
+}
+
 /// A number near another, at a bound, or too large, also with the same low bits.
 pub fn other_number(random: &mut Random, near: u64) -> u64 {
     let (more, less) = (near.wrapping_add(1), near.wrapping_sub(1));
@@ -299,20 +490,23 @@ pub fn other_number(random: &mut Random, near: u64) -> u64 {
     ])
 }
 
-#[derive(Clone)]
+#[derive(Clone, Debug)]
 pub struct Run {
     pub rate: u32,
     pub side: u32,
+    /// The number that names the form to writing: 5 for the wide one, else the old one.
+    pub form: u32,
     pub positions: Vec<u64>,
     pub ratios: Vec<u64>,
 }
 
 impl Run {
-    pub fn new(random: &mut Random, kind: usize, count: usize) -> Run {
+    pub fn new(random: &mut Random, form: u32, kind: usize, count: usize) -> Run {
         Run {
             rate: random.pick(&RATES),
             side: any_side(random),
-            positions: any_positions(random, count),
+            form,
+            positions: any_positions(random, form, count),
             ratios: Ratios::list(random, kind, count),
         }
     }
@@ -327,15 +521,31 @@ impl Run {
     }
 
     pub fn short(random: &mut Random, count: usize) -> Run {
+        let form = match any_form_number(random) {
+            WIDE if count > WIDE_POINTS => OLD,
+            form => form,
+        };
         let kind = random.below(Ratios::KINDS);
-        Run::new(random, kind, count)
+        Run::new(random, form, kind, count)
+    }
+
+    /// The same run in another form.
+    pub fn in_form(&self, form: u32) -> Run {
+        Run {
+            form,
+            ..self.clone()
+        }
+    }
+
+    pub fn write(&self, write: Write, out: &mut [u8]) -> Written {
+        let (positions, ratios) = (&self.positions, &self.ratios);
+        write(self.rate, self.side, self.form, positions, ratios, out)
     }
 
     /// The record, which the reference writes.
     pub fn record(&self) -> Vec<u8> {
         let mut out = vec![0; LONGEST_RECORD];
-        let (positions, ratios) = (&self.positions, &self.ratios);
-        let written = reference::write(self.rate, self.side, positions, ratios, &mut out);
+        let written = self.write(reference::write, &mut out);
         assert_eq!(written.number, 0, "the test made a run that is refused");
         out.truncate(written.length as usize);
         out
@@ -351,8 +561,9 @@ impl Run {
             2 => {
                 self.ratios.pop();
             }
-            3 if random.one_in(8) => {
-                let length = MOST_POINTS + 1 + random.below(3);
+            3 if random.one_in(6) => {
+                let most = random.pick(&[MOST_POINTS, MOST_POINTS, MOST_POINTS, WIDE_POINTS]);
+                let length = most + 1 + random.below(3);
                 self.positions.resize(length, 0);
                 if random.one_in(4) {
                     self.ratios.resize(length, 0);
@@ -377,23 +588,56 @@ impl Run {
     }
 }
 
-// The tags of the fields.
+// The tags of the fields; the positions' field has one for each form.
 pub const RATE: u8 = 1;
 pub const COUNT: u8 = 2;
-pub const POSITIONS: u8 = 3;
+pub const POSITIONS: u8 = OLD as u8;
+pub const WIDE_POSITIONS: u8 = WIDE as u8;
 pub const RATIOS: u8 = 4;
 pub const SIDE: u8 = 6;
+
+/// What bytes state where a record has its count and the tag of its positions; 0 where they end
+/// before it.
+pub struct Front {
+    /// Where the count's field stands.
+    pub count_at: usize,
+    pub count: usize,
+    pub tag: u32,
+}
+
+impl Front {
+    pub fn of(record: &[u8]) -> Front {
+        let count_at = if record.get(7) == Some(&SIDE) { 11 } else { 7 };
+        let count = match record.get(count_at + 3..count_at + 5) {
+            Some(&[high, low]) => u16::from_be_bytes([high, low]),
+            _ => 0,
+        };
+        Front {
+            count_at,
+            count: usize::from(count),
+            tag: record.get(count_at + 5).map_or(0, |&tag| u32::from(tag)),
+        }
+    }
+}
 
 /// The fields of a record, each with a tag, a stated length and a body.
 #[derive(Clone)]
 pub struct Fields(pub Vec<(u8, u16, Vec<u8>)>);
 
 impl Fields {
-    pub fn new(rate: u32, side: u8, count: u16, positions: Vec<u8>, ratios: Vec<u8>) -> Fields {
+    /// The fields of a record, `tag` that of the positions' field.
+    pub fn new(
+        rate: u32,
+        side: u8,
+        count: u16,
+        tag: u8,
+        positions: Vec<u8>,
+        ratios: Vec<u8>,
+    ) -> Fields {
         let mut bodies = vec![
             (RATE, rate.to_be_bytes().to_vec()),
             (COUNT, count.to_be_bytes().to_vec()),
-            (POSITIONS, positions),
+            (tag, positions),
             (RATIOS, ratios),
         ];
         if side != 0 {
@@ -425,9 +669,19 @@ impl Fields {
         record
     }
 
-    /// Where the first field with a tag stands.
+    /// Where the first field with a tag stands; `POSITIONS` is the positions' field of both forms.
     pub fn find(&self, tag: u8) -> Option<usize> {
-        self.0.iter().position(|field| field.0 == tag)
+        self.0.iter().position(|field| match field.0 {
+            WIDE_POSITIONS => tag == POSITIONS,
+            found => tag == found,
+        })
+    }
+
+    /// Gives the positions' field, where there is one, the tag of the other form.
+    pub fn exchange_forms(&mut self) {
+        if let Some(field) = self.find(POSITIONS) {
+            self.0[field].0 ^= POSITIONS ^ WIDE_POSITIONS;
+        }
     }
 
     /// The body of the first field with a tag, or nothing where there is none.
@@ -443,10 +697,12 @@ impl Fields {
         }
     }
 
-    /// Breaks one of the reader's tests, or several when called again.
-    pub fn spoil(&mut self, random: &mut Random, count: usize) {
+    /// Breaks one of the reader's tests, or several when called again; `run` is what the fields
+    /// were at first.
+    pub fn spoil(&mut self, random: &mut Random, run: &Run) {
+        let count = run.ratios.len();
         let chosen = random.below(self.0.len());
-        match random.below(15) {
+        match random.below(18) {
             0 => self.0[chosen].0 = random.pick(&[0, 1, 2, 3, 4, 5, 6, 6, 7, 255]),
             1 => {
                 let length = self.0[chosen].1;
@@ -465,10 +721,13 @@ impl Fields {
             4 => self.set_body(RATE, random.pick(&RATES).to_be_bytes().to_vec()),
             5 | 6 => {
                 let count = count as u16;
-                let choices = [count.wrapping_sub(1), count + 1, 0, 4_096, 4_097, 65_535];
+                let (less, more) = (count.wrapping_sub(1), count + 1);
+                let choices = [
+                    less, more, 0, 3_500, 3_501, 4_096, 4_096, 4_097, 4_097, 65_535,
+                ];
                 self.set_body(COUNT, random.pick(&choices).to_be_bytes().to_vec());
             }
-            7 => self.set_body(POSITIONS, positions_body(random, count)),
+            7 => self.set_body(POSITIONS, positions_body(random, run.form, count)),
             8 => self.set_body(RATIOS, open_body(random, count, 30)),
             9 => {
                 let mut body = self.body(POSITIONS).to_vec();
@@ -495,6 +754,20 @@ impl Fields {
                 let next = (chosen + 1) % self.0.len();
                 self.0.swap(chosen, next);
             }
+            13 => self.exchange_forms(),
+            // A byte more or a byte less within the body, whose length is stated anew or not.
+            14 | 15 => {
+                let (_, stated, body) = &mut self.0[chosen];
+                let at = random.below(body.len() + 1);
+                if at < body.len() && random.one_in(2) {
+                    body.remove(at);
+                } else {
+                    body.insert(at, random.pick(&[0, 0xff, 0x80]));
+                }
+                if random.one_in(2) {
+                    *stated = body.len() as u16;
+                }
+            }
             _ => {
                 let body = &mut self.0[chosen].2;
                 if !body.is_empty() {
@@ -516,13 +789,10 @@ pub fn damage(random: &mut Random, byte: u8) -> u8 {
     ])
 }
 
-/// A positions body made by hand: sound, or with wrong rows, fill bits or length, or with
-/// positions at or past their bounds.
-pub fn positions_body(random: &mut Random, count: usize) -> Vec<u8> {
-    let mut bits: Vec<bool> = Vec::new();
-    let mut lay = |number: i64, width: usize| {
-        bits.extend((0..width).rev().map(|height| number >> height & 1 == 1));
-    };
+/// A positions body of a form made by hand: sound, or with wrong rows, fill bits or length, or
+/// with positions at or past their bounds.
+pub fn positions_body(random: &mut Random, form: u32, count: usize) -> Vec<u8> {
+    let mut bits = Bits::default();
     let kind = random.below(8);
     let wrong_row = random.pick(&[0, 0, 0, 0, 0, 2, 10]);
     let top = LAST_POSITION as i64;
@@ -536,49 +806,51 @@ pub fn positions_body(random: &mut Random, count: usize) -> Vec<u8> {
         1..=5 => random.pick(&raw),
         _ => near,
     };
+    let far = if form == WIDE {
+        random.pick(&[1, 3, 30])
+    } else {
+        0
+    };
     let mut last = second;
     let mut difference = second.wrapping_sub(first);
     for n in 0..count {
         if n < 2 {
-            lay([first, second][n], 64);
-        } else {
-            let low = last.wrapping_neg().wrapping_sub(difference);
-            let high = top.wrapping_sub(last).wrapping_sub(difference);
-            let step = match random.below(12) {
-                0 => low,
-                1 => low.wrapping_sub(1),
-                2 => high,
-                3 => high.wrapping_add(1),
-                _ => any_step(random, kind),
-            };
-            let held = (LEAST_STEP..=MOST_STEP).contains(&step);
-            let step = if held { step } else { any_step(random, kind) };
-            difference = difference.wrapping_add(step);
-            last = last.wrapping_add(difference);
-            let mut row = match step {
-                0 => 0,
-                -63..=64 => 1,
-                -255..=256 => 2,
-                -2_047..=2_048 => 3,
-                _ => 4,
-            };
-            if wrong_row > 0 && row < 4 && random.one_in(wrong_row) {
-                row += 1 + random.below(4 - row);
-            }
-            let (prefix, length) = [(0, 1), (2, 2), (6, 3), (14, 4), (15, 4)][row];
-            lay(prefix, length);
-            lay(step, [0, 7, 9, 12, 32][row]);
+            bits.lay([first, second][n], 64);
+            continue;
         }
+        let to = |position: i64| position.wrapping_sub(last).wrapping_sub(difference);
+        let step = match random.below(12) {
+            0 => to(0),
+            1 => to(-1),
+            2 => to(top),
+            3 => to(top + 1),
+            _ if far > 0 && random.one_in(far) => raw_step(random),
+            _ => any_step(random, kind),
+        };
+        let next = i128::from(last) + i128::from(difference) + i128::from(step);
+        let inside = (0..=i128::from(top)).contains(&next);
+        let step = match form {
+            // A step that leads outside has a code, and should not stand in most bodies.
+            WIDE if !inside && !random.one_in(4 * count) => to(random.between(0, top)),
+            WIDE => step,
+            _ if first_row(step) < rows(form).len() => step,
+            _ => any_step(random, kind),
+        };
+        difference = difference.wrapping_add(step);
+        last = last.wrapping_add(difference);
+        let (mut row, last_row) = (first_row(step), rows(form).len() - 1);
+        if wrong_row > 0 && row < last_row && random.one_in(wrong_row) {
+            row += 1 + random.below(last_row - row);
+        }
+        bits.lay_step(form, row, step);
     }
     if random.one_in(10) {
-        bits.truncate(bits.len().saturating_sub(1 + random.below(10)));
+        bits.cut(1 + random.below(10));
     }
-    let dirty_fill = random.one_in(10);
-    while bits.len() % 8 != 0 {
-        bits.push(dirty_fill && random.one_in(3));
+    let mut body = bits.bytes();
+    if let Some(last) = body.last_mut().filter(|_| random.one_in(10)) {
+        *last |= random.bits() as u8 & random.bits() as u8 & bits.fill();
     }
-    let byte = |bits: &[bool]| bits.iter().fold(0, |byte, &bit| byte << 1 | u8::from(bit));
-    let mut body: Vec<u8> = bits.chunks(8).map(byte).collect();
     if random.one_in(15) {
         body.push(0);
     }

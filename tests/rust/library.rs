@@ -7,6 +7,7 @@ unsafe extern "C" {
     fn farigolenc_write(
         rate: u32,
         side: u32,
+        form: u32,
         positions: *const u64,
         positions_length: usize,
         ratios: *const u64,
@@ -49,12 +50,20 @@ unsafe extern "C" {
 // Each call below lends slices, which are valid and non-null also when empty, and whose borrows
 // keep what is written apart from everything else. That is all that the functions ask for.
 
-pub fn write(rate: u32, side: u32, positions: &[u64], ratios: &[u64], out: &mut [u8]) -> Written {
+pub fn write(
+    rate: u32,
+    side: u32,
+    form: u32,
+    positions: &[u64],
+    ratios: &[u64],
+    out: &mut [u8],
+) -> Written {
     // SAFETY: see above.
     unsafe {
         farigolenc_write(
             rate,
             side,
+            form,
             positions.as_ptr(),
             positions.len(),
             ratios.as_ptr(),

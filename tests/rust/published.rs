@@ -1,23 +1,36 @@
 //! Document 01's examples that are not proved as a table ("Bytes to compare", the rows without
-//! P), its record with and without a side, and the six doubles of source document 000, Table 2,
-//! run through the library.
+//! P), its record with and without a side and in both forms, the last two rows of the wide form,
+//! and the six doubles of source document 000, Table 2, run through the library.
 
 #[allow(dead_code)]
 mod answers;
 #[allow(dead_code)]
 mod library;
 
+use answers::{OLD, WIDE};
 use std::process::exit;
 
-/// A position in the middle of the range, from which steps to both sides lead to positions.
-const MIDDLE: u64 = 1 << 40;
+const LAST_POSITION: u64 = (1 << 62) - 1;
 
-/// What a third point after two equal ones writes behind the first 128 bits, as bits, or the
-/// refusal's number and place.
-fn step(step: i64) -> Result<String, (u32, u32)> {
-    let positions = [MIDDLE, MIDDLE, MIDDLE.wrapping_add_signed(step)];
+/// The largest step, from the last position to the first and back.
+const FARTHEST: i64 = 2 * LAST_POSITION as i64;
+
+/// Three positions with a step at the third; those with a smaller one stand around a middle.
+fn with_step(step: i64) -> [u64; 3] {
+    const MIDDLE: u64 = 1 << 40;
+    const LEAST: i64 = -FARTHEST;
+    match step {
+        FARTHEST => [LAST_POSITION, 0, LAST_POSITION],
+        LEAST => [0, LAST_POSITION, 0],
+        _ => [MIDDLE, MIDDLE, MIDDLE.wrapping_add_signed(step)],
+    }
+}
+
+/// What a third point writes in a form behind the first 128 bits, as bits, or the refusal's number
+/// and place.
+fn step(form: u32, step: i64) -> Result<String, (u32, u32)> {
     let mut out = [0xAA; 100];
-    let answer = library::write(48_000, 0, &positions, &[0; 3], &mut out);
+    let answer = library::write(48_000, 0, form, &with_step(step), &[0; 3], &mut out);
     if answer.number != 0 {
         return Err((answer.number, answer.place));
     }
@@ -32,7 +45,7 @@ fn step(step: i64) -> Result<String, (u32, u32)> {
 fn body(ratios: &[u64]) -> Vec<u8> {
     let positions = vec![0; ratios.len()];
     let mut out = vec![0xAA; 55_325];
-    let answer = library::write(48_000, 0, &positions, ratios, &mut out);
+    let answer = library::write(48_000, 0, OLD, &positions, ratios, &mut out);
     assert_eq!((answer.number, answer.place), (0, 0), "writing {ratios:x?}");
     let positions_length = usize::from(u16::from_be_bytes([out[13], out[14]]));
     out[15 + positions_length + 3..answer.length as usize].to_vec()
@@ -45,21 +58,23 @@ const EXAMPLE: [u8; 46] = [
     0x04, 0x00, 0x0B, 0xFF, 0x3F, 0xE0, 0x00, 0x00, 0x00, 0x00, 0x00, 0x00, 0x00, 0x00,
 ];
 
-/// What writing the example's run with a side gives, or the refusal's number and place.
-fn example(side: u32) -> Result<Vec<u8>, (u32, u32)> {
+/// What writing the example's run with a side and in a form gives, or the refusal's number and
+/// place.
+fn example(side: u32, form: u32) -> Result<Vec<u8>, (u32, u32)> {
+    let (positions, ratios) = ([0, 960, 1_920], [0x3FE0 << 48; 3]);
     let mut out = [0xAA; 100];
-    let answer = library::write(96_000, side, &[0, 960, 1_920], &[0x3FE0 << 48; 3], &mut out);
+    let answer = library::write(96_000, side, form, &positions, &ratios, &mut out);
     if answer.number != 0 {
         return Err((answer.number, answer.place));
     }
     Ok(out[..answer.length as usize].to_vec())
 }
 
-/// The side that a record is read with, strictly and openly.
-fn sides_read(record: &[u8]) -> [(u32, u32); 2] {
+/// The number, the side and the form that a record is read with, strictly and openly.
+fn both_readings(record: &[u8]) -> [(u32, u32, u32); 2] {
     [library::read_strict, library::read_open].map(|read| {
         let answer = read(96_000, record, &mut [0; 3], &mut [0; 3]);
-        (answer.number, answer.side)
+        (answer.number, answer.side, answer.form)
     })
 }
 
@@ -86,42 +101,57 @@ fn main() {
         failed: 0,
     };
 
-    // Steps: the code, and fill bits to the end of the last byte.
-    for (number, code) in [
-        (256, "110100000000"),
-        (257, "1110000100000001"),
-        (-256, "1110111100000000"),
+    // Steps: the code, and fill bits to the end of the last byte. The forms have the first four
+    // rows in common.
+    let most = 1 << 31;
+    let ones = "1".repeat(31);
+    let zeros = "0".repeat(29);
+    let both = [OLD, WIDE];
+    for (forms, number, code) in [
+        (&both[..], 256, "110 100000000"),
+        (&both, 257, "1110 000100000001"),
+        (&both, -256, "1110 111100000000"),
+        (&[OLD], most, &format!("1111 100{zeros}")),
+        (&[OLD], 1 - most, &format!("1111 10{zeros}1")),
+        (&[WIDE], most, &format!("11110 100{zeros}")),
+        (&[WIDE], 1 - most, &format!("11110 10{zeros}1")),
+        (&[WIDE], most + 1, &format!("11111 000{zeros} 10{zeros}1")),
+        (&[WIDE], -most, &format!("11111 1{ones} 100{zeros}")),
+        (
+            &[WIDE],
+            FARTHEST,
+            &format!("11111 0{ones} 1{}0", &ones[1..]),
+        ),
+        (&[WIDE], -FARTHEST, &format!("11111 100{zeros} 0{zeros}10")),
     ] {
-        let bytes = code.len().div_ceil(8);
-        let filled = format!("{code:0<width$}", width = 8 * bytes);
-        tally.same(&format!("step {number}"), step(number), Ok(filled));
+        let code = code.replace(' ', "");
+        let filled = format!("{code:0<width$}", width = code.len().next_multiple_of(8));
+        for &form in forms {
+            let what = format!("step {number} in form {form}");
+            tally.same(&what, step(form, number), Ok(filled.clone()));
+        }
     }
-    for (number, code) in [
-        (1 << 31, "111110000000000000000000000000000000"),
-        (-(1 << 31) + 1, "111110000000000000000000000000000001"),
-    ] {
-        let filled = format!("{code:0<40}");
-        tally.same(&format!("step {number}"), step(number), Ok(filled));
-    }
-    for number in [(1 << 31) + 1, -(1 << 31)] {
-        tally.same(&format!("step {number}"), step(number), Err((5, 2)));
+    for number in [most + 1, -most, FARTHEST, -FARTHEST] {
+        tally.same(&format!("step {number}"), step(OLD, number), Err((5, 2)));
     }
 
     // Side 0 has no field; every other stands in one of four bytes between the rate and the count.
-    tally.same("side 0", example(0), Ok(EXAMPLE.to_vec()));
-    tally.same("side 0, read", sides_read(&EXAMPLE), [(0, 0); 2]);
-    for side in 1..=26 {
-        let (rate, rest) = EXAMPLE.split_at(7);
-        let record = [rate, &[6, 0, 1, side], rest].concat();
-        let number = u32::from(side);
-        tally.same(
-            &format!("side {side}, read"),
-            sides_read(&record),
-            [(0, number); 2],
-        );
-        tally.same(&format!("side {side}"), example(number), Ok(record));
+    // In the wide form the tag of the positions' field is another, and for this run nothing else.
+    for form in both {
+        let mut record = EXAMPLE;
+        record[12] = form as u8;
+        let what = format!("side 0, form {form}");
+        tally.same(&what, example(0, form), Ok(record.to_vec()));
+        tally.same(&what, both_readings(&record), [(0, 0, form); 2]);
+        for side in 1..=26 {
+            let (rate, rest) = record.split_at(7);
+            let record = [rate, &[6, 0, 1, side], rest].concat();
+            let (what, side) = (format!("side {side}, form {form}"), u32::from(side));
+            tally.same(&what, both_readings(&record), [(0, side, form); 2]);
+            tally.same(&what, example(side, form), Ok(record));
+        }
+        tally.same("side 27", example(27, form), Err((21, 0)));
     }
-    tally.same("side 27", example(27), Err((21, 0)));
 
     // A ratio that was last seen 127 places back, and one 128 back.
     for (back, last) in [(127, Some(0x7E)), (128, None)] {

@@ -1,9 +1,9 @@
-//! Document 01, and of document 02 the call explain (No. 1) and the side of the disc (No. 2),
-//! written out plainly: every call with its whole answer and outputs. It is meant to be compared
-//! with the documents line by line, not to be fast.
+//! Document 01, and of document 02 the call explain (No. 1), the side of the disc (No. 2) and the
+//! wide form (No. 3), written out plainly: every call with its whole answer and outputs. It is
+//! meant to be compared with the documents line by line, not to be fast.
 
-use crate::answers::WINDOW;
 use crate::answers::{Cursor, Explained, Kind, Live, Making, Reading, Span, Stepped, Written};
+use crate::answers::{OLD, WIDE, WINDOW};
 
 const RATES: [u32; 6] = [44_100, 48_000, 88_200, 96_000, 176_400, 192_000];
 const LAST_SIDE: u32 = 26;
@@ -40,23 +40,55 @@ const fn row(least: i128, most: i128, prefix: &'static str, width: usize) -> Row
     }
 }
 
-const ROWS: [Row; 5] = [
-    row(0, 0, "0", 0),
-    row(-63, 64, "10", 7),
-    row(-255, 256, "110", 9),
-    row(-2047, 2048, "1110", 12),
-    row(-(1 << 31) + 1, 1 << 31, "1111", 32),
-];
+/// A form of a record: the tag of its positions' field, its table of steps, and the most points.
+struct Form {
+    tag: u8,
+    rows: &'static [Row],
+    most_points: usize,
+}
+
+const OLD_FORM: Form = Form {
+    tag: OLD as u8,
+    rows: &[
+        row(0, 0, "0", 0),
+        row(-63, 64, "10", 7),
+        row(-255, 256, "110", 9),
+        row(-2047, 2048, "1110", 12),
+        row(-(1 << 31) + 1, 1 << 31, "1111", 32),
+    ],
+    most_points: MOST_POINTS,
+};
+
+const WIDE_FORM: Form = Form {
+    tag: WIDE as u8,
+    rows: &[
+        row(0, 0, "0", 0),
+        row(-63, 64, "10", 7),
+        row(-255, 256, "110", 9),
+        row(-2047, 2048, "1110", 12),
+        row(-(1 << 31) + 1, 1 << 31, "11110", 32),
+        row(-(1 << 63), (1 << 63) - 1, "11111", 64),
+    ],
+    most_points: 3_500,
+};
+
+/// The form that a number names: 5 the wide one, every other the old one.
+fn form_of(number: u32) -> &'static Form {
+    match number {
+        WIDE => &WIDE_FORM,
+        _ => &OLD_FORM,
+    }
+}
 
 fn step_at(positions: &[u64], n: usize) -> i128 {
     let t = |k: usize| i128::from(positions[k]);
     (t(n) - t(n - 1)) - (t(n - 1) - t(n - 2))
 }
 
-/// The first row that holds the step.
-fn first_row(step: i128) -> Option<&'static Row> {
-    ROWS.iter()
-        .find(|row| row.least <= step && step <= row.most)
+/// The first row of a form that holds the step.
+fn first_row(form: &Form, step: i128) -> Option<&'static Row> {
+    let mut rows = form.rows.iter();
+    rows.find(|row| row.least <= step && step <= row.most)
 }
 
 /// Lays the low `width` bits of a number, top bit first.
@@ -75,15 +107,15 @@ fn take(bits: &mut impl Iterator<Item = bool>, width: usize) -> Option<u64> {
     Some(number)
 }
 
-/// The coding of positions, or nothing where a step is outside the table.
-fn code_positions(positions: &[u64]) -> Option<Vec<u8>> {
+/// The coding of positions in a form, or nothing where a step is outside its table.
+fn code_positions(form: &Form, positions: &[u64]) -> Option<Vec<u8>> {
     let mut bits = Vec::new();
     for (n, &position) in positions.iter().enumerate() {
         if n < 2 {
             lay(&mut bits, position, 64);
         } else {
             let step = step_at(positions, n);
-            let row = first_row(step)?;
+            let row = first_row(form, step)?;
             bits.extend(row.prefix.bytes().map(|digit| digit == b'1'));
             lay(&mut bits, step as u64, row.width);
         }
@@ -96,12 +128,12 @@ fn code_positions(positions: &[u64]) -> Option<Vec<u8>> {
 }
 
 /// Reads a step: a prefix names the row, and its bits mean the one number inside the row's range.
-fn take_step(bits: &mut impl Iterator<Item = bool>) -> Option<i128> {
+fn take_step(form: &Form, bits: &mut impl Iterator<Item = bool>) -> Option<i128> {
     let mut ones = 0;
-    while ones < 4 && bits.next()? {
+    while ones < form.rows.len() - 1 && bits.next()? {
         ones += 1;
     }
-    let row = &ROWS[ones];
+    let row = &form.rows[ones];
     let low = i128::from(take(bits, row.width)?);
     Some(if low <= row.most {
         low
@@ -110,8 +142,9 @@ fn take_step(bits: &mut impl Iterator<Item = bool>) -> Option<i128> {
     })
 }
 
-/// The positions that a body codes, or nothing where it is not the coding of `count` positions.
-fn decode_positions(body: &[u8], count: usize) -> Option<Vec<u64>> {
+/// The positions that a body codes in a form, or nothing where it is not the coding of `count`
+/// positions.
+fn decode_positions(form: &Form, body: &[u8], count: usize) -> Option<Vec<u64>> {
     let mut bits = body
         .iter()
         .flat_map(|byte| (0..8).rev().map(move |height| byte >> height & 1 == 1));
@@ -121,7 +154,7 @@ fn decode_positions(body: &[u8], count: usize) -> Option<Vec<u64>> {
             i128::from(take(&mut bits, 64)?)
         } else {
             let (last, before) = (i128::from(positions[n - 1]), i128::from(positions[n - 2]));
-            last + (last - before) + take_step(&mut bits)?
+            last + (last - before) + take_step(form, &mut bits)?
         };
         if position < 0 || position > i128::from(LAST_POSITION) {
             return None;
@@ -129,7 +162,7 @@ fn decode_positions(body: &[u8], count: usize) -> Option<Vec<u64>> {
         positions.push(position as u64);
     }
     // A wrong row, a 1 among the fill bits and a byte too many all show here.
-    let same = code_positions(&positions).is_some_and(|coding| coding == body);
+    let same = code_positions(form, &positions).is_some_and(|coding| coding == body);
     same.then_some(positions)
 }
 
@@ -223,8 +256,14 @@ fn field(tag: u8, body: &[u8]) -> Vec<u8> {
     field
 }
 
-/// The record of a run, or the first refusal among 1, 21 and 2 to 5.
-fn record(rate: u32, side: u32, positions: &[u64], ratios: &[u64]) -> Result<Vec<u8>, Refusal> {
+/// The record of a run in a form, or the first refusal among 1, 21 and 2 to 5.
+fn record(
+    rate: u32,
+    side: u32,
+    form: &Form,
+    positions: &[u64],
+    ratios: &[u64],
+) -> Result<Vec<u8>, Refusal> {
     if !RATES.contains(&rate) {
         return refuse(1, 0);
     }
@@ -234,13 +273,14 @@ fn record(rate: u32, side: u32, positions: &[u64], ratios: &[u64]) -> Result<Vec
     if positions.len() != ratios.len() {
         return refuse(2, 0);
     }
-    if positions.len() > MOST_POINTS {
+    if positions.len() > form.most_points {
         return refuse(3, 0);
     }
     if let Some(index) = positions.iter().position(|&t| t > LAST_POSITION) {
         return refuse(4, index);
     }
-    let outside = |&n: &usize| first_row(step_at(positions, n)).is_none();
+    // The wide table holds every step between positions.
+    let outside = |&n: &usize| first_row(form, step_at(positions, n)).is_none();
     if let Some(index) = (2..positions.len()).find(outside) {
         return refuse(5, index);
     }
@@ -248,12 +288,12 @@ fn record(rate: u32, side: u32, positions: &[u64], ratios: &[u64]) -> Result<Vec
         0 => Vec::new(),
         _ => field(6, &[side as u8]),
     };
-    let coded_positions = code_positions(positions).unwrap_or_default();
+    let coded_positions = code_positions(form, positions).unwrap_or_default();
     Ok([
         field(1, &rate.to_be_bytes()),
         side_field,
         field(2, &(positions.len() as u16).to_be_bytes()),
-        field(3, &coded_positions),
+        field(form.tag, &coded_positions),
         field(4, &code_ratios(ratios)),
     ]
     .concat())
@@ -287,28 +327,45 @@ fn put(bytes: Result<Vec<u8>, Refusal>, out: &mut [u8]) -> Written {
     }
 }
 
-pub fn write(rate: u32, side: u32, positions: &[u64], ratios: &[u64], out: &mut [u8]) -> Written {
-    put(record(rate, side, positions, ratios), out)
+pub fn write(
+    rate: u32,
+    side: u32,
+    form: u32,
+    positions: &[u64],
+    ratios: &[u64],
+    out: &mut [u8],
+) -> Written {
+    put(record(rate, side, form_of(form), positions, ratios), out)
 }
 
 // Reading
 
-/// The body of the field at an offset, tested for 10, 11, 12 and 10 in that order.
-fn body(record: &[u8], at: usize, tag: u8, length: Option<usize>) -> Result<&[u8], Refusal> {
-    let Some(&[found_tag, high, low]) = record.get(at..at + 3) else {
+/// The tag of the field at an offset and the length that it states, tested for 10 and 11.
+fn head(record: &[u8], at: usize, tags: &[u8]) -> Result<(u8, usize), Refusal> {
+    let Some(&[tag, high, low]) = record.get(at..at + 3) else {
         return refuse(10, at);
     };
-    if found_tag != tag {
+    if !tags.contains(&tag) {
         return refuse(11, at);
     }
-    let found_length = usize::from(u16::from_be_bytes([high, low]));
-    if length.is_some_and(|length| length != found_length) {
-        return refuse(12, at);
-    }
-    match record.get(at + 3..at + 3 + found_length) {
+    Ok((tag, number(&[high, low])))
+}
+
+/// The body of the field at an offset, which states its length, tested for 10.
+fn body(record: &[u8], at: usize, length: usize) -> Result<&[u8], Refusal> {
+    match record.get(at + 3..at + 3 + length) {
         Some(body) => Ok(body),
         None => refuse(10, at),
     }
+}
+
+/// The body of a field that must have this length, tested for 10, 11, 12 and 10 in that order.
+fn fixed_body(record: &[u8], at: usize, tag: u8, length: usize) -> Result<&[u8], Refusal> {
+    let (_, stated) = head(record, at, &[tag])?;
+    if stated != length {
+        return refuse(12, at);
+    }
+    body(record, at, length)
 }
 
 fn number(bytes: &[u8]) -> usize {
@@ -321,15 +378,16 @@ fn number(bytes: &[u8]) -> usize {
 struct Run {
     rate: u32,
     side: u32,
+    form: &'static Form,
     positions: Vec<u64>,
     ratios: Vec<u64>,
     used: usize,
 }
 
 /// Reads a record; `room` is the length of the shorter output.
-fn run(record: &[u8], expected: u32, room: usize, form: FormReader) -> Result<Run, Refusal> {
+fn run(record: &[u8], expected: u32, room: usize, ratio_form: FormReader) -> Result<Run, Refusal> {
     let at = 0;
-    let rate_body = body(record, at, 1, Some(4))?;
+    let rate_body = fixed_body(record, at, 1, 4)?;
     let rate = number(rate_body) as u32;
     if !RATES.contains(&rate) {
         return refuse(13, at);
@@ -341,14 +399,15 @@ fn run(record: &[u8], expected: u32, room: usize, form: FormReader) -> Result<Ru
     // A side, where the tag is its own, or else the count.
     let mut side = 0;
     if record.get(at) == Some(&6) {
-        let side_body = body(record, at, 6, Some(1))?;
+        let side_body = fixed_body(record, at, 6, 1)?;
         side = number(side_body) as u32;
         if side == 0 || side > LAST_SIDE {
             return refuse(20, at);
         }
         at += 3 + side_body.len();
     }
-    let count_body = body(record, at, 2, Some(2))?;
+    let count_at = at;
+    let count_body = fixed_body(record, at, 2, 2)?;
     let count = number(count_body);
     if count > MOST_POINTS {
         return refuse(15, at);
@@ -357,18 +416,26 @@ fn run(record: &[u8], expected: u32, room: usize, form: FormReader) -> Result<Ru
         return refuse(16, at);
     }
     let at = at + 3 + count_body.len();
-    let positions_body = body(record, at, 3, None)?;
-    let Some(positions) = decode_positions(positions_body, count) else {
+    let (tag, length) = head(record, at, &[OLD_FORM.tag, WIDE_FORM.tag])?;
+    let form = form_of(u32::from(tag));
+    // Only the tag tells the form, and with it the count's limit.
+    if count > form.most_points {
+        return refuse(15, count_at);
+    }
+    let positions_body = body(record, at, length)?;
+    let Some(positions) = decode_positions(form, positions_body, count) else {
         return refuse(17, at);
     };
     let at = at + 3 + positions_body.len();
-    let ratios_body = body(record, at, 4, None)?;
-    let Some(ratios) = decode_ratios(ratios_body, count, form) else {
+    let (_, length) = head(record, at, &[4])?;
+    let ratios_body = body(record, at, length)?;
+    let Some(ratios) = decode_ratios(ratios_body, count, ratio_form) else {
         return refuse(18, at);
     };
     Ok(Run {
         rate,
         side,
+        form,
         positions,
         ratios,
         used: at + 3 + ratios_body.len(),
@@ -380,10 +447,10 @@ fn read(
     record: &[u8],
     positions: &mut [u64],
     ratios: &mut [u64],
-    form: FormReader,
+    ratio_form: FormReader,
 ) -> Reading {
     let room = positions.len().min(ratios.len());
-    match run(record, expected, room, form) {
+    match run(record, expected, room, ratio_form) {
         Ok(run) => {
             let count = run.positions.len();
             positions[..count].copy_from_slice(&run.positions);
@@ -394,6 +461,7 @@ fn read(
                 rate: run.rate,
                 side: run.side,
                 count: count as u32,
+                form: u32::from(run.form.tag),
                 used: run.used as u64,
             }
         }
@@ -406,6 +474,7 @@ fn read(
                 rate: 0,
                 side: 0,
                 count: 0,
+                form: 0,
                 used: 0,
             }
         }

@@ -1,13 +1,14 @@
 /* What the library says to the examples of docs/FORMAT.md, in the words of that page.
    record BYTE..                   strict reading, with room for three points: all that it gives, a line each
-   reading RATE ROOM ROOM BYTE..   strict and open reading, a line each, `10 at 0`, `taken` or `taken, side 4`, with this rate
-                                   expected and room for so many positions and ratios
-   writing RATE SIDE NUMBER NUMBER ROOM   the record of so many positions and ratios, all 0, with room for so many bytes, or the refusal
-   longest SIDE                    a longest record of this side, as it stands
+   reading RATE ROOM ROOM BYTE..   strict and open reading, a line each, `10 at 0`, `taken` or `taken, side 4, wide form`, with this
+                                   rate expected and room for so many positions and ratios
+   writing RATE SIDE FORM NUMBER NUMBER ROOM   the record of so many positions and ratios, all 0, with room for so many bytes, or the refusal
+   longest SIDE FORM               a longest record of this side and form, as it stands
    bounds                          of sides, points and records, as the header has them
-   step NUMBER                     the bits that a third position with this step adds to the body, or the refusal
-   coded POSITION..                the body of the positions' field of these positions
-   positions COUNT BYTE..          the positions of this body of the positions' field, or the refusal's number
+   forms                           the numbers of the old and of the wide form, as the header has them
+   step FORM NUMBER                the bits that a third position with this step adds to the body, or the refusal
+   coded FORM POSITION..           the body of the positions' field of these positions, or the refusal
+   positions FORM COUNT BYTE..     the positions of this body of the positions' field, or the refusal's number
    form RATIO..                    the bytes of the last of these ratios
    ratios COUNT BYTE..             the ratios of this body of the ratios' field, read strictly and openly, a line each
    reason INDEX RATIO..            why the ratio of this index has its form, or the refusal
@@ -58,7 +59,7 @@ static void number(uint64_t value, int size)
 }
 
 /* The fields of rate and count, and the head of the positions' field. */
-static void begin(size_t count, size_t positions_length)
+static void begin(uint32_t form, size_t count, size_t positions_length)
 {
     if (count > POINTS || body_length > LENGTH) {
         exit(2);
@@ -67,7 +68,7 @@ static void begin(size_t count, size_t positions_length)
     number(UINT64_C(0x01000400017700), 7);
     number(UINT64_C(0x020002), 3);
     number(count, 2);
-    number(3, 1);
+    number(form, 1);
     number(positions_length, 2);
 }
 
@@ -114,9 +115,9 @@ static void record(char **words)
     farigolenc_read_answer read;
     length = take_bytes(words, bytes);
     read = farigolenc_read_strict(0, bytes, length, positions, 3, ratios, 3);
-    printf("number %" PRIu32 "\nplace %" PRIu32 "\nrate %" PRIu32 "\nside %" PRIu32 "\ncount %" PRIu32 "\nused %" PRIu64
-           "\npositions ",
-           read.number, read.place, read.rate, read.side, read.count, read.used);
+    printf("number %" PRIu32 "\nplace %" PRIu32 "\nrate %" PRIu32 "\nside %" PRIu32 "\ncount %" PRIu32 "\nform %" PRIu32
+           "\nused %" PRIu64 "\npositions ",
+           read.number, read.place, read.rate, read.side, read.count, read.form, read.used);
     print_positions(read.count);
     printf("ratios ");
     print_ratios(read.count);
@@ -148,9 +149,12 @@ static void both_readings(uint32_t expected, size_t positions_room, size_t ratio
             if (read.side != 0) {
                 printf(", side %" PRIu32, read.side);
             }
+            if (read.form != FARIGOLENC_OLD) {
+                printf(read.form == FARIGOLENC_WIDE ? ", wide form" : ", with a wrong form");
+            }
             putchar('\n');
-        } else if (read.rate == 0 && read.side == 0 && read.count == 0 && read.used == 0 && cleared(positions, positions_room, held) &&
-                   cleared(ratios, ratios_room, held)) {
+        } else if (read.rate == 0 && read.side == 0 && read.count == 0 && read.form == 0 && read.used == 0 &&
+                   cleared(positions, positions_room, held) && cleared(ratios, ratios_room, held)) {
             printf("%" PRIu32 " at %" PRIu32 "\n", read.number, read.place);
         } else {
             printf("%" PRIu32 " at %" PRIu32 ", and not cleared\n", read.number, read.place);
@@ -158,7 +162,12 @@ static void both_readings(uint32_t expected, size_t positions_room, size_t ratio
     }
 }
 
-static void writing(uint32_t rate, uint32_t side, size_t positions_count, size_t ratios_count, size_t room)
+static void print_refusal(farigolenc_write_answer written)
+{
+    printf("refused %" PRIu32 " at %" PRIu32 "\n", written.number, written.place);
+}
+
+static void writing(uint32_t rate, uint32_t side, uint32_t form, size_t positions_count, size_t ratios_count, size_t room)
 {
     static const uint64_t zeros[POINTS + 1];
     farigolenc_write_answer written;
@@ -167,11 +176,11 @@ static void writing(uint32_t rate, uint32_t side, size_t positions_count, size_t
         exit(2);
     }
     memset(bytes, 0xA5, sizeof bytes);
-    written = farigolenc_write(rate, side, zeros, positions_count, zeros, ratios_count, bytes, room);
+    written = farigolenc_write(rate, side, form, zeros, positions_count, zeros, ratios_count, bytes, room);
     if (written.number == 0) {
         print_bytes(bytes, (size_t)written.length);
     } else {
-        printf("refused %" PRIu32 " at %" PRIu32 "\n", written.number, written.place);
+        print_refusal(written);
     }
     for (i = written.number == 0 ? (size_t)written.length : 0; i < sizeof bytes; i++) {
         if (bytes[i] != (written.number != 0 && i < room ? 0 : 0xA5)) {
@@ -181,26 +190,28 @@ static void writing(uint32_t rate, uint32_t side, size_t positions_count, size_t
     }
 }
 
-/* Each step is in the last row. Each ratio is an exception: it has eight times the same byte, which comes back after 200 ratios. */
-static void longest(uint32_t side)
+/* Each step is in the form's last row. Each ratio is an exception: it has eight times the same byte, which comes back after 200 ratios. */
+static void longest(uint32_t side, uint32_t form)
 {
+    const int wide = form == FARIGOLENC_WIDE;
+    const size_t count = wide ? FARIGOLENC_WIDE_POINTS : POINTS;
     farigolenc_write_answer written;
     size_t i;
-    for (i = 0; i < POINTS; i++) {
-        positions[i] = (uint64_t)(i % 2) << 20;
+    for (i = 0; i < count; i++) {
+        positions[i] = (uint64_t)(i % 2) << (wide ? 40 : 20);
         ratios[i] = (i % 200 + 1) * UINT64_C(0x0101010101010101);
     }
-    written = farigolenc_write(96000, side, positions, POINTS, ratios, POINTS, bytes, sizeof bytes);
+    written = farigolenc_write(96000, side, form, positions, count, ratios, count, bytes, sizeof bytes);
     fwrite(bytes, 1, (size_t)written.length, stdout);
 }
 
-static void step(int64_t step)
+static void step(uint32_t form, int64_t step)
 {
     const uint64_t middle = UINT64_C(1) << 40, run[3] = {middle, middle, middle + (uint64_t)step};
-    farigolenc_write_answer written = farigolenc_write(48000, 0, run, 3, ratios, 3, bytes, sizeof bytes);
+    farigolenc_write_answer written = farigolenc_write(48000, 0, form, run, 3, ratios, 3, bytes, sizeof bytes);
     size_t i;
     if (written.number != 0) {
-        printf("refused %" PRIu32 " at %" PRIu32 "\n", written.number, written.place);
+        print_refusal(written);
         return;
     }
     for (i = 8 * 31; i < 8 * (15 + (size_t)(bytes[13] * 256 + bytes[14])); i++) {
@@ -209,8 +220,9 @@ static void step(int64_t step)
     putchar('\n');
 }
 
-static void coded(size_t count, char **words)
+static void coded(uint32_t form, size_t count, char **words)
 {
+    farigolenc_write_answer written;
     size_t i;
     if (count > POINTS) {
         exit(2);
@@ -218,8 +230,10 @@ static void coded(size_t count, char **words)
     for (i = 0; i < count; i++) {
         positions[i] = decimal(words[i]);
     }
-    if (farigolenc_write(48000, 0, positions, count, ratios, count, bytes, sizeof bytes).number != 0) {
-        exit(2);
+    written = farigolenc_write(48000, 0, form, positions, count, ratios, count, bytes, sizeof bytes);
+    if (written.number != 0) {
+        print_refusal(written);
+        return;
     }
     print_bytes(bytes + 15, (size_t)(bytes[13] * 256 + bytes[14]));
 }
@@ -235,11 +249,11 @@ static void form(char **words)
 }
 
 /* A record with this body of positions, and ratios that are all 0. */
-static void body_of_positions(size_t count)
+static void body_of_positions(uint32_t form, size_t count)
 {
     const size_t ratios_length = count == 0 ? 0 : 8 + count;
     int open;
-    begin(count, body_length);
+    begin(form, count, body_length);
     put_body();
     number(4, 1);
     number(ratios_length, 2);
@@ -252,7 +266,7 @@ static void body_of_positions(size_t count)
         farigolenc_read_answer read = read_all(open);
         if (read.number != 0) {
             printf("%" PRIu32 "\n", read.number);
-        } else {
+        } else if (read.form == form) {
             print_positions(read.count);
         }
     }
@@ -263,7 +277,7 @@ static void body_of_ratios(size_t count)
 {
     const size_t positions_length = count < 2 ? 8 * count : 16 + (count - 2 + 7) / 8;
     int open;
-    begin(count, positions_length);
+    begin(FARIGOLENC_OLD, count, positions_length);
     memset(bytes + length, 0, positions_length);
     length += positions_length;
     number(4, 1);
@@ -326,10 +340,10 @@ static void reader(char **words)
 }
 
 /* What is lent, by types that the header's declarations must have. */
-typedef uint32_t lent_rate, lent_side;
+typedef uint32_t lent_rate, lent_side, lent_form;
 typedef uint64_t lent_point, lent_count, lent_index;
 static farigolenc_write_answer (*const write_call)(
-    lent_rate, lent_side, const lent_point *, size_t, const lent_point *, size_t, uint8_t *, size_t) = farigolenc_write;
+    lent_rate, lent_side, lent_form, const lent_point *, size_t, const lent_point *, size_t, uint8_t *, size_t) = farigolenc_write;
 static farigolenc_read_answer (*const read_calls[2])(
     lent_rate, const uint8_t *, size_t, lent_point *, size_t, lent_point *, size_t) = {farigolenc_read_strict, farigolenc_read_open};
 static farigolenc_span_answer (*const span_call)(lent_rate, const lent_point *, size_t) = farigolenc_span;
@@ -347,6 +361,7 @@ static void widths(void)
 {
     lent_rate rate;
     lent_side side;
+    lent_form form;
     lent_point point;
     lent_count count;
     lent_index index;
@@ -362,6 +377,7 @@ static void widths(void)
         exit(2);
     }
     SAME(rate, side);
+    SAME(rate, form);
     WIDTH(rate);
     WIDTH(point);
     SAME(read.number, read.place);
@@ -378,6 +394,7 @@ static void widths(void)
     WIDTH(read.number);
     SAME(read.rate, read.side);
     SAME(read.rate, read.count);
+    SAME(read.rate, read.form);
     WIDTH(read.rate);
     WIDTH(written.length);
     WIDTH(read.used);
@@ -410,19 +427,22 @@ int main(int count, char **words)
             return 2;
         }
         both_readings(strcmp(words[2], "none") == 0 ? 0 : (uint32_t)decimal(words[2]), (size_t)room[0], (size_t)room[1]);
-    } else if (strcmp(mode, "writing") == 0 && count == 7) {
-        writing((uint32_t)decimal(words[2]), (uint32_t)decimal(words[3]), (size_t)decimal(words[4]), (size_t)decimal(words[5]), (size_t)decimal(words[6]));
-    } else if (strcmp(mode, "longest") == 0 && count == 3) {
-        longest((uint32_t)decimal(words[2]));
+    } else if (strcmp(mode, "writing") == 0 && count == 8) {
+        writing((uint32_t)decimal(words[2]), (uint32_t)decimal(words[3]), (uint32_t)decimal(words[4]), (size_t)decimal(words[5]), (size_t)decimal(words[6]),
+                (size_t)decimal(words[7]));
+    } else if (strcmp(mode, "longest") == 0 && count == 4) {
+        longest((uint32_t)decimal(words[2]), (uint32_t)decimal(words[3]));
     } else if (strcmp(mode, "bounds") == 0) {
-        printf("side\t0 to %d\npoints\t0 to %d\nrecord\t18 to %d bytes\n", FARIGOLENC_SIDES, FARIGOLENC_POINTS, FARIGOLENC_RECORD);
-    } else if (strcmp(mode, "step") == 0 && count == 3) {
-        step(strtoll(words[2], NULL, 10));
-    } else if (strcmp(mode, "coded") == 0) {
-        coded((size_t)count - 2, words + 2);
-    } else if (strcmp(mode, "positions") == 0 && count > 3) {
-        body_length = take_bytes(words + 3, body);
-        body_of_positions((size_t)decimal(words[2]));
+        printf("side\t0 to %d\npoints\t0 to %d\t0 to %d\nrecord\t%d\n", FARIGOLENC_SIDES, FARIGOLENC_POINTS, FARIGOLENC_WIDE_POINTS, FARIGOLENC_RECORD);
+    } else if (strcmp(mode, "forms") == 0) {
+        printf("old\t%d\nwide\t%d\n", FARIGOLENC_OLD, FARIGOLENC_WIDE);
+    } else if (strcmp(mode, "step") == 0 && count == 4) {
+        step((uint32_t)decimal(words[2]), strtoll(words[3], NULL, 10));
+    } else if (strcmp(mode, "coded") == 0 && count > 3) {
+        coded((uint32_t)decimal(words[2]), (size_t)count - 3, words + 3);
+    } else if (strcmp(mode, "positions") == 0 && count > 4) {
+        body_length = take_bytes(words + 4, body);
+        body_of_positions((uint32_t)decimal(words[2]), (size_t)decimal(words[3]));
     } else if (strcmp(mode, "form") == 0) {
         form(words + 2);
     } else if (strcmp(mode, "ratios") == 0 && count > 3) {

@@ -16,7 +16,7 @@ use Rattle.record_format.specs.declared.ReadAnswer.{ReadAnswer}
 use Rattle.record_format.proofs.Writing.{accepted-fits, fitting-few}
 use Rattle.record_format.proofs.Sizes.{within}
 use Rattle.record_format.proofs.Claims.{reads-back, reads-only, with-room}
-use Rattle.inputs.specs.Inputs.{inputLimit, blank, readInput}
+use Rattle.inputs.specs.Inputs.{inputLimit, blank, readInput, ReadsFar}
 
 -- ---- what strict reading of the bytes s left: it answered r, and the outputs are ts and vs
 
@@ -105,3 +105,14 @@ reads-no-other s b never e =
     let r = reads-only 0 l blank blank (below-take 256 inputLimit s b) e in
     never (r .0) (r .1)
     (r .2 .0 ++ drop inputLimit s, sym (take-append-drop inputLimit s) ∙ ap (λ (x : List ℕ). x ++ drop inputLimit s) (r .2 .1) ∙ append-assoc (recordOf (r .0)) (r .2 .0) (drop inputLimit s))
+
+-- ---- how far
+
+read-all-of : (s : List ℕ) → length s ≤ inputLimit → readInput s ≡ readStrict 0 s blank blank
+read-all-of s h = ap (λ (l : List ℕ). readStrict 0 l blank blank) (take-all inputLimit s h)
+
+pub reads-far : ReadsFar
+reads-far s = (
+  read-all-of s,
+  λ rest h. ap (λ (l : List ℕ). readStrict 0 l blank blank) (take-at s rest inputLimit h) ∙ sym (read-all-of s (omega (arith, h))),
+)

@@ -2,9 +2,11 @@
 --   inputLimit      how many bytes a program reads at most
 --   blank           an output with room for every run, all 0
 --   readInput s     the reading of the input s: at most inputLimit bytes of it, strictly, with no rate expected
-use mathlib.Core.List.{List}
-use Prim.Native.Nat.{ℕ, _^_}
-use lib.ListN.{take, replicate}
+--   ReadsFar        input up to 65,536 bytes is read whole, and bytes past these change nothing; proved in proofs/Inputs
+use mathlib.Core.List.{List, _++_}
+use mathlib.Core.Path.{_≡_}
+use Prim.Native.Nat.{ℕ, _^_, _≤_}
+use lib.ListN.{length, take, replicate}
 use Rattle.limits.specs.Points.{maxPoints}
 use Rattle.record_format.specs.Reading.{Answer, readStrict}
 
@@ -19,3 +21,9 @@ blank = replicate maxPoints 0
 -- what reading answers of the bytes that a program reads
 abbrev pub readInput : List ℕ → Answer
 readInput s = readStrict 0 (take inputLimit s) blank blank
+
+-- as far as 64 KiB, and no further
+abbrev pub ReadsFar : Type 0
+ReadsFar = (s : List ℕ)
+    → (length s ≤ 65536 → readInput s ≡ readStrict 0 s blank blank)
+    × ((rest : List ℕ) → length s ≡ 65536 → readInput (s ++ rest) ≡ readInput s)

@@ -1,21 +1,18 @@
 -- What the program prints of a run's record, and of all other input.
-use mathlib.Core.Path.{_≡_, refl, sym, ap, ap₂, _∙_}
+use mathlib.Core.Path.{_≡_, refl, ap, ap₂, _∙_}
 use mathlib.Core.List.{List}
 use Prim.Native.Nat.{ℕ}
-use native.Mathlib.Omega.{arith}
 use borrow.Author.Tests.{ne-eqb}
 use lib.ListN.{length}
-use lib.Seq.{take-at, take-all}
 use Rattle.record_format.specs.Claims.{Accepted, ownAnswer}
-use Rattle.record_format.specs.Reading.{readStrict}
 use Rattle.record_format.specs.Runs.{Run}
 use Rattle.record_format.proofs.Writing.{accepted-fits}
 use Rattle.span.specs.Spans.{spanned}
 use Rattle.text.specs.Lines.{listing}
-use Rattle.inputs.specs.Inputs.{inputLimit, blank, readInput}
+use Rattle.inputs.specs.Inputs.{blank, readInput}
 use Rattle.inputs.proofs.Inputs.{over-front, reads-record, reads-no-other}
 use Rattle.listing.specs.Printed.{runText, textOf}
-use Rattle.listing.specs.Claims.{listingOf, PrintsRun, PrintsOnly, PrintsCut}
+use Rattle.listing.specs.Claims.{listingOf, PrintsRun, PrintsOnly}
 
 -- the text of a run's own answer
 own-text : (r : Run) → Accepted r → textOf (ownAnswer r blank blank) ≡ listingOf r
@@ -33,8 +30,3 @@ unfolding textOf
 prints-only s b never =
     let n = reads-no-other s b never in
     (n, rw (ne-eqb (readInput s .answer .number) 0 n))
-
--- the input is cut first
-pub prints-cut : PrintsCut
-prints-cut s rest h =
-    ap (λ (l : List ℕ). textOf (readStrict 0 l blank blank)) (take-at s rest inputLimit h ∙ sym (take-all inputLimit s (omega (arith, h))))

@@ -4,12 +4,10 @@
 --   PrintsRun     of input that begins with the record of an accepted run the program prints that run's listing, whatever follows
 --   PrintsListed  of document 01's 46 bytes it prints the output that document 01 gives in full, of the same run on side 4 that output with
 --                 `side 4` after the rate, of a run in the wide form the like, and of no input the line `refused 10 at 0`
---   PrintsCut     bytes past the first 65,536 change nothing
 --   PrintsOnly    of input that begins with no accepted run's record it prints the line of a refusal, whose number is not 0
 use mathlib.Core.List.{List, [], _++_}
 use mathlib.Core.Path.{_≡_}
 use Prim.Native.Nat.{ℕ}
-use lib.ListN.{length}
 use Rattle.record_format.specs.Claims.{Accepted, Beginning, Bytes}
 use Rattle.record_format.specs.Examples.{listedBytes, sidedBytes, pausedBytes}
 use Rattle.record_format.specs.Runs.{Run, recordOf}
@@ -35,7 +33,3 @@ PrintsOnly = (s : List ℕ) → Bytes s → ((r : Run) → Accepted r → Beginn
 -- document 01's example, the same on a side, a run in the wide form, and no input
 abbrev pub PrintsListed : Type 0
 PrintsListed = (printed listedBytes ≡ listedText) × (printed sidedBytes ≡ sidedText) × (printed pausedBytes ≡ pausedText) × (printed [] ≡ refusedText)
-
--- 64 KiB are read
-abbrev pub PrintsCut : Type 0
-PrintsCut = (s rest : List ℕ) → length s ≡ 65536 → printed (s ++ rest) ≡ printed s

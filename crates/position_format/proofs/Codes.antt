@@ -15,7 +15,7 @@ use Rattle.lists.proofs.Below.{below-append}
 use Rattle.bits.proofs.Digits.{below-digits, two⁺, length-digits}
 use Rattle.lists.proofs.Compare.{both-true}
 use Rattle.lists.specs.Lists.{firstIndex}
-use Rattle.lists.proofs.Lists.{every, first-le, first-next, first-found, first-at, first-below}
+use Rattle.lists.proofs.Lists.{every, first-next, first-found, first-at, first-below}
 use Rattle.position_format.specs.Rows.{Row, holds, inTable, residue, codeIn, codeLength, code, rowOf, noRow}
 use Rattle.position_format.proofs.Lists.{every-at}
 use Rattle.position_format.proofs.Rows.{goodTable, good-bits}
@@ -51,16 +51,13 @@ inTable-test rs z = go (inTable rs z) refl
         let n : (rowOf rs z < length rs → ⊥) = λ h. false≢true (sym e ∙ row-inTable rs z h) in
         le-ltb (rowOf rs z) (length rs) (omega arith)
 
--- by the test of row i, where no row before it holds z: it is the first, or a later one is, or there is none
+-- by the test of row i, where no row before it holds z: it is the first, or a later one is
 module _ (rs : List Row) (z : ℤ) (i : ℕ) (i≤ : i ≤ rowOf rs z) where
   pub row-found : i < length rs → holds (getD rs i noRow) z ≡ true → i ≡ rowOf rs z
   row-found h e = sym (first-found (λ (r : Row). holds r z) noRow rs i h i≤ e)
 
   pub row-later : i < length rs → holds (getD rs i noRow) z ≡ false → suc i ≤ rowOf rs z
   row-later h e = first-next (λ (r : Row). holds r z) noRow rs i h i≤ e
-
-  pub row-none : length rs ≤ i → i ≡ rowOf rs z
-  row-none h = omega (arith, first-le (λ (r : Row). holds r z) rs)
 
 module _ (d : Row) (z : ℤ) where
   -- it is the row of index i when that row holds z and no row before it does

@@ -1,8 +1,8 @@
 -- Tests of the elements of a list: one that holds of every element, and one that holds of none.
 use mathlib.Core.Bool.{Bool, true, false, cond}
 use mathlib.Core.List.{List, [], _∷_, _++_}
-use mathlib.Core.Path.{_≡_, refl}
-use Prim.Native.Nat.{ℕ, zero, suc, _<_}
+use mathlib.Core.Path.{_≡_, refl, ap}
+use Prim.Native.Nat.{ℕ, zero, suc, _+_, _<_}
 use native.Mathlib.Omega.{arith}
 use lib.ListN.{length, getD}
 use Rattle.lists.specs.Lists.{firstIndex}
@@ -45,3 +45,21 @@ module _ {A : Type 0} (p : A → Bool) where
   none-snoc (y ∷ l) x e f =
       let c = none-cons y l e in
       cons-none y (l ++ (x ∷ [])) (c .0) (none-snoc l x (c .1) f)
+
+-- the first element that a test holds of, in one list and then in another
+module _ {A : Type 0} (p : A → Bool) where
+  found-next : (t : Bool) (m n k : ℕ) → (m < n → k ≡ m) → cond t zero (suc m) < suc n → cond t zero (suc k) ≡ cond t zero (suc m)
+  found-next true m n k f h = refl
+  found-next false m n k f h = ap suc (f (omega arith))
+
+  pub first-in-front : (l m : List A) → firstIndex p l < length l → firstIndex p (l ++ m) ≡ firstIndex p l
+  unfolding firstIndex
+  first-in-front [] m h = absurd (omega arith)
+  first-in-front (x ∷ l) m h = found-next (p x) (firstIndex p l) (length l) (firstIndex p (l ++ m)) (first-in-front l m) h
+
+  pub first-past-front : (l m : List A) → firstIndex p l ≡ length l → firstIndex p (l ++ m) ≡ length l + firstIndex p m
+  unfolding firstIndex
+  first-past-front [] m e = omega arith
+  first-past-front (x ∷ l) m e =
+      let c = none-cons p x l e in
+      rw (c .0) (omega (arith, first-past-front l m (c .1)))

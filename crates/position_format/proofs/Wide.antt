@@ -23,7 +23,7 @@ use Rattle.position_format.specs.Steps.{stepOf, stepsFrom, steps, outsid
 use Rattle.position_format.specs.Positions.{validPositions, readPositions}
 use Rattle.position_format.specs.Tables.{tableOf, EveryStep, OldSteps, EscapedSteps, ReadsCoded}
 use Rattle.position_format.proofs.Integers.{neg-le-pos, neg-le-neg}
-use Rattle.position_format.proofs.Lists.{none-cons, cons-none}
+use Rattle.position_format.proofs.Lists.{none-cons, cons-none, first-in-front, first-past-front}
 use Rattle.position_format.proofs.Codes.{inTable-row, row-inTable, inTable-test, code-row}
 use Rattle.position_format.proofs.Positions.{read-coded, read-only}
 use Rattle.position_format.proofs.Tables.{table-good}
@@ -51,25 +51,7 @@ firstRows = take 5 wideRows
 abbrev lastRow : Row
 lastRow = getD wideRows 5 noRow
 
--- a search in one list and then in another
-module _ {A : Type 0} (p : A → Bool) where
-  found-next : (t : Bool) (m n k : ℕ) → (m < n → k ≡ m) → cond t zero (suc m) < suc n → cond t zero (suc k) ≡ cond t zero (suc m)
-  found-next true m n k f h = refl
-  found-next false m n k f h = ap suc (f (omega arith))
-
-  first-found : (l m : List A) → firstIndex p l < length l → firstIndex p (l ++ m) ≡ firstIndex p l
-  unfolding firstIndex
-  first-found [] m h = absurd (omega arith)
-  first-found (x ∷ l) m h = found-next (p x) (firstIndex p l) (length l) (firstIndex p (l ++ m)) (first-found l m) h
-
-  first-past : (l m : List A) → firstIndex p l ≡ length l → firstIndex p (l ++ m) ≡ length l + firstIndex p m
-  unfolding firstIndex
-  first-past [] m e = omega arith
-  first-past (x ∷ l) m e =
-      let c = none-cons p x l e in
-      rw (c .0) (omega (arith, first-past l m (c .1)))
-
--- it goes by the ranges of the rows alone, which are those of document 01's table
+-- which row is the first that holds a step goes by the ranges of the rows alone, which are those of document 01's table
 abbrev pub ranged : Row → Row
 ranged r = row [] (r .width) (r .low) (r .high)
 
@@ -110,7 +92,7 @@ pub old-index : (z : ℤ) → inTable rows z ≡ true → rowOf wideRows z ≡ r
 old-index z e =
     let h = inTable-row rows z e in
     ap (λ (rs : List Row). rowOf rs z) (sym wide-is)
-    ∙ first-found (λ (r : Row). holds r z) firstRows (lastRow ∷ []) (omega (arith, old-same z, rows-count, first-count))
+    ∙ first-in-front (λ (r : Row). holds r z) firstRows (lastRow ∷ []) (omega (arith, old-same z, rows-count, first-count))
     ∙ old-same z
 
 -- and where it holds none the wide one's is past them
@@ -118,7 +100,7 @@ past-old : (z : ℤ) → inTable rows z ≡ false → rowOf wideRows z ≡ 5 + r
 past-old z e =
     let none : rowOf rows z ≡ 5 = omega (arith, rows-count, first-le (λ (r : Row). holds r z) rows, ltb-false (rowOf rows z) (length rows) (inTable-test rows z ∙ e)) in
     ap (λ (rs : List Row). rowOf rs z) (sym wide-is)
-    ∙ first-past (λ (r : Row). holds r z) firstRows (lastRow ∷ []) (omega (arith, old-same z, first-count))
+    ∙ first-past-front (λ (r : Row). holds r z) firstRows (lastRow ∷ []) (omega (arith, old-same z, first-count))
     ∙ ap (λ (n : ℕ). n + rowOf (lastRow ∷ []) z) first-count
 
 -- so one of the first five rows is the first that holds z in both tables, or in neither

@@ -80,7 +80,8 @@ codeIn r z = r .prefix ++ bitsOf (r .width) (residue (r .width) z)
 abbrev pub codeLength : Row → ℕ
 codeLength r = length (r .prefix) + r .width
 
--- the code of z by the first row that holds it; no bits where none does, which test 5 shuts out in the old form, and which is never so in the wide one
+-- the code of z by the first row that holds it; no bits where none does, which test 5 shuts out in the old form, and which no step between
+-- positions in range has in the wide one
 unfoldable pub code : List Row → ℤ → List ℕ
 code [] z = []
 code (r ∷ rs) z = cond (holds r z) (codeIn r z) (code rs z)

@@ -1,4 +1,4 @@
-// Fields of coded numbers: the codings, each with its tag, its refusal, and its writer and reader of a body.
+// Fields of coded numbers: the forms' numbers, the codings, each with its tag and its writer of a body, and the readers of the two fields.
 ghost use mathlib.Core.Path.{_≡_};
 ghost use Prim.Native.Nat.{_+_, _≤_};
 ghost use lib.Dec.{leb, ltb};

@@ -1,20 +1,19 @@
 -- The demands on records, proved of the definitions.
 use mathlib.Core.Path.{_≡_, refl, sym, ap, ap₂, _∙_}
-use mathlib.Core.Bool.{Bool, true, false, not, cond}
+use mathlib.Core.Bool.{Bool, true, false, not, cond, false≢true}
 use mathlib.Core.List.{List, [], _∷_, _++_, append-nil}
 use mathlib.Core.Logic.{_⊎_, inl, inr}
 use mathlib.Core.Option.{Option}
 use Prim.Native.Nat.{ℕ, zero, suc, _≤_}
 use native.Mathlib.Omega.{arith}
-use borrow.Author.Tests.{eqb-true, eqb-false, eq-eqb, le-ltb, leb-true, leb-false, not-false}
-use lib.Dec.{eqb, leb, lit<, lit≤}
-use lib.ListN.{length, drop, replicate}
+use borrow.Author.Tests.{eqb-true, eq-eqb, le-ltb, not-false}
+use lib.Dec.{eqb, lit<, lit≤}
+use lib.ListN.{length, drop}
 use Rattle.lists.specs.Below.{Below}
 use Rattle.lists.specs.Compare.{both}
 use Rattle.bits.specs.Digits.{bytesOf, numberOf}
 use Rattle.bits.proofs.Digits.{number-digits-lt}
 use Rattle.limits.proofs.Rates.{rate-high}
-use Rattle.refusals.specs.declared.Refusal.{Refusal}
 use Rattle.refusals.specs.Tests.{Test, firstOf}
 use Rattle.refusals.proofs.Tests.{first-skip, first-clear}
 use Rattle.outputs.specs.Outputs.{over}
@@ -32,57 +31,30 @@ use Rattle.ratio_format.proofs.Shortest.{shortest}
 use Rattle.ratio_format.proofs.Strict.{strict-coded}
 use Rattle.record_format.specs.Fields.{Field, fieldOf, fieldBytes, laid}
 use Rattle.record_format.specs.Runs.{Run, run, positionsTag, formOf, ratiosTag, rateSize, countSize, sideFields, recordOf}
-use Rattle.record_format.specs.declared.WriteAnswer.{WriteAnswer}
-use Rattle.record_format.specs.Writing.{runTests, accepts, writeAnswer, writeOutput}
+use Rattle.record_format.specs.Writing.{runTests, accepts}
 use Rattle.record_format.specs.Reading.{Answer, refusalAnswer, recordAnswer, answerBy, readTests, readWith, readStrict, readOpen, formIn, listOf, otherRate}
-use Rattle.record_format.specs.Claims.{Accepted, AllAccepted, joined, ownTests, ownAnswer, runAnswer, ReadsBack, ReadsOnly, AcceptsExactly, OpenAgrees, WritesRun, Writes, ReadsWhole, ReadsFront, PrefixFree, ListsApart, TrailingBytes, Shortest, NineEach, Demand3}
+use Rattle.record_format.specs.Claims.{Accepted, AllAccepted, joined, ownTests, ownAnswer, runAnswer, ReadsBack, ReadsOnly, AcceptsExactly, OpenAgrees, Writes, ReadsWhole, ReadsFront, PrefixFree, ListsApart, TrailingBytes, Shortest, NineEach, Demand3}
 use Rattle.record_format.proofs.Fields.{fieldIn, closed, laid-same}
-use Rattle.record_format.proofs.Reading.{refusal, room-enough, answer-clear, answer-good}
+use Rattle.record_format.proofs.Reading.{room-enough, answer-clear, answer-good}
 use Rattle.record_format.proofs.Runs.{form-of, rateField, pointFields, flatFields, record-flat, countIndex, positionsIndex, ratiosIndex, fields-small}
 use Rattle.record_format.proofs.Sides.{sides-same}
 use Rattle.record_format.proofs.ReadsBack.{read-record}
 use Rattle.record_format.proofs.ReadsOnly.{front-stands, accepted-begins}
 use Rattle.record_format.proofs.Followed.{followed}
-use Rattle.record_format.proofs.Writing.{accepted-fits, fitting-accepted, fitting-few, accepts-clear, clear-accepts, refusedWriting, run-refused, run-no-room, run-written}
+use Rattle.record_format.proofs.Writing.{accepted-fits, fitting-accepted, fitting-few, accepts-clear, clear-accepts, run-refused, run-no-room, run-written}
 
 -- ---- demand 1, and writing
 
-module _ (r : Run) (o : List ℕ) where
-  -- a refusal with a number
-  refused-writing : (f : Refusal) → (f .number ≡ 0 → ⊥) → (refusedWriting f ≡ writeAnswer r o) × (replicate (length o) 0 ≡ writeOutput r o)
-      → ((accepts r ≡ true) × (length (recordOf r) ≤ length o) → ⊥) → WritesRun r o
-  refused-writing f d h not-both =
-      let n = ap (λ (a : WriteAnswer). a .number) (h .0) in
-      let other : (writeAnswer r o .number ≡ 0 → ⊥) = λ z. d (n ∙ z) in
-      ((λ z. absurd (other z), λ p. absurd (not-both p)), λ z. absurd (other z), λ _. (sym (ap (λ (a : WriteAnswer). a .length) (h .0)), sym (h .1)))
-
-  write-clear : firstOf (runTests r) .number ≡ 0 → WritesRun r o
-  write-clear z = go (leb (length (recordOf r)) (length o)) refl
-    where
-      go : (b : Bool) → leb (length (recordOf r)) (length o) ≡ b → WritesRun r o
-      go true e =
-          let room = leb-true (length (recordOf r)) (length o) e in
-          let h = run-written r o z room in
-          let n = sym (ap (λ (a : WriteAnswer). a .number) (h .0)) in (
-            (λ _. (clear-accepts r z, room), λ _. n),
-            λ _. (sym (ap (λ (a : WriteAnswer). a .place) (h .0)), sym (ap (λ (a : WriteAnswer). a .length) (h .0)), sym (h .1)),
-            λ d. absurd (d n),
-          )
-      go false e =
-          let short = leb-false (length (recordOf r)) (length o) e in
-          refused-writing (refusal 6 0) (λ q. omega arith) (run-no-room r o z short) (λ p. omega (arith, p .1))
-
-  writes-run : WritesRun r o
-  writes-run = go (eqb (firstOf (runTests r) .number) 0) refl
-    where
-      go : (b : Bool) → eqb (firstOf (runTests r) .number) 0 ≡ b → WritesRun r o
-      go true e = write-clear (eqb-true _ _ e)
-      go false e =
-          let d = eqb-false (firstOf (runTests r) .number) 0 e in
-          refused-writing (firstOf (runTests r)) d (run-refused r o (firstOf (runTests r)) refl d) (λ p. d (accepts-clear r (p .0)))
-
 pub writes : Writes
-writes = writes-run
+unfolding accepts
+writes r o = (
+  λ e.
+      let d : (firstOf (runTests r) .number ≡ 0 → ⊥) = λ z. false≢true (sym e ∙ clear-accepts r z) in
+      let h = run-refused r o (firstOf (runTests r)) refl d in
+      (sym (h .0), sym (h .1)),
+  λ e short. let h = run-no-room r o (accepts-clear r e) short in (sym (h .0), sym (h .1)),
+  λ e room. let h = run-written r o (accepts-clear r e) room in (sym (h .0), sym (h .1)),
+)
 
 -- a refused reading is the answer of its refusal
 refused-reading : (tests : List Test) (a : Answer) (ts vs : List ℕ) → (answerBy tests a ts vs .answer .number ≡ 0 → ⊥) → a .answer .number ≡ 0

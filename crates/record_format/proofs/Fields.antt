@@ -142,11 +142,6 @@ abbrev pub fieldAt : List ℕ → ℕ → ℕ → ℕ
 fieldAt s p zero = p
 fieldAt s p (suc k) = fieldAt s (nextAt s p) k
 
-pub stand-at : (s : List ℕ) (p : ℕ) (fs : List Field) → StandAll s p fs → (k : ℕ) → k < length fs → FieldStands s (fieldAt s p k) (fieldIn fs k)
-stand-at s p [] h k l = absurd (omega arith)
-stand-at s p (f ∷ fs) h zero l = h .0
-stand-at s p (f ∷ fs) h (suc k) l = stand-at s (nextAt s p) fs (h .1) k (omega arith)
-
 -- where each stands, whatever is before and after
 pub laid-stand : (before : List ℕ) (fs : List Field) (rest : List ℕ) → Small fs → StandAll (before ++ (laid fs ++ rest)) (length before) fs
 unfolding laid

@@ -1,4 +1,4 @@
--- What reading does with the field past the rate.
+-- What reading does with the rate's field and with the field past it.
 use mathlib.Core.Path.{_≡_, refl, sym, ap, ap₂, _∙_, subst}
 use mathlib.Core.Bool.{Bool, true, false, not, cond}
 use mathlib.Core.List.{List, [], _∷_, _++_, append-nil, map, map-append}
@@ -30,16 +30,52 @@ use Rattle.position_format.specs.Tables.{tableOf, pointsOf}
 use Rattle.record_format.specs.Fields.{Field, fieldOf, headSize, tagAt, lengthAt, bodyAt, nextAt, headTests, lengthTests, bodyTests, fieldTests}
 use Rattle.record_format.specs.Runs.{rateTag, sideTag, countTag, positionsTag, formOf, ratiosTag, rateSize, sideSize, countSize}
 use Rattle.record_format.specs.Reading.{Answer, refusalAnswer, recordAnswer, readTests, readWith, rateAt, sideAt, hasSide, countAt, positionsAt, ratiosAt, endAt, rateIn, sideIn, countIn, formIn, positionsIn, ratiosIn, otherRate, lacksRoom, missing, contentsTests, sideTests, countTests, roomTests, manyTests, positionsTests, ratiosTests}
-use Rattle.record_format.specs.SideClaims.{rateBytes, sideBytes, Expects, refusedBy, RateFirst, HeadCut, TagRefused, LengthRefused, BodyCut, SideRefused, CountRefused, moved, SideMoves}
+use Rattle.record_format.specs.SideClaims.{rateBytes, sideBytes, Expects, refusedBy, RateRefused, RateFirst, HeadCut, TagRefused, LengthRefused, BodyCut, SideRefused, CountRefused, moved, SideMoves}
 use Rattle.record_format.proofs.Fields.{FieldStands, length-field, stands, head-stands}
 use Rattle.record_format.proofs.Reading.{refusal, head-short, tag-other, length-other, body-short, field-passes, tests-flat, answer-refused}
 use Rattle.record_format.proofs.Sides.{absent-count, absent-tests, present-count, present-side, present-tests}
 use Rattle.record_format.proofs.Claims.{no-other, other-none}
 
--- a tag that is not the one of a list of one
+-- a tag that is the one of a list of one
+is-one : (x t : ℕ) → x ≡ t → member x (t ∷ []) ≡ true
+unfolding member
+is-one x t q = rw (eq-eqb x t q)
+
+-- and one that is not
 not-one : (x t : ℕ) → (x ≡ t → ⊥) → member x (t ∷ []) ≡ false
 unfolding member
 not-one x t d = rw (ne-eqb x t d)
+
+-- ---- the rate's field
+
+module _ (k : ℕ → List ℕ → Option (List ℕ)) (e : ℕ) (s ts vs : List ℕ) where
+  -- what its tests give is the answer
+  rate-refuses : (n p : ℕ) → (n ≡ 0 → ⊥) → ((us : List Test) → refusal n p ≡ firstOf (fieldTests s (rateTag ∷ []) (some rateSize) rateAt ++ us)) → readWith k e s ts vs ≡ refusedBy n p ts vs
+  unfolding readWith
+  rate-refuses n p d q =
+      answer-refused (recordAnswer k s ts vs) ts vs (readTests k e s (length ts) (length vs)) (refusal n p)
+      (q _ ∙ sym (ap firstOf (tests-flat k e s (length ts) (length vs)))) d
+
+pub rate-refused : RateRefused
+unfolding nextAt
+rate-refused k e rest ts vs = (
+  λ h. rate-refuses k e rest ts vs 10 0 (λ z. omega arith) (λ us. head-short rest (rateTag ∷ []) (some rateSize) rateAt us (omega arith)),
+  λ long one.
+      rate-refuses k e rest ts vs 11 0 (λ z. omega arith)
+      (λ us. tag-other rest (rateTag ∷ []) (some rateSize) rateAt us (omega arith) (not-one _ _ one)),
+  λ l small d.
+      let s = (1 ∷ bytesOf 2 l) ++ rest in
+      let h = head-stands [] 1 l rest small in
+      rate-refuses k e s ts vs 12 0 (λ z. omega arith)
+      (λ us. length-other s (rateTag ∷ []) (some rateSize) rateAt us (omega (arith, length-append (1 ∷ bytesOf 2 l) rest, length-digits 256 2 l)) (is-one _ _ (h .0)) 4 refl (λ z. d (sym (h .1) ∙ z))),
+  λ cut.
+      let s = (1 ∷ bytesOf 2 4) ++ rest in
+      let h = head-stands [] 1 4 rest (lit< tt) in
+      rate-refuses k e s ts vs 10 0 (λ z. omega arith)
+      (λ us.
+      body-short s (rateTag ∷ []) (some rateSize) rateAt us (omega (arith, length-append (1 ∷ bytesOf 2 4) rest, length-digits 256 2 4)) (is-one _ _ (h .0)) (h .1)
+      (omega (arith, h .1, length-append (1 ∷ bytesOf 2 4) rest, length-digits 256 2 4))),
+)
 
 -- ---- past the rate
 
@@ -162,8 +198,7 @@ module _ (k : ℕ → List ℕ → Option (List ℕ)) (e r : ℕ) (rest ts vs : 
       head = omega (arith, at-side, length-all, long)
 
       tagged : member (tagAt s (sideAt s)) (tag ∷ []) ≡ true
-      unfolding member
-      tagged = rw tag-is (ap (λ (b : Bool). cond b true false) (eq-eqb tag tag refl))
+      tagged = is-one _ _ tag-is
 
       -- the body is cut
       short : length t < l → length s < nextAt s (sideAt s)

@@ -32,13 +32,18 @@ use Rattle.record_format.specs.Runs.{Run, run, positionsTag, formOf, rat
 use Rattle.record_format.specs.Writing.{runTests}
 use Rattle.record_format.specs.Reading.{recordAnswer, readTests, readWith, rateAt, countAt, positionsAt, ratiosAt, endAt, countIn, formIn, positionsIn, ratiosIn, missing, listOf, lacksRoom, positionsTests, ratiosTests}
 use Rattle.record_format.specs.SideClaims.{Expects, refusedBy}
-use Rattle.record_format.specs.WideClaims.{RecordFields, wideTests, RefusesWide, AcceptsWide, FormsApart, frontBytes, countOn, positionsOn, CountFirst, TagFirst, BodyByForm, fieldOfPoints, RatiosByReading}
+use Rattle.record_format.specs.WideClaims.{FormNumbers, RecordFields, wideTests, RefusesWide, AcceptsWide, FormsApart, frontBytes, countOn, positionsOn, CountFirst, TagFirst, BodyByForm, fieldOfPoints, RatiosByReading}
 use Rattle.record_format.proofs.Fields.{FieldStands, StandAll, length-field, stands, laid-stand, pastAll, stand-past, small-append, stand-append, past-append, head-stands}
 use Rattle.record_format.proofs.Fronts.{front-small, count-at, positions-at, front-past, rate-is, side-is, count-is, front-tests, form-is, positions-are, positions-pass}
 use Rattle.record_format.proofs.Reading.{refusal, body-short, field-good, positions-few, positions-many, answer-refused, answer-good}
 use Rattle.record_format.proofs.Runs.{form-of, tag-good, coded-size, form-bodies}
 use Rattle.record_format.proofs.Writing.{fitting-accepted}
 use Rattle.record_format.proofs.Claims.{no-other, prefix-free}
+
+-- ---- the forms' numbers
+
+pub form-numbers : FormNumbers
+form-numbers = (refl, λ t d. rw (ne-eqb t 5 d), refl, refl)
 
 -- ---- writing
 

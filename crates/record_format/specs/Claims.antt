@@ -9,7 +9,7 @@
 --   countPlace r        the offset of the count's field in the record of r: what countAt finds there
 --   ownTests r e m n    the tests that can apply to the record of r; ownAnswer r ts vs: the answer where none does
 --   runAnswer r e ts vs what reading the record of r answers
---   WritesRun, Writes   writing gives exactly the record, where the run is accepted and there is room for it, and else zeros
+--   WritesRun, Writes   writing gives exactly the record, where the run is accepted and there is room for it, and else the refusal, and zeros
 --   ReadsWhole          what a reading refuses leaves zeros beside its number and place, and in both outputs
 --   ReadsBack           both readings give back the run of a record, or 14 or 16
 --   ReadsOnly           what strict reading accepts is a run's record, and the answer is that run
@@ -22,12 +22,12 @@
 --   TrailingBytes       whatever follows a record changes nothing; Followed: nor does what follows any whole fields
 --   Shortest, NineEach  no string of the same ratios is shorter than ours, which takes at most nine bytes a ratio
 --   Demand3             demand 3, whole: the conjunction of its parts
-use mathlib.Core.Bool.{true, cond}
+use mathlib.Core.Bool.{true, false, cond}
 use mathlib.Core.List.{List, [], _∷_, _++_}
 use mathlib.Core.Logic.{_⊎_, _↔_}
 use mathlib.Core.Option.{Option, some}
 use mathlib.Core.Path.{_≡_}
-use Prim.Native.Nat.{ℕ, _+_, _*_, _≤_, _^_}
+use Prim.Native.Nat.{ℕ, _+_, _*_, _≤_, _<_, _^_}
 use lib.ListN.{length, drop, replicate}
 use Rattle.lists.specs.Below.{Below}
 use Rattle.limits.specs.Rates.{isRate}
@@ -39,7 +39,7 @@ use Rattle.position_format.specs.Positions.{codedPositions, validPositions}
 use Rattle.ratio_format.specs.Bodies.{codedRatios, openRatios}
 use Rattle.record_format.specs.Fields.{fieldOf, headSize, laid}
 use Rattle.record_format.specs.Runs.{Run, positionsTag, rateSize, sideLength, frontFields, recordOf}
-use Rattle.record_format.specs.Writing.{accepts, writeAnswer, writeOutput}
+use Rattle.record_format.specs.Writing.{runTests, accepts, writeAnswer, writeOutput}
 use Rattle.record_format.specs.Reading.{Answer, refusalAnswer, endAt, otherRate, lacksRoom, rateAt, readWith, readStrict, readOpen}
 
 -- an accepted run
@@ -90,13 +90,15 @@ runAnswer r e ts vs =
     let f = firstOf (ownTests r e (length ts) (length vs)) in
     cond (refused f) (refusalAnswer f ts vs) (ownAnswer r ts vs)
 
--- demands 1 and 2: a success writes the record at the front of the output and nothing else; a refusal leaves zeros
+-- demands 1 and 2: a run that is not accepted is refused by the first of its tests, and one without room by 6, with zeros; a success writes the record at
+-- the front of the output and nothing else
 abbrev pub WritesRun : Run → List ℕ → Type 0
 WritesRun r o =
-    let a = writeAnswer r o in
-    ((a .number ≡ 0) ↔ ((accepts r ≡ true) × (length (recordOf r) ≤ length o)))
-    × (a .number ≡ 0 → (a .place ≡ 0) × (a .length ≡ length (recordOf r)) × (writeOutput r o ≡ recordOf r ++ drop (length (recordOf r)) o))
-    × ((a .number ≡ 0 → ⊥) → (a .length ≡ 0) × (writeOutput r o ≡ replicate (length o) 0))
+    let f = firstOf (runTests r) in
+    let n = length (recordOf r) in
+    (accepts r ≡ false → (writeAnswer r o ≡ record { number = f .number; place = f .place; length = 0 }) × (writeOutput r o ≡ replicate (length o) 0))
+    × (accepts r ≡ true → length o < n → (writeAnswer r o ≡ record { number = 6; place = 0; length = 0 }) × (writeOutput r o ≡ replicate (length o) 0))
+    × (accepts r ≡ true → n ≤ length o → (writeAnswer r o ≡ record { number = 0; place = 0; length = n }) × (writeOutput r o ≡ recordOf r ++ drop n o))
 
 -- every run and every output
 abbrev pub Writes : Type 0

@@ -86,7 +86,7 @@ pausedBytes =
     ∷ 0xFF ∷ 0xFF ∷ 0xFF ∷ 0xFF ∷ 0xEF ∷ 0xFF ∷ 0xFF ∷ 0xE2 ∷ 0x00
     ∷ drop 32 listedBytes
 
--- the rows marked P, the run on side 4, steps by the wide table at the ends of its last rows, and the run in the wide form
+-- the rows marked P, the run on side 4, steps at the ends of the other rows in each form, and the run in the wide form
 pub examples : List Example
 examples =
     example (step Old (pos 0)) (0 ∷ [])
@@ -108,9 +108,21 @@ examples =
     ∷ example (whole listedRun) listedBytes
     ∷ example (whole sidedRun) sidedBytes
     ∷ example (step Wide (pos 0)) (0 ∷ [])
+    ∷ example (step Old (pos 256)) (1 ∷ 1 ∷ 0 ∷ 1 ∷ 0 ∷ 0 ∷ 0 ∷ 0 ∷ 0 ∷ 0 ∷ 0 ∷ 0 ∷ [])
+    ∷ example (step Old (neg 255)) (1 ∷ 1 ∷ 0 ∷ 1 ∷ 0 ∷ 0 ∷ 0 ∷ 0 ∷ 0 ∷ 0 ∷ 0 ∷ 1 ∷ [])
+    ∷ example (step Old (pos 257)) ((1 ∷ 1 ∷ 1 ∷ 0 ∷ []) ++ bitsOf 12 257)
+    ∷ example (step Old (neg 256)) ((1 ∷ 1 ∷ 1 ∷ 0 ∷ []) ++ bitsOf 12 3840)
+    ∷ example (step Old (pos 2048)) ((1 ∷ 1 ∷ 1 ∷ 0 ∷ []) ++ bitsOf 12 2048)
+    ∷ example (step Old (neg 2047)) ((1 ∷ 1 ∷ 1 ∷ 0 ∷ []) ++ bitsOf 12 2049)
+    ∷ example (step Old (pos 2049)) ((1 ∷ 1 ∷ 1 ∷ 1 ∷ []) ++ bitsOf 32 2049)
+    ∷ example (step Old (neg 2048)) ((1 ∷ 1 ∷ 1 ∷ 1 ∷ []) ++ bitsOf 32 (2 ^ 32 - 2048))
     ∷ example (step Wide (pos 64)) (1 ∷ 0 ∷ 1 ∷ 0 ∷ 0 ∷ 0 ∷ 0 ∷ 0 ∷ 0 ∷ [])
     ∷ example (step Wide (neg 64)) (1 ∷ 1 ∷ 0 ∷ 1 ∷ 1 ∷ 1 ∷ 0 ∷ 0 ∷ 0 ∷ 0 ∷ 0 ∷ 0 ∷ [])
     ∷ example (step Wide (neg 2047)) ((1 ∷ 1 ∷ 1 ∷ 0 ∷ []) ++ bitsOf 12 2049)
+    ∷ example (step Wide (pos 256)) (1 ∷ 1 ∷ 0 ∷ 1 ∷ 0 ∷ 0 ∷ 0 ∷ 0 ∷ 0 ∷ 0 ∷ 0 ∷ 0 ∷ [])
+    ∷ example (step Wide (neg 256)) ((1 ∷ 1 ∷ 1 ∷ 0 ∷ []) ++ bitsOf 12 3840)
+    ∷ example (step Wide (pos 2048)) ((1 ∷ 1 ∷ 1 ∷ 0 ∷ []) ++ bitsOf 12 2048)
+    ∷ example (step Wide (neg 2048)) ((1 ∷ 1 ∷ 1 ∷ 1 ∷ 0 ∷ []) ++ bitsOf 32 (2 ^ 32 - 2048))
     ∷ example (step Wide (pos 2049)) ((1 ∷ 1 ∷ 1 ∷ 1 ∷ 0 ∷ []) ++ bitsOf 32 2049)
     ∷ example (step Wide (pos (2 ^ 31))) ((1 ∷ 1 ∷ 1 ∷ 1 ∷ 0 ∷ 1 ∷ []) ++ replicate 31 0)
     ∷ example (step Wide (neg (2 ^ 31 - 1))) ((1 ∷ 1 ∷ 1 ∷ 1 ∷ 0 ∷ 1 ∷ []) ++ (replicate 30 0 ++ (1 ∷ [])))

@@ -1,8 +1,9 @@
--- Document 02, No. 2: what reading does with the field past the rate, as statements of every reading k of the ratios' field, so of strict and of
--- open reading, and of all bytes that follow. Each is proved in proofs/SideClaims.
+-- Document 02, No. 2: what reading does with the rate's field and with the field past it, as statements of every reading k of the ratios' field, so of
+-- strict and of open reading, and of all bytes that follow. Each is proved in proofs/SideClaims.
 --   rateBytes r, sideBytes d   the field of the rate r, and the field of a side that stores d
 --   Expects e r     the expected rate e is r, or none is
 --   refusedBy n p   the answer of the refusal n at the place p
+--   RateRefused     the rate's field: 10 at 0 for a cut head, 11 for another tag than 1, 12 for another length than 4, 10 for fewer bytes
 --   RateFirst       13 and 14 stand before all that follows the rate
 --   HeadCut         past the rate fewer bytes than a head: 10 at 7; past a side: 10 at 11
 --   TagRefused      past the rate a tag that is neither 2 nor 6: 11 at 7; past a side a tag that is not 2: 11 at 11
@@ -44,6 +45,14 @@ refusedBy n p ts vs = record {
   positions = replicate (length ts) 0;
   ratios = replicate (length vs) 0;
 }
+
+-- fewer bytes than a head, another tag, another length, fewer bytes than that
+abbrev pub RateRefused : Type 0
+RateRefused = (k : ℕ → List ℕ → Option (List ℕ)) (e : ℕ) (rest ts vs : List ℕ)
+    → (length rest < 3 → readWith k e rest ts vs ≡ refusedBy 10 0 ts vs)
+    × (3 ≤ length rest → (tagAt rest 0 ≡ 1 → ⊥) → readWith k e rest ts vs ≡ refusedBy 11 0 ts vs)
+    × ((l : ℕ) → l < 256 ^ 2 → (l ≡ 4 → ⊥) → readWith k e ((1 ∷ bytesOf 2 l) ++ rest) ts vs ≡ refusedBy 12 0 ts vs)
+    × (length rest < 4 → readWith k e ((1 ∷ bytesOf 2 4) ++ rest) ts vs ≡ refusedBy 10 0 ts vs)
 
 -- a rate that is none, or another than is expected, whatever follows
 abbrev pub RateFirst : Type 0

@@ -1,6 +1,6 @@
 -- Document 02, No. 2: answers of reading and of writing with a side, as one table each, computed from the definitions by one statement.
 --   rate, side d, count n, noPoints bytes of fields: the rate 96000, a side that stores d, a count n below 256, and the two bodies of no points
---   open-only                       the fields of two points at 0 whose ratios are two exceptions of 0: no coding, but an open form
+--   open-only                       the fields of two points at 0 whose ratios are the exceptions 0 and 1: no coding, but an open form
 --   refusedRead n p, read d n u     the answer of a refusal, and of a record with side d, n points and u bytes, in the old form
 --   ReadExample, row, rowOpen       the expected rate, the input, and the answers of strict and of open reading
 --   reads, reads-hold               the rows, with room for two points, and that each is as it is given
@@ -20,6 +20,7 @@ use Rattle.refusals.specs.Tests.{firstOf}
 use Rattle.position_format.specs.declared.Form.the-variants.{Old}
 use Rattle.position_format.specs.Steps.{stepsFrom, steps}
 use Rattle.position_format.specs.Positions.{stepBits, positionBits, codedPositions, validPositions, decodedSteps, decodedBits, decoded, readPositions}
+use Rattle.ratio_format.specs.Zeros.{zerosAt, leadZeros, trailZeros, sumOf}
 use Rattle.ratio_format.specs.Choice.{find, best, ratioForm}
 use Rattle.ratio_format.specs.Forms.{written, coded}
 use Rattle.ratio_format.specs.Open.{openRead}
@@ -51,7 +52,7 @@ noPoints = 0x03 ∷ 0x00 ∷ 0x00 ∷ 0x04 ∷ 0x00 ∷ 0x00 ∷ []
 
 -- those of two points, openly
 abbrev open-only : List ℕ
-open-only = 0x03 ∷ 0x00 ∷ 0x10 ∷ (replicate 16 0 ++ (0x04 ∷ 0x00 ∷ 0x12 ∷ 0xFF ∷ (replicate 8 0 ++ (0xFF ∷ replicate 8 0))))
+open-only = 0x03 ∷ 0x00 ∷ 0x10 ∷ (replicate 16 0 ++ (0x04 ∷ 0x00 ∷ 0x12 ∷ 0xFF ∷ (replicate 8 0 ++ (0xFF ∷ (replicate 7 0 ++ (0x01 ∷ []))))))
 
 -- every other returned number is 0
 abbrev refusedRead : ℕ → ℕ → ReadAnswer
@@ -111,7 +112,7 @@ reads =
 pub reads-hold :
     (map (λ x. readStrict (x .expected) (x .input) (replicate 2 0) (replicate 2 0) .answer) reads ≡ map (λ x. x .strictly) reads)
     × (map (λ x. readOpen (x .expected) (x .input) (replicate 2 0) (replicate 2 0) .answer) reads ≡ map (λ x. x .openly) reads)
-unfolding reads member firstIndex same digitsOf numberOf bits eights pack rates isRate isSide firstOf stepsFrom steps stepBits positionBits codedPositions validPositions decodedSteps decodedBits decoded readPositions find best ratioForm written coded codedFrom openRead openFrom strictRatios tagAt lengthAt bodyAt nextAt countAt sideIn readWith
+unfolding reads member firstIndex same digitsOf numberOf bits eights pack rates isRate isSide firstOf stepsFrom steps stepBits positionBits codedPositions validPositions decodedSteps decodedBits decoded readPositions zerosAt leadZeros trailZeros sumOf find best ratioForm written coded codedFrom openRead openFrom strictRatios tagAt lengthAt bodyAt nextAt countAt sideIn readWith
 reads-hold = (refl, refl)
 
 -- ---- writing

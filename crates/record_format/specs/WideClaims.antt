@@ -1,6 +1,7 @@
 -- Document 02, No. 3: what the wide form brings to writing and reading, as statements, and with it what reading does past the front in either form.
 -- Those of reading are of every reading k of the ratios' field, so of strict and of open reading, and of all bytes that follow. Each is proved in
 -- proofs/WideClaims.
+--   FormNumbers     a form's tag names it, and every number but 5 the old one
 --   RecordFields    the fields of a record in each form, with the tags and lengths that the documents give
 --   wideTests r ts vs   the tests of writing, all but 21 and 6, for a run in the wide form: 3 at 3,500, and no 5
 --   RefusesWide     a run in the wide form is refused by these, but that 21 stands after 1
@@ -35,11 +36,17 @@ use Rattle.position_format.specs.Positions.{codedPositions, validPositions, rea
 use Rattle.position_format.specs.Tables.{tableOf, pointsOf}
 use Rattle.ratio_format.specs.Bodies.{codedRatios}
 use Rattle.record_format.specs.Fields.{Field, fieldOf, fieldBytes, laid, tagAt}
-use Rattle.record_format.specs.Runs.{Run, run, positionsTag, sideLength, frontFields, recordOf}
+use Rattle.record_format.specs.Runs.{Run, run, positionsTag, formOf, sideLength, frontFields, recordOf}
 use Rattle.record_format.specs.Writing.{runTests}
 use Rattle.record_format.specs.Reading.{readWith}
 use Rattle.record_format.specs.Claims.{Accepted, Beginning}
 use Rattle.record_format.specs.SideClaims.{Expects, refusedBy}
+
+-- ---- the forms' numbers
+
+-- those of a host in C
+abbrev pub FormNumbers : Type 0
+FormNumbers = (formOf 5 ≡ Wide) × ((t : ℕ) → (t ≡ 5 → ⊥) → formOf t ≡ Old) × (positionsTag Old ≡ 3) × (positionsTag Wide ≡ 5)
 
 -- ---- writing
 

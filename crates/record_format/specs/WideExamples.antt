@@ -3,10 +3,10 @@
 --   escaped x                       the code of the row of 64 bits with the bits of x
 --   BodyExample, body, bodies       what is read from such a body by the wide table; bodies-hold: each is as it is given
 --   front n, sided n                the fields of the rate 96000 and the count n, without a side and on side 4
---   twoOpen                         two points at 0 in the wide form, whose ratios are two exceptions of 0: no coding, but an open form
+--   twoOpen                         two points at 0 in the wide form, whose ratios are the exceptions 0 and 1: no coding, but an open form
 --   refusedRead n p, read d n f u   the answer of a refusal, and of a record with side d, n points, the form's tag f and u bytes
 --   ReadExample, row, rowOpen       the input, the room for numbers, and the answers of strict and of open reading
---   reads, reads-hold               the rows, and that each is as it is given
+--   reads, reads-hold               the rows, and that each is as it is given; open-points: what open reading leaves in the outputs
 --   WriteExample, wrote             a run, the room, and the answer
 --   writes, writes-hold             the rows, and that each is as it is given
 use mathlib.Core.Path.{_≡_, refl}
@@ -25,6 +25,7 @@ use Rattle.position_format.specs.declared.Form.the-variants.{Old, Wide}
 use Rattle.position_format.specs.Rows.{rows, wideRows, inTable, code}
 use Rattle.position_format.specs.Steps.{stepsFrom, steps}
 use Rattle.position_format.specs.Positions.{stepBits, positionBits, codedPositions, validPositions, stepAt, decodedSteps, decodedBits, decoded, readPositions}
+use Rattle.ratio_format.specs.Zeros.{zerosAt, leadZeros, trailZeros, sumOf}
 use Rattle.ratio_format.specs.Choice.{find, best, ratioForm}
 use Rattle.ratio_format.specs.Forms.{written, coded}
 use Rattle.ratio_format.specs.Open.{openRead}
@@ -56,9 +57,9 @@ pub record BodyExample : Type 0 where
 abbrev body : List ℕ → Option (List ℕ) → BodyExample
 body l o = record { body = l; holds = o }
 
--- the steps past the ends of the 32 bits, the largest ones, and the old table's code of 2,049, which is another step here; and what no writer writes:
--- the old table's code of 2^31,
--- a step that an earlier row holds, -2^63, a position out of range on either side, a sum past signed 64 bits, too few bits, a 1 in the fill
+-- the steps past the ends of the 32 bits, the largest ones, 2^31, and the old table's code of 2,049, which is another step here; and what no writer
+-- writes: the old table's code of 2^31, a step that an earlier row holds, -2^63, a position out of range on either side, a sum past signed 64 bits, too few
+-- bits, a 1 in the fill
 pub bodies : List BodyExample
 bodies =
     body (third 0 0 (escaped (2 ^ 31 + 1))) (some (0 ∷ 0 ∷ (2 ^ 31 + 1) ∷ []))
@@ -120,7 +121,7 @@ rowOpen s a b = record { room = 4096; input = s; strictly = a; openly = b }
 
 -- the positions' and the ratios' field of two points
 abbrev twoOpen : List ℕ
-twoOpen = 0x05 ∷ 0x00 ∷ 0x10 ∷ (replicate 16 0 ++ (0x04 ∷ 0x00 ∷ 0x12 ∷ 0xFF ∷ (replicate 8 0 ++ (0xFF ∷ replicate 8 0))))
+twoOpen = 0x05 ∷ 0x00 ∷ 0x10 ∷ (replicate 16 0 ++ (0x04 ∷ 0x00 ∷ 0x12 ∷ 0xFF ∷ (replicate 8 0 ++ (0xFF ∷ (replicate 7 0 ++ (0x01 ∷ []))))))
 
 -- 3,501 points: nothing behind the count, a cut head, another tag, each form's tag; the room first; 4,097 and 3,500 points; no points in each form, and
 -- tag 5 in the place of the ratios'; a run with a pause; an open form
@@ -153,8 +154,15 @@ reads =
 pub reads-hold :
     (map (λ x. readStrict 0 (x .input) (replicate (x .room) 0) (replicate (x .room) 0) .answer) reads ≡ map (λ x. x .strictly) reads)
     × (map (λ x. readOpen 0 (x .input) (replicate (x .room) 0) (replicate (x .room) 0) .answer) reads ≡ map (λ x. x .openly) reads)
-unfolding reads member firstIndex begins same digitsOf numberOf bits eights pack rates isRate isSide firstOf rows wideRows inTable code stepsFrom steps stepBits positionBits codedPositions validPositions stepAt decodedSteps decodedBits decoded readPositions find best ratioForm written coded codedFrom openRead openFrom strictRatios tagAt lengthAt bodyAt nextAt countAt sideIn readWith
+unfolding reads member firstIndex begins same digitsOf numberOf bits eights pack rates isRate isSide firstOf rows wideRows inTable code stepsFrom steps stepBits positionBits codedPositions validPositions stepAt decodedSteps decodedBits decoded readPositions zerosAt leadZeros trailZeros sumOf find best ratioForm written coded codedFrom openRead openFrom strictRatios tagAt lengthAt bodyAt nextAt countAt sideIn readWith
 reads-hold = (refl, refl)
+
+-- the points at the front of both outputs, which keep the rest
+pub open-points :
+    (readOpen 0 (front 2 ++ twoOpen) (replicate 3 7) (replicate 3 8) .positions ≡ 0 ∷ 0 ∷ 7 ∷ [])
+    × (readOpen 0 (front 2 ++ twoOpen) (replicate 3 7) (replicate 3 8) .ratios ≡ 0 ∷ 1 ∷ 8 ∷ [])
+unfolding member firstIndex begins same digitsOf numberOf bits eights pack rates isRate isSide firstOf rows wideRows inTable code stepsFrom steps stepBits positionBits codedPositions validPositions stepAt decodedSteps decodedBits decoded readPositions openRead openFrom tagAt lengthAt bodyAt nextAt countAt sideIn readWith
+open-points = (refl, refl)
 
 -- ---- writing
 
@@ -168,7 +176,8 @@ pub record WriteExample : Type 0 where
 abbrev wrote : Run → ℕ → ℕ → ℕ → ℕ → WriteExample
 wrote r m n p l = record { subject = r; room = m; answer = record { number = n; place = p; length = l } }
 
--- a step that only the wide form takes; the first of two positions that neither takes, and of two such steps; 3,501 points; and the room
+-- a step that only the wide form takes; the first of two such steps, and of two positions that neither takes; 3,501 points; the room; fewer ratios than
+-- positions, a side above 26, and no points
 pub writes : List WriteExample
 writes =
     wrote (run 96000 0 Old (0 ∷ 0 ∷ (2 ^ 31 + 1) ∷ []) (0 ∷ 0 ∷ 0 ∷ [])) 60 5 2 0

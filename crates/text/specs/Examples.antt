@@ -66,6 +66,7 @@ examples =
     ∷ example (spanLine (negsuc 42)) (115 ∷ 112 ∷ 97 ∷ 110 ∷ 32 ∷ 45 ∷ 52 ∷ 51 ∷ 10 ∷ [])
     ∷ example (listing 96000 0 (pos 20) (0 ∷ 960 ∷ 1920 ∷ []) (replicate 3 0x3FE0000000000000)) listedText
     ∷ example (listing 96000 4 (pos 20) (0 ∷ 960 ∷ 1920 ∷ []) (replicate 3 0x3FE0000000000000)) sidedText
+    ∷ example (listing 96000 0 (negsuc 89478474) (8589935552 ∷ 8589936512 ∷ 1920 ∷ []) (replicate 3 0x3FE0000000000000)) pausedText
     ∷ []
 
 -- each text, computed from the definitions, is the one that is given

@@ -1,7 +1,7 @@
--- Document 01, "Bytes to compare": the rows marked P, and beside them the listing's run on a side, steps by the wide table and a run in the wide
--- form, as one table, proved from the definitions by one statement.
+-- Document 01, "Bytes to compare": the rows marked P, and beside them the listing's run on a side, steps at other ends of rows in each form and a run
+-- in the wide form, as one table, proved from the definitions by one statement.
 --   Subject, codeOf        what is shown, and its code
---   Example, example       such a subject, and its code as it should be: what document 01 gives for it, but for the run on a side and what is wide
+--   Example, example       such a subject, and its code as it should be: what document 01 gives for it, but for the run on a side, other ends of rows, and what is wide
 --   listedRun, listedBytes the run of the listing, and its 46 bytes; sidedRun, sidedBytes: the same run on side 4, and its 50 bytes
 --   pausedRun, pausedBytes a run in the wide form that the old one does not take: the tape is rewound at the third point
 --   examples               the rows; examples-hold: each is as it is given

@@ -123,8 +123,8 @@ rowOpen s a b = record { room = 4096; input = s; strictly = a; openly = b }
 abbrev twoOpen : List ℕ
 twoOpen = 0x05 ∷ 0x00 ∷ 0x10 ∷ (replicate 16 0 ++ (0x04 ∷ 0x00 ∷ 0x12 ∷ 0xFF ∷ (replicate 8 0 ++ (0xFF ∷ (replicate 7 0 ++ (0x01 ∷ []))))))
 
--- 3,501 points: nothing behind the count, a cut head, another tag, each form's tag; the room first; 4,097 and 3,500 points; no points in each form, and
--- tag 5 in the place of the ratios'; a run with a pause; an open form
+-- 3,501 points: nothing behind the count, a cut head, another tag, each form's tag; the room first; 4,096 wide points, 4,097, and 3,500; no points with a
+-- byte too many, and in each form; tag 5 in the place of the ratios'; a run with a pause; an open form
 pub reads : List ReadExample
 reads =
     row 4096 (front 3501) (refusedRead 10 12)

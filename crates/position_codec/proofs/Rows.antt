@@ -1,4 +1,5 @@
--- The numbers in the code are those of the tables' rows. The checker computes this once for each table.
+-- The numbers in the code are those of the tables' rows. The checker computes this: ranges and widths once, of the wide table, which has every
+-- row; prefixes and leads for each table.
 use mathlib.Core.Bool.{Bool, true, false, cond}
 use mathlib.Core.List.{List, [], _∷_, map}
 use mathlib.Core.Path.{_≡_, refl, sym, ap, _∙_}

@@ -3,7 +3,7 @@
 // after its prefix, and a row's range may be any that holds 0; rows of at most 57 bits have a quicker way at the end.
 ghost use mathlib.Core.Bool.{true};
 ghost use mathlib.Core.Path.{_≡_};
-ghost use Prim.Native.Nat.{ℕ, _-_, _^_, _≤_, _<_};
+ghost use Prim.Native.Nat.{ℕ, _-_, _/_, _^_, _≤_, _<_};
 ghost use lib.ListN.{length, getD};
 ghost use lib.Signed.{leZ};
 ghost use Rattle.lists.specs.Compare.{both};
@@ -105,12 +105,20 @@ pub(crate) fn in_table(z: i64) -> bool
     row_of(z) < ROWS
 }
 
+// Entry i of a small table.
+fn byte_of(w: u64, i: usize) -> u64
+    requires { ⌜ i < 8 ⌝ }
+    ensures { λ r. ⌜ r ≡ byteOf w i ⌝ }
+{
+    (w >> (8 * i)) % 256
+}
+
 // How many bits follow the row's prefix.
 pub(crate) fn width_of(row: usize) -> usize
     requires { ⌜ row < 6 ⌝ }
     ensures { λ r. ⌜ r ≡ getD wideRows row noRow .width ⌝ }
 {
-    ((WIDTHS >> (8 * row)) % 256) as usize
+    byte_of(WIDTHS, row) as usize
 }
 
 // z in two's complement of 64 bits: a cast of a number below zero is refused, so it is turned round -1 first.
@@ -159,8 +167,8 @@ fn code_in(form: Form, row: usize, z: i64) -> Code
     let width = width_of(row);
     let prefixes = prefixes_of(form);
     Code {
-        size: ((prefixes.lens >> (8 * row)) % 256) as usize,
-        prefix: (prefixes.values >> (8 * row)) % 256,
+        size: byte_of(prefixes.lens, row) as usize,
+        prefix: byte_of(prefixes.values, row),
         width,
         rest: modulo(z, width),
     }
@@ -182,19 +190,19 @@ pub(crate) fn code_of(form: Form, z: i64) -> Code
     }
 }
 
-// The row of a code of document 01's table that has more than one bit, by its first five bits: the fifth plays no part.
-fn old_lead(five: u64) -> Lead
+// The entries of two small tables, indices of rows and lengths of codes, by the three bits after a first bit 1: of the five bits the last plays no part.
+fn lead_by(indices: u64, lens: u64, five: u64) -> Lead
     requires { ⌜ (16 ≤ five) × (five < 32) ⌝ }
-    ensures { λ r. ⌜ Leads rows (bitsOf 5 five) (r .row) (r .len) × (0 < r .row) ⌝ }
+    ensures { λ r. ⌜ (r .row ≡ byteOf indices (five / 2 - 8)) × (r .len ≡ byteOf lens (five / 2 - 8)) ⌝ }
 {
-    let top = five / 2 - 8;
+    let top = (five / 2 - 8) as usize;
     Lead {
-        row: ((ROWS_BY >> (8 * top)) % 256) as usize,
-        len: ((LENS_BY >> (8 * top)) % 256) as usize,
+        row: byte_of(indices, top) as usize,
+        len: byte_of(lens, top) as usize,
     }
 }
 
-// The same of the wide table.
+// The row of a code of the wide table that has more than one bit, by its first five bits.
 fn wide_lead(five: u64) -> Lead
     requires { ⌜ (16 ≤ five) × (five < 32) ⌝ }
     ensures { λ r. ⌜ Leads wideRows (bitsOf 5 five) (r .row) (r .len) × (0 < r .row) ⌝ }
@@ -202,11 +210,7 @@ fn wide_lead(five: u64) -> Lead
     if five == 31 {
         return Lead { row: 5, len: 69 };
     }
-    let top = five / 2 - 8;
-    Lead {
-        row: ((ROWS_BY >> (8 * top)) % 256) as usize,
-        len: ((WIDE_LENS_BY >> (8 * top)) % 256) as usize,
-    }
+    lead_by(ROWS_BY, WIDE_LENS_BY, five)
 }
 
 // The same of a form's table.
@@ -215,7 +219,7 @@ pub(crate) fn lead_of(form: Form, five: u64) -> Lead
     ensures { λ r. ⌜ Leads (tableOf form) (bitsOf 5 five) (r .row) (r .len) × (0 < r .row) ⌝ }
 {
     match form {
-        Form::Old => old_lead(five),
+        Form::Old => lead_by(ROWS_BY, LENS_BY, five),
         Form::Wide => wide_lead(five),
     }
 }

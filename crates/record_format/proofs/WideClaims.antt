@@ -32,7 +32,8 @@ use Rattle.record_format.specs.Runs.{Run, run, positionsTag, formOf, rat
 use Rattle.record_format.specs.Writing.{runTests}
 use Rattle.record_format.specs.Reading.{recordAnswer, readTests, readWith, rateAt, countAt, positionsAt, ratiosAt, endAt, countIn, formIn, positionsIn, ratiosIn, missing, listOf, lacksRoom, positionsTests, ratiosTests}
 use Rattle.record_format.specs.SideClaims.{Expects, refusedBy}
-use Rattle.record_format.specs.WideClaims.{FormNumbers, RecordFields, wideTests, RefusesWide, AcceptsWide, FormsApart, frontBytes, countOn, positionsOn, CountFirst, TagFirst, BodyByForm, fieldOfPoints, RatiosByReading}
+use Rattle.record_format.specs.Claims.{countPlace, positionsPlace}
+use Rattle.record_format.specs.WideClaims.{FormNumbers, RecordFields, wideTests, RefusesWide, AcceptsWide, FormsApart, frontBytes, CountFirst, TagFirst, BodyByForm, fieldOfPoints, RatiosByReading}
 use Rattle.record_format.proofs.Fields.{FieldStands, StandAll, length-field, stands, laid-stand, pastAll, stand-past, small-append, stand-append, past-append, head-stands}
 use Rattle.record_format.proofs.Fronts.{front-small, count-at, positions-at, front-past, rate-is, side-is, count-is, front-tests, form-is, positions-are, positions-pass}
 use Rattle.record_format.proofs.Reading.{refusal, body-short, field-good, positions-few, positions-many, answer-refused, answer-good}
@@ -86,10 +87,10 @@ module _ (k : ℕ → List ℕ → Option (List ℕ)) (e r d n : ℕ) (s ts vs :
   abbrev tests : List Test
   tests = readTests k e s (length ts) (length vs)
 
-  at-count : countAt s ≡ countOn d
+  at-count : countAt s ≡ countPlace d
   at-count = count-at s r d n listed sided counts all
 
-  at-positions : positionsAt s ≡ positionsOn d
+  at-positions : positionsAt s ≡ positionsPlace d
   at-positions = positions-at s r d n listed sided counts all ∙ omega (arith, at-count)
 
   counted : countIn s ≡ n
@@ -102,8 +103,8 @@ module _ (k : ℕ → List ℕ → Option (List ℕ)) (e r d n : ℕ) (s ts vs :
   past-rate : firstOf tests ≡ firstOf (test (ltb maxPoints n) 15 (countAt s) ∷ test (lacksRoom (length ts) (length vs) n) 16 (countAt s) ∷ (positionsTests s ++ ratiosTests k s))
   past-rate = front-tests s r d n listed sided counts all k e (length ts) (length vs) ∙ first-skip _ _ (no-other e r o)
 
-  fifteen : 4096 < n → readWith k e s ts vs ≡ refusedBy 15 (countOn d) ts vs
-  fifteen h = refuses 15 (countOn d) (λ z. omega arith) (past-rate ∙ first-here _ _ (lt-ltb _ _ h) ∙ ap (refusal 15) at-count)
+  fifteen : 4096 < n → readWith k e s ts vs ≡ refusedBy 15 (countPlace d) ts vs
+  fifteen h = refuses 15 (countPlace d) (λ z. omega arith) (past-rate ∙ first-here _ _ (lt-ltb _ _ h) ∙ ap (refusal 15) at-count)
 
   lacking : (length ts < n) ⊎ (length vs < n) → lacksRoom (length ts) (length vs) n ≡ true
   lacking (inl h) = rw (lt-ltb (length ts) n h)
@@ -114,36 +115,36 @@ module _ (k : ℕ → List ℕ → Option (List ℕ)) (e r d n : ℕ) (s ts vs :
       go false = lt-ltb (length vs) n h
 
   module _ (few : n ≤ 4096) where
-    sixteen : (length ts < n) ⊎ (length vs < n) → readWith k e s ts vs ≡ refusedBy 16 (countOn d) ts vs
+    sixteen : (length ts < n) ⊎ (length vs < n) → readWith k e s ts vs ≡ refusedBy 16 (countPlace d) ts vs
     sixteen h =
-        refuses 16 (countOn d) (λ z. omega arith) (past-rate ∙ first-skip _ _ (le-ltb _ _ few) ∙ first-here _ _ (lacking h) ∙ ap (refusal 16) at-count)
+        refuses 16 (countPlace d) (λ z. omega arith) (past-rate ∙ first-skip _ _ (le-ltb _ _ few) ∙ first-here _ _ (lacking h) ∙ ap (refusal 16) at-count)
 
     module _ (first : n ≤ length ts) (second : n ≤ length vs) where
       past-room : firstOf tests ≡ firstOf (positionsTests s ++ ratiosTests k s)
       past-room = past-rate ∙ first-skip _ _ (le-ltb _ _ few) ∙ first-skip _ _ (ap₂ (λ (a b : Bool). cond a true b) (le-ltb _ _ first) (le-ltb _ _ second))
 
       -- the head of the positions' field is cut
-      ten-head : length s < positionsAt s + headSize → readWith k e s ts vs ≡ refusedBy 10 (positionsOn d) ts vs
-      ten-head h = refuses 10 (positionsOn d) (λ z. omega arith) (past-room ∙ first-here _ _ (lt-ltb _ _ h) ∙ ap (refusal 10) at-positions)
+      ten-head : length s < positionsAt s + headSize → readWith k e s ts vs ≡ refusedBy 10 (positionsPlace d) ts vs
+      ten-head h = refuses 10 (positionsPlace d) (λ z. omega arith) (past-room ∙ first-here _ _ (lt-ltb _ _ h) ∙ ap (refusal 10) at-positions)
 
       -- or it is whole, with a tag
       module _ (head : positionsAt s + headSize ≤ length s) (tag : ℕ) (tagged : tagAt s (positionsAt s) ≡ tag) where
         abbrev good : List ℕ
         good = positionsTag Old ∷ positionsTag Wide ∷ []
 
-        eleven : (tag ≡ 3 → ⊥) → (tag ≡ 5 → ⊥) → readWith k e s ts vs ≡ refusedBy 11 (positionsOn d) ts vs
+        eleven : (tag ≡ 3 → ⊥) → (tag ≡ 5 → ⊥) → readWith k e s ts vs ≡ refusedBy 11 (positionsPlace d) ts vs
         unfolding member
         eleven three five =
-            refuses 11 (positionsOn d) (λ z. omega arith)
+            refuses 11 (positionsPlace d) (λ z. omega arith)
             (past-room ∙ first-skip _ _ (le-ltb _ _ head)
             ∙ first-here _ _ (ap (λ (t : ℕ). not (member t good)) tagged ∙ rw (ne-eqb tag 3 three, ne-eqb tag 5 five))
             ∙ ap (refusal 11) at-positions)
 
-        fifteen-wide : tag ≡ 5 → 3500 < n → readWith k e s ts vs ≡ refusedBy 15 (countOn d) ts vs
+        fifteen-wide : tag ≡ 5 → 3500 < n → readWith k e s ts vs ≡ refusedBy 15 (countPlace d) ts vs
         unfolding member
         fifteen-wide five many =
             let is = tagged ∙ five in
-            refuses 15 (countOn d) (λ z. omega arith)
+            refuses 15 (countPlace d) (λ z. omega arith)
             (past-room
             ∙ sym
             (positions-many s (ratiosTests k s) head (ap (λ (t : ℕ). member t good) is)
@@ -161,13 +162,13 @@ module _ (k : ℕ → List ℕ → Option (List ℕ)) (e r d n : ℕ) (s ts vs :
           past-many : firstOf tests ≡ firstOf (fieldTests s good none (positionsAt s) ++ (test (missing (positionsIn s)) 17 (positionsAt s) ∷ ratiosTests k s))
           past-many = past-room ∙ positions-few s (ratiosTests k s) (ap₂ (λ (x : Form) (c : ℕ). ltb (pointsOf x) c) formed counted ∙ le-ltb _ _ points)
 
-          ten-body : length s < nextAt s (positionsAt s) → readWith k e s ts vs ≡ refusedBy 10 (positionsOn d) ts vs
+          ten-body : length s < nextAt s (positionsAt s) → readWith k e s ts vs ≡ refusedBy 10 (positionsPlace d) ts vs
           ten-body h =
-              refuses 10 (positionsOn d) (λ z. omega arith) (past-many ∙ sym (body-short s good none (positionsAt s) _ head is-good tt h) ∙ ap (refusal 10) at-positions)
+              refuses 10 (positionsPlace d) (λ z. omega arith) (past-many ∙ sym (body-short s good none (positionsAt s) _ head is-good tt h) ∙ ap (refusal 10) at-positions)
 
-          seventeen : nextAt s (positionsAt s) ≤ length s → readPositions (tableOf f) n (bodyAt s (positionsAt s)) ≡ none → readWith k e s ts vs ≡ refusedBy 17 (positionsOn d) ts vs
+          seventeen : nextAt s (positionsAt s) ≤ length s → readPositions (tableOf f) n (bodyAt s (positionsAt s)) ≡ none → readWith k e s ts vs ≡ refusedBy 17 (positionsPlace d) ts vs
           seventeen h unread =
-              refuses 17 (positionsOn d) (λ z. omega arith)
+              refuses 17 (positionsPlace d) (λ z. omega arith)
               (past-many
               ∙ field-good s good none (positionsAt s) _ head is-good tt h
               ∙ first-here _ _ (ap₂ (λ (x : Form) (c : ℕ). missing (readPositions (tableOf x) c (bodyAt s (positionsAt s)))) formed counted ∙ ap missing unread)

@@ -6,7 +6,8 @@
 --   Bytes s             s is a string of bytes
 --   Beginning a b       the string a is a beginning of b, in the standard term a prefix: b is a and then any bytes, or none
 --   joined rs           the records of the runs rs, joined in their order: their concatenation
---   countPlace r        the offset of the count's field in the record of r: what countAt finds there
+--   countPlace d        the offset of the count's field past a front with the side d, 7 or 11: what countAt finds there; positionsPlace d: that of
+--                       the positions', 12 or 16
 --   ownTests r e m n    the tests that can apply to the record of r; ownAnswer r ts vs: the answer where none does
 --   runAnswer r e ts vs what reading the record of r answers
 --   WritesRun, Writes   writing gives exactly the record, where the run is accepted and there is room for it, and else the refusal, and zeros
@@ -37,8 +38,8 @@ use Rattle.position_format.specs.declared.Form.{Form}
 use Rattle.position_format.specs.Tables.{tableOf, pointsOf}
 use Rattle.position_format.specs.Positions.{codedPositions, validPositions}
 use Rattle.ratio_format.specs.Bodies.{codedRatios, openRatios}
-use Rattle.record_format.specs.Fields.{fieldOf, headSize, laid}
-use Rattle.record_format.specs.Runs.{Run, positionsTag, rateSize, sideLength, frontFields, recordOf}
+use Rattle.record_format.specs.Fields.{fieldOf, laid}
+use Rattle.record_format.specs.Runs.{Run, positionsTag, sideLength, frontFields, recordOf}
 use Rattle.record_format.specs.Writing.{runTests, accepts, writeAnswer, writeOutput}
 use Rattle.record_format.specs.Reading.{Answer, refusalAnswer, endAt, otherRate, lacksRoom, rateAt, readWith, readStrict, readOpen}
 
@@ -65,15 +66,19 @@ unfoldable pub joined : List Run → List ℕ
 joined [] = []
 joined (r ∷ rs) = recordOf r ++ joined rs
 
--- where the count's field stands in the record of a run: past the rate's, and past the side's if there is one
-abbrev pub countPlace : Run → ℕ
-countPlace r = headSize + rateSize + sideLength (r .side)
+-- where the count's field stands: past the rate's, and past the side's if there is one
+abbrev pub countPlace : ℕ → ℕ
+countPlace d = 7 + sideLength d
+
+-- and the positions', past the count's
+abbrev pub positionsPlace : ℕ → ℕ
+positionsPlace d = 12 + sideLength d
 
 -- the tests that can apply to the record of an accepted run
 abbrev pub ownTests : Run → ℕ → ℕ → ℕ → List Test
 ownTests r e m n =
     test (otherRate e (r .rate)) 14 rateAt
-    ∷ test (lacksRoom m n (length (r .positions))) 16 (countPlace r)
+    ∷ test (lacksRoom m n (length (r .positions))) 16 (countPlace (r .side))
     ∷ []
 
 -- a success: the run, its count, its form's tag and its record's length, each position and each ratio

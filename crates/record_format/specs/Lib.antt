@@ -7,6 +7,7 @@ pub mod SideClaims
 pub mod WideClaims
 pub mod FourFields
 pub mod Examples
+pub mod AnswerExamples
 pub mod SideExamples
 pub mod WideExamples
 pub mod Sizes

@@ -8,7 +8,6 @@
 --   AcceptsWide     so positions in their range are never refused for a step
 --   FormsApart      no record in one form begins one in the other
 --   frontBytes r d n   the fields of the rate r, the side d unless it is 0, and the count n
---   countOn d, positionsOn d   where the fields of the count and of the positions stand: 7 and 12, or 11 and 16 past a side
 --   CountFirst      15 above 4,096 points, and then 16, before the positions' field is looked at
 --   TagFirst        10 for a cut head of the positions' field; 11 for a tag that is neither 3 nor 5; 15, at the count's field, for tag 5 above 3,500
 --                   points, before the body
@@ -36,10 +35,10 @@ use Rattle.position_format.specs.Positions.{codedPositions, validPositions, rea
 use Rattle.position_format.specs.Tables.{tableOf, pointsOf}
 use Rattle.ratio_format.specs.Bodies.{codedRatios}
 use Rattle.record_format.specs.Fields.{Field, fieldOf, fieldBytes, laid, tagAt}
-use Rattle.record_format.specs.Runs.{Run, run, positionsTag, formOf, sideLength, frontFields, recordOf}
+use Rattle.record_format.specs.Runs.{Run, run, positionsTag, formOf, frontFields, recordOf}
 use Rattle.record_format.specs.Writing.{runTests}
 use Rattle.record_format.specs.Reading.{readWith}
-use Rattle.record_format.specs.Claims.{Accepted, Beginning}
+use Rattle.record_format.specs.Claims.{Accepted, Beginning, countPlace, positionsPlace}
 use Rattle.record_format.specs.SideClaims.{Expects, refusedBy}
 
 -- ---- the forms' numbers
@@ -89,36 +88,28 @@ FormsApart = (r q : Run) → Accepted r → Accepted q → (r .form ≡ q .form 
 abbrev pub frontBytes : ℕ → ℕ → ℕ → List ℕ
 frontBytes r d n = laid (frontFields r d n)
 
--- the count's offset past it
-abbrev pub countOn : ℕ → ℕ
-countOn d = 7 + sideLength d
-
--- and the positions'
-abbrev pub positionsOn : ℕ → ℕ
-positionsOn d = 12 + sideLength d
-
 -- too many points for either form, or for the room
 abbrev pub CountFirst : Type 0
 CountFirst = (k : ℕ → List ℕ → Option (List ℕ)) (e r d n : ℕ) (rest ts vs : List ℕ) → isRate r ≡ true → Expects e r → d ≤ 26 → n < 256 ^ 2
-    → (4096 < n → readWith k e (frontBytes r d n ++ rest) ts vs ≡ refusedBy 15 (countOn d) ts vs)
-    × (n ≤ 4096 → (length ts < n) ⊎ (length vs < n) → readWith k e (frontBytes r d n ++ rest) ts vs ≡ refusedBy 16 (countOn d) ts vs)
+    → (4096 < n → readWith k e (frontBytes r d n ++ rest) ts vs ≡ refusedBy 15 (countPlace d) ts vs)
+    × (n ≤ 4096 → (length ts < n) ⊎ (length vs < n) → readWith k e (frontBytes r d n ++ rest) ts vs ≡ refusedBy 16 (countPlace d) ts vs)
 
 -- with room: the head of the positions' field, and then the count by the form
 abbrev pub TagFirst : Type 0
 TagFirst = (k : ℕ → List ℕ → Option (List ℕ)) (e r d n : ℕ) (rest ts vs : List ℕ) → isRate r ≡ true → Expects e r → d ≤ 26 → n ≤ 4096
     → n ≤ length ts → n ≤ length vs
-    → (length rest < 3 → readWith k e (frontBytes r d n ++ rest) ts vs ≡ refusedBy 10 (positionsOn d) ts vs)
-    × (3 ≤ length rest → (tagAt rest 0 ≡ 3 → ⊥) → (tagAt rest 0 ≡ 5 → ⊥) → readWith k e (frontBytes r d n ++ rest) ts vs ≡ refusedBy 11 (positionsOn d) ts vs)
-    × (3 ≤ length rest → tagAt rest 0 ≡ 5 → 3500 < n → readWith k e (frontBytes r d n ++ rest) ts vs ≡ refusedBy 15 (countOn d) ts vs)
+    → (length rest < 3 → readWith k e (frontBytes r d n ++ rest) ts vs ≡ refusedBy 10 (positionsPlace d) ts vs)
+    × (3 ≤ length rest → (tagAt rest 0 ≡ 3 → ⊥) → (tagAt rest 0 ≡ 5 → ⊥) → readWith k e (frontBytes r d n ++ rest) ts vs ≡ refusedBy 11 (positionsPlace d) ts vs)
+    × (3 ≤ length rest → tagAt rest 0 ≡ 5 → 3500 < n → readWith k e (frontBytes r d n ++ rest) ts vs ≡ refusedBy 15 (countPlace d) ts vs)
 
 -- a head that states l bytes with fewer behind it, and a whole body that holds no positions
 abbrev pub BodyByForm : Type 0
 BodyByForm = (k : ℕ → List ℕ → Option (List ℕ)) (e r d n : ℕ) (f : Form) (rest ts vs : List ℕ) → isRate r ≡ true → Expects e r → d ≤ 26
     → n ≤ pointsOf f → n ≤ length ts → n ≤ length vs
     → ((l : ℕ) → l < 256 ^ 2 → length rest < l
-    → readWith k e (frontBytes r d n ++ ((positionsTag f ∷ bytesOf 2 l) ++ rest)) ts vs ≡ refusedBy 10 (positionsOn d) ts vs)
+    → readWith k e (frontBytes r d n ++ ((positionsTag f ∷ bytesOf 2 l) ++ rest)) ts vs ≡ refusedBy 10 (positionsPlace d) ts vs)
     × ((body : List ℕ) → length body < 256 ^ 2 → readPositions (tableOf f) n body ≡ none
-    → readWith k e (frontBytes r d n ++ (fieldBytes (fieldOf (positionsTag f) body) ++ rest)) ts vs ≡ refusedBy 17 (positionsOn d) ts vs)
+    → readWith k e (frontBytes r d n ++ (fieldBytes (fieldOf (positionsTag f) body) ++ rest)) ts vs ≡ refusedBy 17 (positionsPlace d) ts vs)
 
 -- its tag and its body
 abbrev pub fieldOfPoints : Form → List ℕ → Field

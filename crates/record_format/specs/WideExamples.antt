@@ -3,12 +3,9 @@
 --   escaped x                       the code of the row of 64 bits with the bits of x
 --   BodyExample, body, bodies       what is read from such a body by the wide table; bodies-hold: each is as it is given
 --   front n, sided n                the fields of the rate 96000 and the count n, without a side and on side 4
---   twoOpen                         two points at 0 in the wide form, whose ratios are the exceptions 0 and 1: no coding, but an open form
---   refusedRead n p, read d n f u   the answer of a refusal, and of a record with side d, n points, the form's tag f and u bytes
---   ReadExample, row, rowOpen       the input, the room for numbers, and the answers of strict and of open reading
+--   row m s a                       both readings of s with room for m points give a
 --   reads, reads-hold               the rows, and that each is as it is given; open-points: what open reading leaves in the outputs
---   WriteExample, wrote             a run, the room, and the answer
---   writes, writes-hold             the rows, and that each is as it is given
+--   writes, writes-hold             likewise of writing
 use mathlib.Core.Path.{_≡_, refl}
 use mathlib.Core.List.{List, [], _∷_, _++_, map}
 use mathlib.Core.Option.{Option, none, some}
@@ -16,7 +13,7 @@ use Prim.Native.Nat.{ℕ, _+_, _-_, _^_}
 use lib.ListN.{replicate}
 use Rattle.lists.specs.Lists.{member, firstIndex}
 use Rattle.lists.specs.Compare.{begins, same}
-use Rattle.bits.specs.Digits.{digitsOf, bitsOf, bytesOf, numberOf}
+use Rattle.bits.specs.Digits.{digitsOf, bitsOf, numberOf}
 use Rattle.bits.specs.Packing.{bits, eights, pack}
 use Rattle.limits.specs.Rates.{rates, isRate}
 use Rattle.limits.specs.Sides.{isSide}
@@ -31,12 +28,12 @@ use Rattle.ratio_format.specs.Forms.{written, coded}
 use Rattle.ratio_format.specs.Open.{openRead}
 use Rattle.ratio_format.specs.Bodies.{codedFrom, openFrom, strictRatios}
 use Rattle.record_format.specs.declared.ReadAnswer.{ReadAnswer}
-use Rattle.record_format.specs.declared.WriteAnswer.{WriteAnswer}
 use Rattle.record_format.specs.Fields.{fieldBytes, laid, tagAt, lengthAt, bodyAt, nextAt}
 use Rattle.record_format.specs.Examples.{pausedBytes}
-use Rattle.record_format.specs.Runs.{Run, run, recordOf}
+use Rattle.record_format.specs.Runs.{run, recordOf}
 use Rattle.record_format.specs.Writing.{writeRefusal, writeAnswer}
-use Rattle.record_format.specs.Reading.{countAt, sideIn, readWith, readStrict, readOpen}
+use Rattle.record_format.specs.AnswerExamples.{rate, side, count, twoOpen, refusedRead, read, ReadExample, alike, openOnly, ReadsSo, WriteExample, wrote, WritesSo}
+use Rattle.record_format.specs.Reading.{countAt, sideIn, readWith, readOpen}
 
 -- ---- steps
 
@@ -90,38 +87,15 @@ bodies-hold = refl
 
 -- a rate's field and a count's
 abbrev front : ℕ → List ℕ
-front n = 0x01 ∷ 0x00 ∷ 0x04 ∷ 0x00 ∷ 0x01 ∷ 0x77 ∷ 0x00 ∷ 0x02 ∷ 0x00 ∷ 0x02 ∷ bytesOf 2 n
+front n = rate ++ count n
 
 -- a side's between them
 abbrev sided : ℕ → List ℕ
-sided n = 0x01 ∷ 0x00 ∷ 0x04 ∷ 0x00 ∷ 0x01 ∷ 0x77 ∷ 0x00 ∷ 0x06 ∷ 0x00 ∷ 0x01 ∷ 0x04 ∷ 0x02 ∷ 0x00 ∷ 0x02 ∷ bytesOf 2 n
+sided n = rate ++ (side 4 ++ count n)
 
--- every other returned number is 0
-abbrev refusedRead : ℕ → ℕ → ReadAnswer
-refusedRead n p = record { number = n; place = p; rate = 0; side = 0; count = 0; form = 0; used = 0 }
-
--- a success, with its form's tag
-abbrev read : ℕ → ℕ → ℕ → ℕ → ReadAnswer
-read d n f u = record { number = 0; place = 0; rate = 96000; side = d; count = n; form = f; used = u }
-
--- what is read into room for so many numbers, and what it gives
-pub record ReadExample : Type 0 where
-  pub room : ℕ
-  pub input : List ℕ
-  pub strictly : ReadAnswer
-  pub openly : ReadAnswer
-
--- both readings answer alike
+-- without a rate expected, both readings answer alike
 abbrev row : ℕ → List ℕ → ReadAnswer → ReadExample
-row m s a = record { room = m; input = s; strictly = a; openly = a }
-
--- only open reading accepts
-abbrev rowOpen : List ℕ → ReadAnswer → ReadAnswer → ReadExample
-rowOpen s a b = record { room = 4096; input = s; strictly = a; openly = b }
-
--- the positions' and the ratios' field of two points
-abbrev twoOpen : List ℕ
-twoOpen = 0x05 ∷ 0x00 ∷ 0x10 ∷ (replicate 16 0 ++ (0x04 ∷ 0x00 ∷ 0x12 ∷ 0xFF ∷ (replicate 8 0 ++ (0xFF ∷ (replicate 7 0 ++ (0x01 ∷ []))))))
+row m s a = alike 0 m s a
 
 -- 3,501 points: nothing behind the count, a cut head, another tag, each form's tag; the room first; 4,096 wide points, 4,097, and 3,500; no points with a
 -- byte too many, and in each form; tag 5 in the place of the ratios'; a run with a pause; an open form
@@ -146,35 +120,23 @@ reads =
     ∷ row 4096 (front 0 ++ (0x05 ∷ 0x00 ∷ 0x00 ∷ 0x05 ∷ 0x00 ∷ 0x00 ∷ [])) (refusedRead 11 15)
     ∷ row 3 pausedBytes (read 0 3 5 54)
     ∷ row 2 pausedBytes (refusedRead 16 7)
-    ∷ rowOpen (front 2 ++ twoOpen) (refusedRead 18 31) (read 0 2 5 52)
-    ∷ rowOpen (sided 2 ++ twoOpen) (refusedRead 18 35) (read 4 2 5 56)
+    ∷ openOnly 4096 (front 2 ++ twoOpen 5) (refusedRead 18 31) (read 0 2 5 52)
+    ∷ openOnly 4096 (sided 2 ++ twoOpen 5) (refusedRead 18 35) (read 4 2 5 56)
     ∷ []
 
 -- each answer, computed from the definitions, is the one that is given
-pub reads-hold :
-    (map (λ x. readStrict 0 (x .input) (replicate (x .room) 0) (replicate (x .room) 0) .answer) reads ≡ map (λ x. x .strictly) reads)
-    × (map (λ x. readOpen 0 (x .input) (replicate (x .room) 0) (replicate (x .room) 0) .answer) reads ≡ map (λ x. x .openly) reads)
+pub reads-hold : ReadsSo reads
 unfolding reads member firstIndex begins same digitsOf numberOf bits eights pack rates isRate isSide firstOf rows wideRows inTable code stepsFrom steps stepBits positionBits codedPositions validPositions stepAt decodedSteps decodedBits decoded readPositions zerosAt leadZeros trailZeros sumOf find best ratioForm written coded codedFrom openRead openFrom strictRatios tagAt lengthAt bodyAt nextAt countAt sideIn readWith
 reads-hold = (refl, refl)
 
 -- the points at the front of both outputs, which keep the rest
 pub open-points :
-    (readOpen 0 (front 2 ++ twoOpen) (replicate 3 7) (replicate 3 8) .positions ≡ 0 ∷ 0 ∷ 7 ∷ [])
-    × (readOpen 0 (front 2 ++ twoOpen) (replicate 3 7) (replicate 3 8) .ratios ≡ 0 ∷ 1 ∷ 8 ∷ [])
+    (readOpen 0 (front 2 ++ twoOpen 5) (replicate 3 7) (replicate 3 8) .positions ≡ 0 ∷ 0 ∷ 7 ∷ [])
+    × (readOpen 0 (front 2 ++ twoOpen 5) (replicate 3 7) (replicate 3 8) .ratios ≡ 0 ∷ 1 ∷ 8 ∷ [])
 unfolding member firstIndex begins same digitsOf numberOf bits eights pack rates isRate isSide firstOf rows wideRows inTable code stepsFrom steps stepBits positionBits codedPositions validPositions stepAt decodedSteps decodedBits decoded readPositions openRead openFrom tagAt lengthAt bodyAt nextAt countAt sideIn readWith
 open-points = (refl, refl)
 
 -- ---- writing
-
--- a run, the room that is lent, and the answer
-pub record WriteExample : Type 0 where
-  pub subject : Run
-  pub room : ℕ
-  pub answer : WriteAnswer
-
--- such an example: the answer's number, place and length
-abbrev wrote : Run → ℕ → ℕ → ℕ → ℕ → WriteExample
-wrote r m n p l = record { subject = r; room = m; answer = record { number = n; place = p; length = l } }
 
 -- a step that only the wide form takes; the first of two such steps, and of two positions that neither takes; 3,501 points; the room; fewer ratios than
 -- positions, a side above 26, and no points
@@ -193,6 +155,6 @@ writes =
     ∷ []
 
 -- each answer, computed from the definitions, is the one that is given
-pub writes-hold : map (λ x. writeAnswer (x .subject) (replicate (x .room) 0)) writes ≡ map (λ x. x .answer) writes
+pub writes-hold : WritesSo writes
 unfolding writes member firstIndex digitsOf eights pack rates isRate firstOf rows wideRows inTable code stepsFrom steps stepBits positionBits codedPositions find best ratioForm written coded codedFrom fieldBytes laid recordOf writeRefusal writeAnswer
 writes-hold = refl

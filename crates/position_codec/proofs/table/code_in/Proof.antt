@@ -32,17 +32,11 @@ prefixes-of-requires c κs = search needs
 abbrev start : tie.After-prefixes-of → tie.Start
 start c = c .before .before
 
-mul-t6 : tie.Need-mul-t6
-mul-t6 c = omega (arith, small (start c))
+byte-of-requires : tie.Need-byte-of-requires
+byte-of-requires c κs = omega (arith, small (start c))
 
-shr-t8 : tie.Need-shr-t8
-shr-t8 c = omega (arith, small (start (c .before)))
-
-mul-t11 : tie.Need-mul-t11
-mul-t11 c = omega (arith, small (start (c .before)))
-
-shr-t13 : tie.Need-shr-t13
-shr-t13 c = omega (arith, small (start (c .before .before)))
+byte-of-requires-2 : tie.Need-byte-of-requires-2
+byte-of-requires-2 c κs = omega (arith, small (start (c .before)))
 
 modulo-requires : tie.Need-modulo-requires
 modulo-requires c κs =
@@ -58,7 +52,7 @@ returns c =
     let z = s .args .z in
     let i = s .args .row in
     let w = words .before .width-of in
-    let p = words .prefixes-of .ensures i (inside s) in
+    let p = rw (sym (c .before .before .byte-of .ensures), sym (c .before .byte-of2 .ensures)) at (words .prefixes-of .ensures i (inside s)) in
     coded-by (tableOf f) z (s .pre .0) i (s .pre .1) _ _ (w .result) (c .modulo .result)
     (p .prefixed) (p .short) (p .fits) (omega (arith, w .ensures, row-narrow i (small s)))
     (p .bits) (ap (λ (r : Row). r .width) (same-range f i (inside s)) ∙ sym (w .ensures))
@@ -70,9 +64,7 @@ code-in-spec =
     (tie.spec
     width-of-requires
     prefixes-of-requires
-    mul-t6
-    shr-t8
-    mul-t11
-    shr-t13
+    byte-of-requires
+    byte-of-requires-2
     modulo-requires
     returns)

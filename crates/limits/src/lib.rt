@@ -1,7 +1,9 @@
 // The limits of a run: rates, points, positions and sides.
 ghost use mathlib.Core.Path.{_≡_};
+ghost use Prim.Native.Nat.{_*_, _^_, _<_};
+ghost use Rattle.lists.specs.Lists.{member};
 ghost use Rattle.limits.specs.Points.{firstHigh};
-ghost use Rattle.limits.specs.Rates.{isRate};
+ghost use Rattle.limits.specs.Rates.{timesOneTwoFour, isRate};
 ghost use Rattle.limits.specs.Sides.{isSide};
 
 // The largest number of points of a run, and of one in the wide form.
@@ -15,14 +17,19 @@ pub const MAX_POSITION: u64 = 4611686018427387903;
 // The largest side of a disc; 0 stands for none.
 pub const MAX_SIDE: u32 = 26;
 
-// Whether a rate is in the list of rates.
+// Whether a number is a base rate times one, two or four; the bound keeps the products within 32 bits.
+fn is_times_one_two_four(base: u32, rate: u32) -> bool
+    requires { ⌜ 4 * base < 2 ^ 32 ⌝ }
+    ensures { λ r. ⌜ r ≡ member rate (timesOneTwoFour base) ⌝ }
+{
+    rate == base || rate == 2 * base || rate == 4 * base
+}
+
+// Whether a number is a rate: 44,100 or 48,000 times one, two or four.
 pub fn is_rate(rate: u32) -> bool
     ensures { λ r. ⌜ r ≡ isRate rate ⌝ }
 {
-    match rate {
-        44100 | 48000 | 88200 | 96000 | 176400 | 192000 => true,
-        _ => false,
-    }
+    is_times_one_two_four(44100, rate) || is_times_one_two_four(48000, rate)
 }
 
 // Whether a number is a side that a record stores.

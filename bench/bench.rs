@@ -5,13 +5,15 @@
 //!
 //! Live addition and stepping are set beside straightforward ones that take and return their
 //! state by value; the straightforward step is a C function as the library's is, so that both
-//! are handed the state in the same way. Positions are timed in runs of one ratio throughout,
-//! which takes a byte and no search; so are those of the wide form, in a table of its own. Runs
-//! have no side but in a table of their own. At the end stand the targets that were not met.
+//! are handed the state in the same way. A move of a record to the other form is set beside the
+//! two calls of the library that it stands for, strict reading and writing in that form; moved are
+//! runs that both forms take. Positions are timed in runs of one ratio throughout, which takes a
+//! byte and no search; so are those of the wide form, in a table of its own. Runs have no side but
+//! in a table of their own. At the end stand the targets that were not met.
 //!
-//! Each sample of the library is timed between two of the straightforward implementation. A
-//! ratio says how many times as fast the library is as the mean of these two; printed are
-//! medians over the samples. MB/s count 8 bytes for each ratio.
+//! Each sample of the library is timed between two of what it is set beside. A ratio says how many
+//! times as fast the library is as the mean of these two; printed are medians over the samples.
+//! MB/s count 8 bytes for each ratio.
 
 #[path = "../tests/rust/answers.rs"]
 mod answers;
@@ -20,7 +22,7 @@ mod answers;
 mod library;
 mod plain;
 
-use answers::{Cursor, Live, Making, Reading, Stepped, Write, Written, OLD, WIDE};
+use answers::{Cursor, Live, Making, Move, Reading, Stepped, Write, Written, OLD, WIDE};
 use std::hint::black_box;
 
 const POINTS: usize = 4_096;
@@ -46,6 +48,7 @@ const KINDS: [&str; 9] = [
 
 /// One ratio throughout: a kind of its own, to time the positions.
 const SAME: usize = 9;
+const SAME_NAME: &str = "one ratio throughout";
 
 /// The kind with which runs of a side are timed.
 const SINES: usize = 3;
@@ -217,6 +220,9 @@ enum Call {
     Write,
     Strict,
     Open,
+    ToWide,
+    ToOld,
+    StrictAndWrite,
     Live,
     Step,
 }
@@ -226,8 +232,33 @@ fn name(call: Call) -> &'static str {
         Call::Write => "write",
         Call::Strict => "strict read",
         Call::Open => "open read",
+        Call::ToWide => "move to the wide form",
+        Call::ToOld => "move to the old form",
+        Call::StrictAndWrite => "strict read, and write in the other form",
         Call::Live => "live addition",
         Call::Step => "step",
+    }
+}
+
+fn is_move(call: Call) -> bool {
+    call == Call::ToWide || call == Call::ToOld
+}
+
+/// What a call of the library is set beside.
+fn beside(call: Call) -> (&'static Calls, Call) {
+    if is_move(call) {
+        (&LIBRARY, Call::StrictAndWrite)
+    } else {
+        (&PLAIN, call)
+    }
+}
+
+/// The form that a run is not in.
+fn other(form: u32) -> u32 {
+    if form == WIDE {
+        OLD
+    } else {
+        WIDE
     }
 }
 
@@ -238,7 +269,7 @@ fn ratios_body(record: &[u8]) -> &[u8] {
     &record[positions + 3 + usize::from(length) + 3..]
 }
 
-/// Does one call on a run, or one addition or step for each of its ratios.
+/// Does one call on a run, or two, or one addition or step for each of its ratios.
 fn work(calls: &Calls, call: Call, run: &Run, out: &mut Output) {
     match call {
         Call::Write => {
@@ -255,6 +286,24 @@ fn work(calls: &Calls, call: Call, run: &Run, out: &mut Output) {
             let read = read(RATE, &run.record, &mut out.positions, &mut out.ratios);
             assert_eq!(read.used, run.record.len() as u64);
             assert_eq!((read.side, read.form), (run.side, run.form));
+        }
+        Call::ToWide | Call::ToOld => {
+            let move_record: Move = if call == Call::ToWide {
+                library::to_wide
+            } else {
+                library::to_old
+            };
+            let moved = move_record(&run.record, &mut out.bytes);
+            assert_eq!((moved.number, moved.used), (0, run.record.len() as u64));
+        }
+        Call::StrictAndWrite => {
+            let (positions, ratios) = (&mut out.positions, &mut out.ratios);
+            let read = (calls.read_strict)(0, &run.record, positions, ratios);
+            let count = read.count as usize;
+            let (positions, ratios) = (&positions[..count], &ratios[..count]);
+            let (form, bytes) = (other(read.form), &mut out.bytes);
+            let written = (calls.write)(read.rate, read.side, form, positions, ratios, bytes);
+            assert_eq!((written.number, read.used), (0, run.record.len() as u64));
         }
         Call::Live => {
             let mut state = (calls.live_new)();
@@ -287,6 +336,11 @@ fn check(calls: &Calls, call: Call, run: &Run, out: &mut Output) {
         Call::Write => out.bytes.starts_with(record),
         Call::Strict | Call::Open => {
             out.positions.starts_with(run.positions) && out.ratios.starts_with(run.ratios)
+        }
+        Call::ToWide | Call::ToOld | Call::StrictAndWrite => {
+            let form = other(run.form);
+            let moved = &runs(run.side, form, run.positions, run.ratios, count)[0];
+            !moved.record.is_empty() && out.bytes.starts_with(&moved.record)
         }
         Call::Live => out.bytes.starts_with(ratios_body(record)),
         Call::Step => out.ratios.starts_with(run.ratios),
@@ -341,20 +395,21 @@ fn median(mut numbers: Vec<f64>) -> f64 {
 /// Medians for one call on one kind of data.
 struct Cell {
     copy: f64,
-    plain: f64,
+    beside: f64,
     library: f64,
     ratio: f64,
 }
 
 fn measure(call: Call, runs: &[Run], samples: usize) -> Cell {
-    for calls in [&PLAIN, &LIBRARY] {
+    let (beside, library) = (beside(call), (&LIBRARY, call));
+    for (calls, call) in [beside, library] {
         let out = &mut Output::new();
         for run in runs {
             check(calls, call, run, out);
         }
     }
     let out = &mut Output::new();
-    let mut all = |calls: &Calls, repeats: usize| {
+    let mut all = |(calls, call): (&Calls, Call), repeats: usize| {
         time(repeats, || {
             for run in runs {
                 work(calls, call, black_box(run), out);
@@ -362,17 +417,17 @@ fn measure(call: Call, runs: &[Run], samples: usize) -> Cell {
             }
         })
     };
-    let once = all(&PLAIN, 3);
+    let once = all(beside, 3);
     let repeats = (SAMPLE / once).ceil() as usize;
-    let (mut plains, mut libraries, mut ratios) = (Vec::new(), Vec::new(), Vec::new());
+    let (mut besides, mut libraries, mut ratios) = (Vec::new(), Vec::new(), Vec::new());
     for _ in 0..samples {
-        let before = all(&PLAIN, repeats);
-        let library = all(&LIBRARY, repeats);
-        let after = all(&PLAIN, repeats);
-        let plain = (before + after) / 2.0;
-        plains.push(plain);
+        let before = all(beside, repeats);
+        let library = all(library, repeats);
+        let after = all(beside, repeats);
+        let beside = (before + after) / 2.0;
+        besides.push(beside);
         libraries.push(library);
-        ratios.push(plain / library);
+        ratios.push(beside / library);
     }
     let copies = (0..samples).map(|_| {
         time(10 * repeats, || {
@@ -386,16 +441,18 @@ fn measure(call: Call, runs: &[Run], samples: usize) -> Cell {
     let megabytes = (8 * points) as f64 / 1e6;
     Cell {
         copy: megabytes / median(copies.collect()),
-        plain: megabytes / median(plains),
+        beside: megabytes / median(besides),
         library: megabytes / median(libraries),
         ratio: median(ratios),
     }
 }
 
 /// The least ratio that is wanted of a call on runs of a length: on one of the kinds, where the
-/// straightforward implementation does so many MB/s. Short runs are held to a third alone.
+/// straightforward implementation does so many MB/s. Short runs are held to a third alone. A move
+/// should nowhere be slower than the two calls.
 fn target(call: Call, length: usize, kind: usize, plain: f64) -> f64 {
     match call {
+        Call::ToWide | Call::ToOld | Call::StrictAndWrite => 1.0,
         _ if length == SHORT => 1.0 / 3.0,
         Call::Write | Call::Strict => match kind {
             2..=5 | 8 => 3.0,
@@ -409,11 +466,17 @@ fn target(call: Call, length: usize, kind: usize, plain: f64) -> f64 {
     }
 }
 
-/// The columns' head of a table, with a name for each group of columns.
-fn head(groups: &[impl AsRef<str>]) {
+/// The columns' head of a call's table, with a name for each group of columns.
+fn head(call: Call, groups: &[impl AsRef<str>]) {
+    let [beside, library] = if is_move(call) {
+        ["2 calls", "move"]
+    } else {
+        ["plain", "library"]
+    };
     print!("{:24}", "MB/s");
     for group in groups {
-        print!(" | {:9} copy   plain library   ratio", group.as_ref());
+        let group = group.as_ref();
+        print!(" | {group:9} copy {beside:>7} {library:>7}   ratio");
     }
     println!();
 }
@@ -428,7 +491,7 @@ fn cell(
     missed: &mut Vec<String>,
 ) -> f64 {
     let cell = measure(call, runs, samples);
-    print!(" | {:14.0} {:7.0}", cell.copy, cell.plain);
+    print!(" | {:14.0} {:7.0}", cell.copy, cell.beside);
     print!(" {:7.0} {:7.2}", cell.library, cell.ratio);
     let wanted = wanted(&cell);
     if cell.ratio < wanted {
@@ -446,9 +509,13 @@ fn table(call: Call, length: usize, samples: usize) -> Vec<String> {
         Call::Live | Call::Step => &[""],
         _ => &["regular", "irregular"],
     };
-    head(steps);
+    head(call, steps);
+    let form = if call == Call::ToOld { WIDE } else { OLD };
+    // Whole runs alone: those of as many points as the wide form takes leave a rest.
+    let points = POINTS / length * length;
+    let same = is_move(call).then_some((SAME, SAME_NAME));
     let mut all_ratios = vec![Vec::new(); steps.len()];
-    for (kind, name) in KINDS.iter().enumerate() {
+    for (kind, name) in KINDS.into_iter().enumerate().chain(same) {
         print!("{name:24}");
         let ratios = ratios(kind);
         for (steps, all_ratios) in steps.iter().zip(&mut all_ratios) {
@@ -456,9 +523,9 @@ fn table(call: Call, length: usize, samples: usize) -> Vec<String> {
             let what = format!("{} of {length} points, {name}, {steps}", self::name(call));
             all_ratios.push(cell(
                 call,
-                &runs(0, OLD, &positions, &ratios, length),
+                &runs(0, form, &positions[..points], &ratios[..points], length),
                 samples,
-                |cell| target(call, length, kind, cell.plain),
+                |cell| target(call, length, kind, cell.beside),
                 what.trim_end_matches(", "),
                 &mut missed,
             ));
@@ -485,7 +552,7 @@ fn positions_table(form: u32, samples: usize) -> Vec<String> {
         _ => ("positions", POINTS, &["regular", "irregular"]),
     };
     println!("\n{what}, {points} points of one ratio");
-    head(steps);
+    head(Call::Write, steps);
     let ratios = ratios(SAME);
     for call in [Call::Write, Call::Strict, Call::Open] {
         print!("{:24}", name(call));
@@ -511,7 +578,7 @@ fn sides_table(samples: usize) -> Vec<String> {
     let mut missed = Vec::new();
     println!("\nside {SIDE}, two sines, regular steps, by the number of points");
     let lengths = [POINTS, SHORT];
-    head(&lengths.map(|length| length.to_string()));
+    head(Call::Write, &lengths.map(|length| length.to_string()));
     let (positions, ratios) = (positions("regular"), ratios(SINES));
     for call in [Call::Write, Call::Strict, Call::Open] {
         print!("{:24}", name(call));
@@ -520,7 +587,7 @@ fn sides_table(samples: usize) -> Vec<String> {
                 call,
                 &runs(SIDE, OLD, &positions, &ratios, length),
                 samples,
-                |cell| target(call, length, SINES, cell.plain),
+                |cell| target(call, length, SINES, cell.beside),
                 &format!("side {SIDE}, {} of {length} points", name(call)),
                 &mut missed,
             );
@@ -539,7 +606,7 @@ fn growth(samples: usize) {
         print!("{:24}", name(call));
         for length in [256, 1_024, POINTS] {
             let cell = measure(call, &runs(0, OLD, &positions, &ratios, length), samples);
-            let (library, plain) = (8_000.0 / cell.library, 8_000.0 / cell.plain);
+            let (library, plain) = (8_000.0 / cell.library, 8_000.0 / cell.beside);
             print!(" | {length:5}: {library:6.1} ({plain:6.1})");
         }
         println!();
@@ -556,7 +623,11 @@ fn main() {
         }
     };
     println!("copy: the positions and ratios (live: ratios) copied; plain: straightforward");
-    println!("ratio: how many times as fast as plain the library is; medians of {samples} samples");
+    println!("2 calls: the library's strict read, and write in the form moved to");
+    println!(
+        "ratio: how many times as fast as plain, or as 2 calls, the library is; \
+         medians of {samples} samples"
+    );
     let mut missed = Vec::new();
     for length in [POINTS, SHORT] {
         for call in [
@@ -566,6 +637,11 @@ fn main() {
             Call::Live,
             Call::Step,
         ] {
+            missed.extend(table(call, length, samples));
+        }
+    }
+    for length in [WIDE_POINTS, SHORT] {
+        for call in [Call::ToWide, Call::ToOld] {
             missed.extend(table(call, length, samples));
         }
     }

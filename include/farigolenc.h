@@ -12,7 +12,8 @@
  * old form, tag 3, has no code for a step outside -2^31 + 1 to 2^31, such as a
  * long pause makes; its records have at most 55325 bytes. The wide form, tag 5,
  * has a code for each step between positions, and takes at most 3500 points. A run
- * that both forms take has a record in each. Calls that are given neither a form
+ * that both forms take has a record in each, and farigolenc_to_wide and
+ * farigolenc_to_old make each out of the other. Calls that are given neither a form
  * nor a record know of no form, and their limit is 4096.
  *
  * Answers begin with a number, 0 for success or the number of a refusal, and a
@@ -71,7 +72,7 @@
  * must be looked at and compiled again; the minor grows by one when something is
  * added. Records have no version. */
 #define FARIGOLENC_VERSION_MAJOR 3
-#define FARIGOLENC_VERSION_MINOR 0
+#define FARIGOLENC_VERSION_MINOR 1
 
 #include <stddef.h>
 #include <stdint.h>
@@ -81,7 +82,7 @@ extern "C" {
 #endif
 
 /* Largest side, and largest number of points, points in the wide form, ratios in a
- * window, bytes in a record that farigolenc_write writes, and bytes that
+ * window, bytes in a record that farigolenc_write or a move writes, and bytes that
  * farigolenc_live_add writes. */
 #define FARIGOLENC_SIDES 26
 #define FARIGOLENC_POINTS 4096
@@ -139,6 +140,36 @@ farigolenc_read_answer farigolenc_read_open(
     const uint8_t *record, size_t record_length,
     uint64_t *positions, size_t positions_length,
     uint64_t *ratios, size_t ratios_length);
+
+/* Moves a record to the other form: farigolenc_to_wide one that is in the old form,
+ * farigolenc_to_old one that is in the wide form. The run in it stays the same: rate,
+ * side, positions and ratios. A record that is moved there and back comes out byte
+ * for byte as it was, where both moves are accepted. Bytes after the record are not
+ * looked at and not carried over, and the output may not overlap the record.
+ *
+ * Tests those of strict reading in their order, with no rate expected and without 16.
+ * The tag of the form moved to is a wrong one: 11 at the positions' field, before 15
+ * of the wide form and before the body. After the whole record toward the wide form
+ * 3, above 3500 points, and toward the old form 5; then 6, by the length of the
+ * record that would be written.
+ *
+ * That one may be longer than the one read; FARIGOLENC_RECORD bytes are always room
+ * enough. On a refusal the output is 0 from end to end, also where a part of the record was
+ * written already. The run is kept on the stack meanwhile: a move takes about 80 KiB
+ * of it. */
+typedef struct {
+    uint32_t number, place;
+    uint64_t length; /* bytes written */
+    uint64_t used;   /* bytes of the record that was read */
+} farigolenc_move_answer;
+
+farigolenc_move_answer farigolenc_to_wide(
+    const uint8_t *record, size_t record_length,
+    uint8_t *out, size_t out_length);
+
+farigolenc_move_answer farigolenc_to_old(
+    const uint8_t *record, size_t record_length,
+    uint8_t *out, size_t out_length);
 
 /* The time from the first position to the last, rounded toward zero; 0 for no
  * position or one. Tests 1, 3 and 4, the last over all positions. */

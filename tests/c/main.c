@@ -1,6 +1,6 @@
 /* Calls every function of farigolenc.h from C99: writes a run in both forms, reads
- * it, adds its ratios live, steps through them, explains each, and tries sides,
- * forms, kinds, spans, reasons and refusals.
+ * it, moves it from each form to the other, adds its ratios live, steps through
+ * them, explains each, and tries sides, forms, kinds, spans, reasons and refusals.
  * Prints "ok" and returns 0, or says what differs and returns 1. */
 
 #include "farigolenc.h"
@@ -25,6 +25,11 @@ typedef char count_is_fifth[offsetof(farigolenc_read_answer, count) == 16 ? 1 : 
 typedef char form_is_sixth[offsetof(farigolenc_read_answer, form) == 20 ? 1 : -1];
 typedef char used_is_last[offsetof(farigolenc_read_answer, used) == 24 ? 1 : -1];
 typedef char reading_is_32_bytes[sizeof(farigolenc_read_answer) == 32 ? 1 : -1];
+
+/* So do those of a move's. */
+typedef char length_is_third[offsetof(farigolenc_move_answer, length) == 8 ? 1 : -1];
+typedef char moved_used_is_last[offsetof(farigolenc_move_answer, used) == 16 ? 1 : -1];
+typedef char moved_is_24_bytes[sizeof(farigolenc_move_answer) == 24 ? 1 : -1];
 
 static int differences = 0;
 
@@ -57,6 +62,11 @@ typedef farigolenc_read_answer reading(uint32_t, const uint8_t *, size_t, uint64
                                        uint64_t *, size_t);
 
 static reading *const readings[2] = {farigolenc_read_strict, farigolenc_read_open};
+
+typedef farigolenc_move_answer moving(const uint8_t *, size_t, uint8_t *, size_t);
+
+/* Each moves to the form of the same index. */
+static moving *const moves[2] = {farigolenc_to_old, farigolenc_to_wide};
 
 static uint64_t bits_of(double value)
 {
@@ -455,6 +465,60 @@ static void refuse_reading(uint32_t expected, const uint8_t *record, size_t leng
     }
 }
 
+/* Moves a record to a form with just enough room, then with more; the record may end before the
+ * bytes do. */
+static void check_move(int form, const uint8_t *bytes, size_t bytes_length, size_t used,
+                       const uint8_t *record, size_t length, const char *what)
+{
+    static uint8_t out[FARIGOLENC_RECORD];
+    size_t rooms[2], i;
+    farigolenc_move_answer moved;
+
+    rooms[0] = length;
+    rooms[1] = sizeof out;
+    for (i = 0; i < 2; i++) {
+        memset(out, DIRT, sizeof out);
+        moved = moves[form](bytes, bytes_length, out, rooms[i]);
+        check(moved.number == 0 && moved.place == 0, what);
+        check(moved.length == length && moved.used == used, what);
+        check(memcmp(out, record, length) == 0, what);
+        check(all_are(out + length, sizeof out - length, DIRT), what);
+    }
+}
+
+static void refuse_move(int form, const uint8_t *bytes, size_t length, size_t room,
+                        uint32_t number, uint32_t place, const char *what)
+{
+    static uint8_t out[FARIGOLENC_RECORD];
+    farigolenc_move_answer moved;
+
+    memset(out, DIRT, sizeof out);
+    moved = moves[form](bytes, length, out, room);
+    check(moved.number == number && moved.place == place, what);
+    check(moved.length == 0 && moved.used == 0, what);
+    check(all_are(out, room, 0) && all_are(out + room, sizeof out - room, DIRT), what);
+}
+
+/* Moves the record of each form of a run to the other, with just enough room and a byte less, and
+ * neither to the form that it is in. */
+static void check_there_and_back(const uint8_t *const records[2], const size_t lengths[2],
+                                 uint32_t at, const char *what)
+{
+    int form;
+    for (form = 0; form < 2; form++) {
+        const uint8_t *from = records[1 - form], *to = records[form];
+        const size_t used = lengths[1 - form], length = lengths[form];
+        check_move(form, from, used, used, to, length, what);
+        refuse_move(form, from, used, length - 1, 6, 0, what);
+        refuse_move(form, from, used, 0, 6, 0, what);
+        refuse_move(form, from, used - 1, length, 10, at + 3 + (from[at + 1] << 8 | from[at + 2]),
+                    what);
+        refuse_move(form, to, length, length, 11, at, what);
+        refuse_move(form, to, at + 3, length, 11, at, what);
+        refuse_move(form, to, at + 2, length, 10, at, what);
+    }
+}
+
 /* Refusals by the side, and those whose places a side moves. */
 static void check_side_refusals(void)
 {
@@ -749,13 +813,85 @@ static void check_forms(void)
     }
 }
 
+static void check_moves(void)
+{
+    static uint64_t positions[POINTS], ratios[POINTS];
+    static uint8_t old[FARIGOLENC_RECORD], wide[FARIGOLENC_RECORD];
+    const uint8_t *const run[2] = {old, wide};
+    uint8_t listed[50], sided[50], damaged[46];
+    const uint8_t *const lists[2] = {example, listed};
+    const size_t sizes[2] = {46, 46};
+    size_t lengths[2], i;
+    int form;
+
+    /* The steps of the example have the same codes in both forms; bytes follow the record. */
+    memcpy(listed, example, 46);
+    memset(listed + 46, DIRT, 4);
+    listed[12] = FARIGOLENC_WIDE;
+    check_there_and_back(lists, sizes, 12, "moving the example");
+    check_move(0, listed, 50, 46, example, 46, "moving, bytes behind the record");
+
+    for (form = 0; form < 2; form++) {
+        put_side(sided, SIDE);
+        sided[16] = (uint8_t)forms[form];
+        memcpy(listed, sided, 50);
+        listed[16] = (uint8_t)forms[1 - form];
+        check_move(form, listed, 50, 50, sided, 50, "moving, a side");
+        refuse_move(form, sided, 50, 50, 11, 16, "moving, a side, another form");
+        sided[10] = 27;
+        refuse_move(form, sided, 50, 50, 20, 7, "moving, no side");
+
+        refuse_move(form, example, 0, 46, 10, 0, "moving nothing");
+        refuse_move(form, example, 0, 0, 10, 0, "moving nothing to nothing");
+        memcpy(damaged, example, 46);
+        damaged[12] = (uint8_t)forms[1 - form];
+        damaged[45] = 1;
+        refuse_move(form, damaged, 46, 46, 18, 32, "moving, an open form");
+        damaged[31] = 1;
+        refuse_move(form, damaged, 46, 46, 17, 12, "moving, a fill bit");
+        damaged[12] = (uint8_t)forms[form];
+        refuse_move(form, damaged, 46, 46, 11, 12, "moving, another form before a fill bit");
+        damaged[9] = 3;
+        refuse_move(form, damaged, 46, 46, 12, 7, "moving, length of the count before a form");
+        damaged[6] = 1;
+        refuse_move(form, damaged, 46, 46, 13, 0, "moving, unlisted rate");
+        for (i = 0; i < 256; i++) {
+            memcpy(damaged, example, 46);
+            damaged[12] = (uint8_t)i;
+            if (i != forms[1 - form]) {
+                refuse_move(form, damaged, 46, 46, 11, 12, "moving, no tag to move from");
+            }
+        }
+    }
+
+    /* Steps of several rows, so that the record is longer in the wide form. */
+    make_run(FARIGOLENC_OLD, positions, ratios);
+    lengths[0] = (size_t)farigolenc_write(48000, SIDE, FARIGOLENC_OLD, positions, POINTS, ratios,
+                                          POINTS, old, sizeof old).length;
+    lengths[1] = (size_t)farigolenc_write(48000, SIDE, FARIGOLENC_WIDE, positions, POINTS, ratios,
+                                          POINTS, wide, sizeof wide).length;
+    check(lengths[0] > 22 && lengths[1] > lengths[0], "moving a run, written");
+    check_there_and_back(run, lengths, 16, "moving a run");
+    check_move(1, old, sizeof old, lengths[0], wide, lengths[1], "moving, zeros behind the record");
+
+    /* A long pause before the point of index 7, and more behind it. */
+    make_run(FARIGOLENC_WIDE, positions, ratios);
+    lengths[1] = (size_t)farigolenc_write(48000, SIDE, FARIGOLENC_WIDE, positions, POINTS, ratios,
+                                          POINTS, wide, sizeof wide).length;
+    refuse_move(0, wide, lengths[1], sizeof old, 5, 7, "moving, long pause");
+    refuse_move(0, wide, lengths[1], 0, 5, 7, "moving, long pause, no output");
+    refuse_move(0, wide, lengths[1] - 1, 0, 10, 19 + (wide[17] << 8 | wide[18]),
+                "moving, long pause, ratios cut");
+    refuse_move(1, wide, lengths[1], sizeof old, 11, 16, "moving, long pause, in its form");
+}
+
 /* A count around the limits, in a record of which all positions are 0 and all ratios the same; the
  * forms have the same code for it. */
 static void check_limit(uint32_t side, uint32_t points)
 {
     static uint64_t zeros[FARIGOLENC_POINTS], positions[FARIGOLENC_POINTS];
     static uint64_t ratios[FARIGOLENC_POINTS];
-    static uint8_t record[FARIGOLENC_RECORD];
+    static uint8_t record[FARIGOLENC_RECORD], other[FARIGOLENC_RECORD];
     const uint32_t count_at = side == 0 ? 7 : 11, at = count_at + 5;
     const size_t most = FARIGOLENC_POINTS, cut = at + 100;
     const int too_many = points > FARIGOLENC_WIDE_POINTS;
@@ -782,6 +918,22 @@ static void check_limit(uint32_t side, uint32_t points)
         refuse_reading(0, record, length, points - 1, 16, count_at, "limit, short output");
         for (i = 0; i < 3; i++) {
             refuse_reading(0, record, at + i, most, 10, at, "limit, head cut");
+            refuse_move(form, record, at + i, length, 10, at, "limit, moving, head cut");
+        }
+        refuse_move(form, record, length, length, 11, at, "limit, moving to its form");
+        refuse_move(form, record, at + 3, length, 11, at, "limit, moving to its form, no body");
+        if (!too_many) {
+            memcpy(other, record, length);
+            other[at] = (uint8_t)forms[1 - form];
+            check_move(1 - form, record, length, length, other, length, "limit, moved");
+        } else if (forms[form] == FARIGOLENC_WIDE) {
+            refuse_move(0, record, length, length, 15, count_at, "limit, moving to the old form");
+            refuse_move(0, record, at + 3, 0, 15, count_at, "limit, moving, no body");
+        } else {
+            refuse_move(1, record, length, length, 3, 0, "limit, moving to the wide form");
+            refuse_move(1, record, length, 0, 3, 0, "limit, moving to the wide form, no output");
+            refuse_move(1, record, length - 1, 0, 10, (uint32_t)(length - 11 - points),
+                        "limit, moving to the wide form, ratios cut");
         }
         if (forms[form] == FARIGOLENC_WIDE && too_many) {
             refuse_reading(0, record, length, most, 15, count_at, "limit, wide");
@@ -810,6 +962,7 @@ static void check_limit(uint32_t side, uint32_t points)
         record[at - 1] = 1;
         refuse_reading(0, record, length, most, 15, count_at, "more than any form takes");
         refuse_reading(0, record, at, most, 15, count_at, "more than any form takes, no positions");
+        refuse_move(form, record, length, length, 15, count_at, "moving more than any form takes");
     }
 }
 
@@ -869,6 +1022,7 @@ int main(void)
         check_limit(0, limits[i]);
         check_limit(SIDE, limits[i]);
     }
+    check_moves();
     check_form_refusals();
     check_formless_limits();
     check_kinds();

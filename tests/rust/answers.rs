@@ -32,6 +32,19 @@ pub struct Reading {
     pub used: u64,
 }
 
+/// What moving a record to the other form answers.
+#[repr(C)]
+#[derive(Clone, Copy, Debug, PartialEq)]
+pub struct Moved {
+    pub number: u32,
+    pub place: u32,
+    pub length: u64,
+    pub used: u64,
+}
+
+/// Moving a record, by whichever implementation: record, output.
+pub type Move = fn(&[u8], &mut [u8]) -> Moved;
+
 /// What the span call answers.
 #[repr(C)]
 #[derive(Clone, Copy, Debug, PartialEq)]

@@ -10,9 +10,12 @@ mod answers;
 mod forms;
 mod inputs;
 mod library;
+mod moves;
 mod reference;
 
-use answers::{Cursor, Explained, Kind, Live, Making, Reading, Span, Stepped, Write, Written};
+use answers::{
+    Cursor, Explained, Kind, Live, Making, Move, Moved, Reading, Span, Stepped, Write, Written,
+};
 use answers::{OLD, WIDE, WINDOW};
 use inputs::*;
 use std::cmp::Reverse;
@@ -30,9 +33,9 @@ struct Test {
     trace: bool,
     random: Random,
     cases: u64,
-    /// How often each call returned each number, reading each side and form, some numbers at each
-    /// place, 18 without a side (0) and with one (1), 17 and 18 in each form, and explain each
-    /// reason, place and sum.
+    /// How often each call returned each number, reading and moving each side, reading each form,
+    /// some numbers at each place, 18 without a side (0) and with one (1), 17 and 18 in each form,
+    /// how many bytes moving added, and explain each reason, place and sum.
     numbers: BTreeMap<(&'static str, u32), u64>,
 }
 
@@ -42,6 +45,13 @@ type Add = fn(&mut Live, u64, &mut [u8]) -> Written;
 // The place of 15 where the form gives it, and that of 16 where it would.
 const LATER_15: &str = "reading, place of 15 by the form";
 const EARLIER_16: &str = "reading, place of 16 before it";
+
+// The places of 11 and 15 in moving where the form gives them.
+const MOVED_TO_11: &str = "moving, place of 11 by the form";
+const MOVED_15: &str = "moving, place of 15 by the form";
+
+/// Of so many inputs that are read, one is moved as well.
+const MOVED: usize = 8;
 
 fn hex(bytes: &[u8]) -> String {
     bytes.iter().map(|byte| format!("{byte:02x}")).collect()
@@ -158,7 +168,58 @@ impl Test {
             }
             reading
         });
+        if self.random.one_in(MOVED) {
+            self.move_in_many_ways(record);
+        }
         reading
+    }
+
+    /// Moves a record to a form; answers what the move answered, and the output before and after.
+    fn move_to(&mut self, form: u32, record: &[u8], room: usize) -> (Moved, [Vec<u8>; 2]) {
+        let front = Front::of(record);
+        let mut memory = self.random.memory::<u8>(room);
+        let (call, both): (_, [Move; 2]) = match form {
+            WIDE => ("to_wide", [reference::to_wide, library::to_wide]),
+            _ => ("to_old", [reference::to_old, library::to_old]),
+        };
+        let (moved, mut after) = self.case(
+            call,
+            || {
+                let output = format!("room {room} memory {}", hex(&memory));
+                format!("record {} {output}", hex(record))
+            },
+            |move_record| {
+                let mut memory = memory.clone();
+                let moved = move_record(record, lent(&mut memory));
+                (moved, memory)
+            },
+            both,
+            |outcome| outcome.0.number,
+        );
+        let mut seen = |what, number| *self.numbers.entry((what, number)).or_default() += 1;
+        match moved.number {
+            0 => {
+                let side = if front.count_at == 11 { record[10] } else { 0 };
+                seen("moving, side", u32::from(side));
+                if form == WIDE {
+                    seen("to_wide, bytes more", (moved.length - moved.used) as u32);
+                }
+            }
+            5 => seen("to_old, place of 5", moved.place),
+            10 => seen("moving, place of 10", moved.place),
+            11 if moved.place as usize == front.count_at + 5 && front.tag == form => {
+                seen(MOVED_TO_11, moved.place);
+            }
+            11 => seen("moving, place of 11", moved.place),
+            12 => seen("moving, place of 12", moved.place),
+            15 if front.count <= MOST_POINTS => seen(MOVED_15, moved.place),
+            15 => seen("moving, place of 15", moved.place),
+            17 => seen("moving, place of 17", moved.place),
+            18 => seen("moving, 18 behind a side", u32::from(front.count_at == 11)),
+            _ => {}
+        }
+        let outputs = [&mut memory, &mut after].map(|output| lent(output).to_vec());
+        (moved, outputs)
     }
 
     fn span(&mut self, rate: u32, positions: &[u64]) {
@@ -1134,17 +1195,19 @@ impl Test {
         self.longest_fields();
         self.sides();
         self.forms();
+        self.moves();
         self.explains();
     }
 
-    /// Prints how often each call returned each number, reading each side, each form and the places
-    /// that a side moves, and explain each reason, places at the window's ends, and each sum; each
-    /// must have come up. The place of 18 depends on the positions too, so that 18 itself is
-    /// counted, without a side (0) and with one (1).
+    /// Prints how often each call returned each number, reading and moving each side and the places
+    /// that a side moves, reading each form, moving no bytes more, some and the most, and explain
+    /// each reason, places at the window's ends, and each sum; each must have come up. The place of
+    /// 18 depends on the positions too, so that 18 itself is counted, without a side (0) and with
+    /// one (1).
     fn report(&self) {
         let reading = &[0, 10, 11, 12, 13, 14, 15, 16, 17, 18, 20][..];
         let sides: Vec<u32> = (0..=LAST_SIDE).collect();
-        let calls: [(_, &[u32]); 29] = [
+        let calls: [(_, &[u32]); 42] = [
             ("write, old form", &[0, 1, 2, 3, 4, 5, 6, 21]),
             ("write, wide form", &[0, 1, 2, 3, 4, 6, 21]),
             ("read_strict", reading),
@@ -1163,6 +1226,19 @@ impl Test {
             ("reading, 18 behind a side", &[0, 1]),
             ("reading, 18 in a form", &[OLD, WIDE]),
             ("reading, place of 20", &[7]),
+            ("to_wide", &[0, 3, 6, 10, 11, 12, 13, 15, 17, 18, 20]),
+            ("to_old", &[0, 5, 6, 10, 11, 12, 13, 15, 17, 18, 20]),
+            ("moving, side", &sides),
+            ("to_wide, bytes more", &[0, 1, 2, moves::MOST_MORE as u32]),
+            ("to_old, place of 5", &[2, 3, 4, 3_499]),
+            ("moving, place of 10", &[0, 7, 11, 12, 16]),
+            ("moving, place of 11", &[0, 7, 11, 12, 16]),
+            (MOVED_TO_11, &[12, 16]),
+            ("moving, place of 12", &[0, 7, 11]),
+            ("moving, place of 15", &[7, 11]),
+            (MOVED_15, &[7, 11]),
+            ("moving, place of 17", &[12, 16]),
+            ("moving, 18 behind a side", &[0, 1]),
             ("span", &[0, 1, 3, 4]),
             ("live_new", &[0]),
             ("live_add", &[0, 3, 6, 7]),
@@ -1212,6 +1288,7 @@ fn main() {
     };
     test.document_cases();
     test.form_cases();
+    test.move_cases();
     for _ in 0..ROUNDS {
         test.round();
     }

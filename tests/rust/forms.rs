@@ -222,6 +222,7 @@ impl Test {
                 assert_eq!(found, number_and_place, "{what}");
                 assert_eq!(reading.form, u32::from(form), "{what}");
             }
+            self.move_at_limit(record, count, tag, refusal);
         }
     }
 

@@ -1,7 +1,9 @@
 //! The library's C functions as declared in include/farigolenc.h, and safe wrappers around them.
 //! Which library that is, is said when linking: see tests/shared.
 
-use crate::answers::{Cursor, Explained, Kind, Live, Making, Reading, Span, Stepped, Written};
+use crate::answers::{
+    Cursor, Explained, Kind, Live, Making, Moved, Reading, Span, Stepped, Written,
+};
 
 unsafe extern "C" {
     fn farigolenc_write(
@@ -33,6 +35,18 @@ unsafe extern "C" {
         ratios: *mut u64,
         ratios_length: usize,
     ) -> Reading;
+    fn farigolenc_to_wide(
+        record: *const u8,
+        record_length: usize,
+        out: *mut u8,
+        out_length: usize,
+    ) -> Moved;
+    fn farigolenc_to_old(
+        record: *const u8,
+        record_length: usize,
+        out: *mut u8,
+        out_length: usize,
+    ) -> Moved;
     fn farigolenc_span(rate: u32, positions: *const u64, positions_length: usize) -> Span;
     fn farigolenc_live_new() -> Live;
     fn farigolenc_live_add(
@@ -112,6 +126,16 @@ pub fn read_open(
             ratios.len(),
         )
     }
+}
+
+pub fn to_wide(record: &[u8], out: &mut [u8]) -> Moved {
+    // SAFETY: see above.
+    unsafe { farigolenc_to_wide(record.as_ptr(), record.len(), out.as_mut_ptr(), out.len()) }
+}
+
+pub fn to_old(record: &[u8], out: &mut [u8]) -> Moved {
+    // SAFETY: see above.
+    unsafe { farigolenc_to_old(record.as_ptr(), record.len(), out.as_mut_ptr(), out.len()) }
 }
 
 pub fn span(rate: u32, positions: &[u64]) -> Span {

@@ -1,8 +1,10 @@
-//! Document 01, and of document 02 the call explain (No. 1), the side of the disc (No. 2) and the
-//! wide form (No. 3), written out plainly: every call with its whole answer and outputs. It is
-//! meant to be compared with the documents line by line, not to be fast.
+//! Document 01, and of document 02 the call explain (No. 1), the side of the disc (No. 2), the
+//! wide form (No. 3) and the moves (No. 5), written out plainly: every call with its whole answer
+//! and outputs. It is meant to be compared with the documents line by line, not to be fast.
 
-use crate::answers::{Cursor, Explained, Kind, Live, Making, Reading, Span, Stepped, Written};
+use crate::answers::{
+    Cursor, Explained, Kind, Live, Making, Moved, Reading, Span, Stepped, Written,
+};
 use crate::answers::{OLD, WIDE, WINDOW};
 
 const RATES: [u32; 6] = [44_100, 48_000, 88_200, 96_000, 176_400, 192_000];
@@ -384,8 +386,15 @@ struct Run {
     used: usize,
 }
 
-/// Reads a record; `room` is the length of the shorter output.
-fn run(record: &[u8], expected: u32, room: usize, ratio_form: FormReader) -> Result<Run, Refusal> {
+/// Reads a record whose positions are in one of some forms; `room` is the length of the shorter
+/// output.
+fn run(
+    record: &[u8],
+    expected: u32,
+    room: usize,
+    forms: &[&Form],
+    ratio_form: FormReader,
+) -> Result<Run, Refusal> {
     let at = 0;
     let rate_body = fixed_body(record, at, 1, 4)?;
     let rate = number(rate_body) as u32;
@@ -416,7 +425,8 @@ fn run(record: &[u8], expected: u32, room: usize, ratio_form: FormReader) -> Res
         return refuse(16, at);
     }
     let at = at + 3 + count_body.len();
-    let (tag, length) = head(record, at, &[OLD_FORM.tag, WIDE_FORM.tag])?;
+    let tags: Vec<u8> = forms.iter().map(|form| form.tag).collect();
+    let (tag, length) = head(record, at, &tags)?;
     let form = form_of(u32::from(tag));
     // Only the tag tells the form, and with it the count's limit.
     if count > form.most_points {
@@ -450,7 +460,7 @@ fn read(
     ratio_form: FormReader,
 ) -> Reading {
     let room = positions.len().min(ratios.len());
-    match run(record, expected, room, ratio_form) {
+    match run(record, expected, room, &[&OLD_FORM, &WIDE_FORM], ratio_form) {
         Ok(run) => {
             let count = run.positions.len();
             positions[..count].copy_from_slice(&run.positions);
@@ -497,6 +507,41 @@ pub fn read_open(
     ratios: &mut [u64],
 ) -> Reading {
     read(expected, record, positions, ratios, open_form)
+}
+
+// Moving
+
+/// The record of a run in the form moved to and the bytes used of the one that it was read from, or
+/// the first refusal but 6.
+fn moved_record(bytes: &[u8], from: &Form, to: &Form) -> Result<(Vec<u8>, usize), Refusal> {
+    // No rate is expected, and there is room for every count. The tag of the form moved to is a
+    // wrong one.
+    let run = run(bytes, 0, MOST_POINTS, &[from], strict_form)?;
+    // Of the tests of writing a run that was read can break 3 toward wide and 5 toward old alone.
+    let record = record(run.rate, run.side, to, &run.positions, &run.ratios)?;
+    Ok((record, run.used))
+}
+
+fn move_record(bytes: &[u8], from: &Form, to: &Form, out: &mut [u8]) -> Moved {
+    let (record, used) = match moved_record(bytes, from, to) {
+        Ok((record, used)) => (Ok(record), used),
+        Err(refusal) => (Err(refusal), 0),
+    };
+    let written = put(record, out);
+    Moved {
+        number: written.number,
+        place: written.place,
+        length: written.length,
+        used: if written.number == 0 { used as u64 } else { 0 },
+    }
+}
+
+pub fn to_wide(record: &[u8], out: &mut [u8]) -> Moved {
+    move_record(record, &OLD_FORM, &WIDE_FORM, out)
+}
+
+pub fn to_old(record: &[u8], out: &mut [u8]) -> Moved {
+    move_record(record, &WIDE_FORM, &OLD_FORM, out)
 }
 
 // Span

@@ -8,6 +8,7 @@ ghost use Rattle.ratio_format.specs.Stepping.{made, madeCursor, stepAnswer, ste
 ghost use Rattle.record_format.specs.Runs.{run, formOf};
 ghost use Rattle.record_format.specs.Writing.{writeAnswer, writeOutput};
 ghost use Rattle.record_format.specs.Reading.{readStrict, readOpen};
+ghost use Rattle.record_format.specs.Moves.{moveOf};
 ghost use Rattle.reasons.specs.Reasons.{explained};
 ghost use Rattle.farigolenc.specs.Kinds.{kindNumbers};
 ghost use Rattle.farigolenc.specs.Reasons.{reasonNumbers};
@@ -20,6 +21,7 @@ use ratio_format::AddAnswer;
 use ratio_format::Cursor;
 use ratio_format::Live;
 use reasons::Reason;
+use record_format::MoveAnswer;
 use record_format::ReadAnswer;
 use record_format::WIDE_TAG;
 use record_format::WriteAnswer;
@@ -124,6 +126,24 @@ pub extern "C" fn farigolenc_read_open(
         × (now (ratios .exit) ≡ readOpen expected (now (input .entry)) (now (positions .entry)) (now (ratios .entry)) .ratios) ⌝ }
 {
     record_codec::read_open(expected, input, positions, ratios)
+}
+
+// Moves a record to the wide form.
+#[no_mangle]
+pub extern "C" fn farigolenc_to_wide(input: &[u8], out: &mut [u8]) -> MoveAnswer
+    ensures { λ r. ⌜ (r ≡ moveOf Form.Wide (now (input .entry)) (now (out .entry)) .answer)
+        × (now (out .exit) ≡ moveOf Form.Wide (now (input .entry)) (now (out .entry)) .output) ⌝ }
+{
+    record_codec::to_wide(input, out)
+}
+
+// Moves a record to the old form.
+#[no_mangle]
+pub extern "C" fn farigolenc_to_old(input: &[u8], out: &mut [u8]) -> MoveAnswer
+    ensures { λ r. ⌜ (r ≡ moveOf Form.Old (now (input .entry)) (now (out .entry)) .answer)
+        × (now (out .exit) ≡ moveOf Form.Old (now (input .entry)) (now (out .entry)) .output) ⌝ }
+{
+    record_codec::to_old(input, out)
 }
 
 // Why a ratio takes its bytes: reason 1, equal to the ratio at a place; 2, the xor with the ratio at a place, with its zero bytes and their

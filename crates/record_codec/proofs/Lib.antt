@@ -1,5 +1,2 @@
-pub mod Fields
-pub mod Fronts
-pub mod Codings
 pub mod Readings
-pub mod Writings
+pub mod Movings

@@ -1,13 +1,12 @@
 // Reading: the parts of a record in their order, strictly or with the ratios by the open rule.
 ghost use mathlib.Core.Path.{_≡_};
 ghost use Rattle.record_format.specs.Reading.{refusalAnswer, lacksRoom, readWith, readStrict, readOpen};
-ghost use Rattle.record_codec.specs.Fields.{ratiosBy, Answered};
-use super::coding::form_at;
-use super::coding::form_tag;
-use super::coding::read_positions;
-use super::coding::read_ratios;
-use super::front::read_front;
+ghost use Rattle.record_parts.specs.Fields.{ratiosBy};
+ghost use Rattle.record_codec.specs.Answers.{Answered};
 use record_format::ReadAnswer;
+use record_parts::coding::form_tag;
+use record_parts::front::read_front;
+use record_parts::points::read_points;
 use refusals::Refusal;
 
 // A refused reading: both outputs are 0 from end to end.
@@ -34,7 +33,7 @@ fn lacks(positions: usize, ratios: usize, count: usize) -> bool
     positions < count || ratios < count
 }
 
-// A record read into the outputs, its ratios by the open rule or strictly: front, room, positions, ratios.
+// A record read into the outputs, its ratios by the open rule or strictly: front, room, points.
 fn read_record(
     openly: bool,
     expected: u32,
@@ -61,19 +60,21 @@ fn read_record(
             ratios,
         );
     }
-    let form = form_at(input, front.end);
-    let points = read_positions(form, input, front.end, front.place, count, positions);
-    let positions_refused = points.refusal;
-    let positions_number = positions_refused.number;
-    if positions_number != 0 {
-        return refuse_read(positions_refused, positions, ratios);
+    let points = read_points(
+        openly,
+        input,
+        count,
+        front.place,
+        front.end,
+        positions,
+        ratios,
+    );
+    let points_refused = points.refusal;
+    let points_number = points_refused.number;
+    if points_number != 0 {
+        return refuse_read(points_refused, positions, ratios);
     }
-    let values = read_ratios(openly, input, points.end, count, ratios);
-    let ratios_refused = values.refusal;
-    let ratios_number = ratios_refused.number;
-    if ratios_number != 0 {
-        return refuse_read(ratios_refused, positions, ratios);
-    }
+    let form = points.form;
     ReadAnswer {
         number: 0,
         place: 0,
@@ -81,7 +82,7 @@ fn read_record(
         side: front.side,
         count: count as u32,
         form: form_tag(form) as u32,
-        used: values.end as u64,
+        used: points.end as u64,
     }
 }
 

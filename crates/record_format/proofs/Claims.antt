@@ -33,15 +33,17 @@ use Rattle.record_format.specs.Fields.{Field, fieldOf, fieldBytes, laid}
 use Rattle.record_format.specs.Runs.{Run, run, positionsTag, formOf, ratiosTag, rateSize, countSize, sideFields, recordOf}
 use Rattle.record_format.specs.Writing.{runTests, accepts}
 use Rattle.record_format.specs.Reading.{Answer, refusalAnswer, recordAnswer, answerBy, readTests, readWith, readStrict, readOpen, formIn, listOf, otherRate}
+use Rattle.record_format.specs.Moves.{Move, moveOf}
 use Rattle.record_format.specs.Claims.{Accepted, AllAccepted, joined, ownTests, ownAnswer, runAnswer, ReadsBack, ReadsOnly, AcceptsExactly, OpenAgrees, Writes, ReadsWhole, ReadsFront, PrefixFree, ListsApart, TrailingBytes, Shortest, NineEach, Demand3}
 use Rattle.record_format.proofs.Fields.{fieldIn, closed, laid-same}
 use Rattle.record_format.proofs.Reading.{room-enough, answer-clear, answer-good}
-use Rattle.record_format.proofs.Runs.{form-of, rateField, pointFields, flatFields, record-flat, countIndex, positionsIndex, ratiosIndex, fields-small}
+use Rattle.record_format.proofs.Runs.{same-run, form-of, rateField, pointFields, flatFields, record-flat, countIndex, positionsIndex, ratiosIndex, fields-small}
 use Rattle.record_format.proofs.Sides.{sides-same}
 use Rattle.record_format.proofs.ReadsBack.{read-record}
 use Rattle.record_format.proofs.ReadsOnly.{front-stands, accepted-begins}
-use Rattle.record_format.proofs.Followed.{followed}
-use Rattle.record_format.proofs.Writing.{accepted-fits, fitting-accepted, fitting-few, accepts-clear, clear-accepts, run-refused, run-no-room, run-written}
+use Rattle.record_format.proofs.Followed.{followed, move-followed}
+use Rattle.record_format.proofs.Moves.{own-move, own-form}
+use Rattle.record_format.proofs.Writing.{Fitting, accepted-fits, fitting-accepted, fitting-few, accepts-clear, clear-accepts, run-refused, run-no-room, run-written}
 
 -- ---- demand 1, and writing
 
@@ -57,7 +59,7 @@ writes r o = (
 )
 
 -- a refused reading is the answer of its refusal
-refused-reading : (tests : List Test) (a : Answer) (ts vs : List ℕ) → (answerBy tests a ts vs .answer .number ≡ 0 → ⊥) → a .answer .number ≡ 0
+pub refused-reading : (tests : List Test) (a : Answer) (ts vs : List ℕ) → (answerBy tests a ts vs .answer .number ≡ 0 → ⊥) → a .answer .number ≡ 0
     → answerBy tests a ts vs ≡ refusalAnswer (firstOf tests) ts vs
 refused-reading tests a ts vs d z = go (eqb (firstOf tests .number) 0) refl
   where
@@ -177,13 +179,6 @@ reads-front k e s ts vs bytes h =
 isLast : ℕ → Bool
 isLast tag = eqb tag ratiosTag
 
--- a run is its parts
-same-run : (r q : Run) → r .rate ≡ q .rate → r .side ≡ q .side → r .form ≡ q .form → r .positions ≡ q .positions → r .ratios ≡ q .ratios → r ≡ q
-same-run r q a d f b c =
-    ap₂ (λ (x y : ℕ). run x y (r .form) (r .positions) (r .ratios)) a d
-    ∙ ap (λ (x : Form). run (q .rate) (q .side) x (r .positions) (r .ratios)) f
-    ∙ ap₂ (λ (x y : List ℕ). run (q .rate) (q .side) (q .form) x y) b c
-
 -- the body of one of the fields
 abbrev body-of : ℕ → List Field → List ℕ
 body-of k fs = fieldIn fs k .body
@@ -257,12 +252,26 @@ apart (r ∷ rs) (q ∷ qs) a b e =
 pub lists-apart : ListsApart
 lists-apart rs qs a b = (apart rs qs a b, ap joined)
 
+-- a move of a run's record to its own form is refused at the positions' tag, and one to the other form answers by the run
+moved-own : (r : Run) → Accepted r → (f : Form) (o : List ℕ) → (m : Move) × ((rest : List ℕ) → moveOf f (recordOf r ++ rest) o ≡ m)
+moved-own r a f o = by-form f (r .form) refl
+  where
+    fit : Fitting r
+    fit = accepted-fits r (a .passes)
+
+    by-form : (f g : Form) → r .form ≡ g → (m : Move) × ((rest : List ℕ) → moveOf f (recordOf r ++ rest) o ≡ m)
+    by-form Old Old e = (_, λ rest. own-form Old r fit rest e o)
+    by-form Old Wide e = (_, λ rest. own-move Old r fit (a .words) rest e o)
+    by-form Wide Old e = (_, λ rest. own-move Wide r fit (a .words) rest e o)
+    by-form Wide Wide e = (_, λ rest. own-form Wide r fit rest e o)
+
 pub trailing-bytes : TrailingBytes
 trailing-bytes r a e rest ts vs =
     let x = reads-back r a e rest ts vs in
     let y = reads-back r a e [] ts vs in (
       x .0 ∙ sym (y .0) ∙ ap (λ (l : List ℕ). readStrict e l ts vs) (append-nil (recordOf r)),
       x .1 ∙ sym (y .1) ∙ ap (λ (l : List ℕ). readOpen e l ts vs) (append-nil (recordOf r)),
+      λ f o. let m = moved-own r a f o in m .1 rest ∙ sym (m .1 []) ∙ ap (λ (l : List ℕ). moveOf f l o) (append-nil (recordOf r)),
     )
 
 pub shortest-of-all : Shortest
@@ -273,4 +282,4 @@ pub nine-each : NineEach
 nine-each vs = nine-bytes windowSize [] vs
 
 pub demand3 : Demand3
-demand3 = (prefix-free, lists-apart, trailing-bytes, followed, shortest-of-all, nine-each)
+demand3 = (prefix-free, lists-apart, trailing-bytes, followed, move-followed, shortest-of-all, nine-each)

@@ -1,4 +1,4 @@
--- Bytes after as many whole fields as a record has change nothing in a reading, whatever the fields hold.
+-- Bytes after as many whole fields as a record has change nothing in a reading or a move, whatever the fields hold.
 use mathlib.Core.Path.{_≡_, refl, ap, ap₂, _∙_, subst}
 use mathlib.Core.Bool.{Bool, true, false, not, cond}
 use mathlib.Core.List.{List, [], _∷_, _++_}
@@ -11,15 +11,18 @@ use Rattle.bits.specs.Digits.{numberOf}
 use Rattle.limits.specs.Points.{maxPoints}
 use Rattle.limits.specs.Rates.{isRate}
 use Rattle.limits.specs.Sides.{isSide}
-use Rattle.refusals.specs.Tests.{Test, test}
+use Rattle.refusals.specs.Tests.{Test, test, firstOf, refused}
+use Rattle.outputs.specs.Outputs.{over}
 use Rattle.position_format.specs.declared.Form.{Form}
 use Rattle.position_format.specs.declared.Form.the-variants.{Old, Wide}
 use Rattle.position_format.specs.Positions.{readPositions}
 use Rattle.position_format.specs.Tables.{tableOf, pointsOf}
+use Rattle.ratio_format.specs.Bodies.{strictRatios}
 use Rattle.record_format.specs.Fields.{tagAt, bodyAt, nextAt, headTests, bodyTests, fieldTests}
-use Rattle.record_format.specs.Runs.{rateTag, sideTag, countTag, positionsTag, formOf, ratiosTag, rateSize, sideSize, countSize}
-use Rattle.record_format.specs.Reading.{Answer, recordAnswer, answerBy, readTests, readWith, rateAt, sideAt, hasSide, countAt, endAt, rateIn, sideIn, countIn, formIn, positionsIn, ratiosIn, missing, otherRate, lacksRoom, contentsTests, rateTests, sideTests, countTests, roomTests, manyTests, positionsTests, ratiosTests}
-use Rattle.record_format.specs.Claims.{Followed}
+use Rattle.record_format.specs.Runs.{Run, rateTag, sideTag, countTag, positionsTag, formOf, ratiosTag, rateSize, sideSize, countSize, recordOf}
+use Rattle.record_format.specs.Reading.{Answer, recordAnswer, answerBy, readTests, readWith, rateAt, sideAt, hasSide, countAt, endAt, rateIn, sideIn, countIn, formIn, positionsIn, ratiosIn, missing, otherRate, lacksRoom, contentsTests, rateTests, sideTests, countTests, frontTests, roomTests, manyTests, positionsTestsBy, ratiosTests}
+use Rattle.record_format.specs.Moves.{otherForm, inForm, runIn, sourceTests, targetTests, moveTests, Move, refusedMove, recordMove, moveOf}
+use Rattle.record_format.specs.Claims.{Followed, MoveFollowed}
 use Rattle.record_format.proofs.Fields.{fieldAt, tag-same, next-same, head-within, body-same, next-later, field-whole, field-at-same}
 use Rattle.record_format.proofs.Reading.{head-tests-same, body-tests-same, field-tests-same}
 use Rattle.record_format.proofs.Runs.{countIndex, positionsIndex, ratiosIndex, pointFieldCount}
@@ -155,9 +158,9 @@ module _ (k : ℕ → List ℕ → Option (List ℕ)) (e : ℕ) (s rest ts vs : 
       ap₂ (λ (f : Form) (c : ℕ). test (ltb (pointsOf f) c) 15 (countAt (s ++ rest)) ∷ []) form-in count-in
       ∙ ap (λ (p : ℕ). test (ltb (pointsOf (formIn s)) (countIn s)) 15 p ∷ []) (count-at s rest framed)
 
-  positions-tests : positionsTests (s ++ rest) ≡ positionsTests s
-  positions-tests =
-      ap₂ (λ (a b : List Test). a ++ b) (later-head s rest framed positionsIndex (lit< tt) (positionsTag Old ∷ positionsTag Wide ∷ []))
+  positions-tests : (tags : List ℕ) → positionsTestsBy tags (s ++ rest) ≡ positionsTestsBy tags s
+  positions-tests tags =
+      ap₂ (λ (a b : List Test). a ++ b) (later-head s rest framed positionsIndex (lit< tt) tags)
       (ap₂ (λ (a b : List Test). a ++ b) many-tests
       (later-contents s rest framed positionsIndex (lit< tt) (readPositions (tableOf (formIn (s ++ rest))) (countIn (s ++ rest))) (readPositions (tableOf (formIn s)) (countIn s)) 17 reading-in))
 
@@ -166,11 +169,13 @@ module _ (k : ℕ → List ℕ → Option (List ℕ)) (e : ℕ) (s rest ts vs : 
       ap₂ (λ (a b : List Test). a ++ b) (later-head s rest framed ratiosIndex (lit< tt) (ratiosTag ∷ []))
       (later-contents s rest framed ratiosIndex (lit< tt) (k (countIn (s ++ rest))) (k (countIn s)) 18 (ap k count-in))
 
+  front-tests : frontTests e (s ++ rest) ≡ frontTests e s
+  front-tests = ap₂ (λ (a b : List Test). a ++ b) rate-tests (ap₂ (λ (a b : List Test). a ++ b) side-tests count-tests)
+
   tests-same : readTests k e (s ++ rest) (length ts) (length vs) ≡ readTests k e s (length ts) (length vs)
   tests-same =
-      ap₂ (λ (a b : List Test). a ++ b)
-      (ap₂ (λ (a b : List Test). a ++ b) rate-tests (ap₂ (λ (a b : List Test). a ++ b) side-tests count-tests))
-      (ap₂ (λ (a b : List Test). a ++ b) room-tests (ap₂ (λ (a b : List Test). a ++ b) positions-tests ratios-tests))
+      ap₂ (λ (a b : List Test). a ++ b) front-tests
+      (ap₂ (λ (a b : List Test). a ++ b) room-tests (ap₂ (λ (a b : List Test). a ++ b) (positions-tests (positionsTag Old ∷ positionsTag Wide ∷ [])) ratios-tests))
 
   answer-same : recordAnswer k (s ++ rest) ts vs ≡ recordAnswer k s ts vs
   answer-same =
@@ -190,3 +195,36 @@ module _ (k : ℕ → List ℕ → Option (List ℕ)) (e : ℕ) (s rest ts vs : 
 -- whatever a reading makes of the ratios' field
 pub followed : Followed
 followed k e s rest ts vs h = read-followed k e s rest ts vs h
+
+-- the same of a move: the run that it finds, and its tests
+module _ (f : Form) (s rest o : List ℕ) (framed : endAt s ≤ length s) where
+  run-in : runIn (s ++ rest) ≡ runIn s
+  run-in =
+      let a = rate-in strictRatios 0 s rest [] [] framed in
+      let b = side-in strictRatios 0 s rest [] [] framed in
+      let c = form-in strictRatios 0 s rest [] [] framed in
+      let d = positions-in strictRatios 0 s rest [] [] framed in
+      let e = ratios-in strictRatios 0 s rest [] [] framed in
+      cc
+
+  source-tests : sourceTests f (s ++ rest) ≡ sourceTests f s
+  source-tests =
+      ap₂ (λ (a b : List Test). a ++ b) (front-tests strictRatios 0 s rest [] [] framed)
+      (ap₂ (λ (a b : List Test). a ++ b) (positions-tests strictRatios 0 s rest [] [] framed (positionsTag (otherForm f) ∷ [])) (ratios-tests strictRatios 0 s rest [] [] framed))
+
+  move-tests : moveTests f (s ++ rest) o ≡ moveTests f s o
+  move-tests =
+      ap₂ (λ (a b : List Test). a ++ b) source-tests
+      (ap (λ (r : Run). targetTests f (r .positions) ++ (test (ltb (length o) (length (recordOf (inForm f r)))) 6 0 ∷ [])) run-in)
+
+  move-same : recordMove f (s ++ rest) o ≡ recordMove f s o
+  move-same =
+      ap₂ (λ (r : Run) (n : ℕ). record { answer = record { number = 0; place = 0; length = length (recordOf (inForm f r)); used = n }; output = over (recordOf (inForm f r)) o })
+      run-in (end-at strictRatios 0 s rest [] [] framed)
+
+  moved-alike : moveOf f (s ++ rest) o ≡ moveOf f s o
+  unfolding moveOf
+  moved-alike = ap₂ (λ (l : List Test) (m : Move). cond (refused (firstOf l)) (refusedMove (firstOf l) o) m) move-tests move-same
+
+pub move-followed : MoveFollowed
+move-followed f s rest o h = moved-alike f s rest o h

@@ -5,10 +5,12 @@ use mathlib.Core.Bool.{true, not, cond}
 use mathlib.Core.List.{List, [], _∷_, _++_}
 use mathlib.Core.Option.{Option, none, some}
 use Prim.Native.Nat.{ℕ, _+_, _^_, _≤_, _<_}
+use native.Mathlib.Nat.{add-zero}
 use native.Mathlib.Omega.{arith}
 use borrow.Author.Tests.{le-ltb}
 use lib.Dec.{ltb, lit<}
-use lib.ListN.{length}
+use lib.ListN.{length, getD, length-append}
+use lib.Seq.{getD-append-add}
 use Rattle.lists.specs.Lists.{member}
 use Rattle.bits.specs.Digits.{bytesOf, numberOf}
 use Rattle.bits.proofs.Digits.{length-digits, number-digits-lt}
@@ -24,11 +26,12 @@ use Rattle.position_format.specs.Positions.{codedPositions, validPositions, rea
 use Rattle.position_format.specs.Tables.{tableOf, pointsOf}
 use Rattle.position_format.proofs.Positions.{read-coded}
 use Rattle.position_format.proofs.Tables.{table-good}
-use Rattle.record_format.specs.Fields.{Field, fieldOf, headSize, bodyAt, nextAt}
+use Rattle.record_format.specs.Fields.{Field, fieldOf, headSize, tagAt, bodyAt, nextAt}
 use Rattle.record_format.specs.Runs.{rateTag, countTag, positionsTag, formOf, rateSize, countSize, sideFields, sideLength, frontFields}
-use Rattle.record_format.specs.Reading.{rateAt, sideAt, countAt, positionsAt, rateIn, sideIn, countIn, formIn, positionsIn, missing, otherRate, lacksRoom, readTests, sideTests, countTests, roomTests, positionsTests, ratiosTests}
-use Rattle.record_format.proofs.Fields.{FieldStands, StandAll, Small, length-field, pastAll, stand-past, small-append, stand-append, past-append}
-use Rattle.record_format.proofs.Reading.{field-passes, positions-few, tests-flat}
+use Rattle.record_format.specs.Reading.{rateAt, sideAt, countAt, positionsAt, rateIn, sideIn, countIn, formIn, positionsIn, missing, otherRate, lacksRoom, readTests, sideTests, countTests, frontTests, roomTests, positionsTests, ratiosTests}
+use Rattle.record_format.specs.WideClaims.{frontBytes}
+use Rattle.record_format.proofs.Fields.{FieldStands, StandAll, Small, length-field, laid-stand, pastAll, stand-past, small-append, stand-append, past-append}
+use Rattle.record_format.proofs.Reading.{field-passes, positions-few, front-flat}
 use Rattle.record_format.proofs.Runs.{form-of, tag-good, length-side, side-small}
 use Rattle.record_format.proofs.Sides.{stand-count, stand-side, side-passes}
 
@@ -84,24 +87,51 @@ module _ (s : List ℕ) (rate side count : ℕ) (listed : isRate rate ≡ true) 
   pub count-is : countIn s ≡ count
   count-is = ap (numberOf 256) (count-stands .within) ∙ number-digits-lt (lit< tt) countSize counts
 
-  -- 14, 15 and 16 are left, and what follows the front
-  pub front-tests : (k : ℕ → List ℕ → Option (List ℕ)) (e m n : ℕ)
-      → firstOf (readTests k e s m n)
-      ≡ firstOf (test (otherRate e rate) 14 rateAt ∷ test (ltb maxPoints count) 15 (countAt s) ∷ test (lacksRoom m n count) 16 (countAt s) ∷ (positionsTests s ++ ratiosTests k s))
+  -- 14 and 15 are left, and the tests that follow the front's
+  pub front-pass : (e : ℕ) (ts : List Test)
+      → firstOf (frontTests e s ++ ts) ≡ firstOf (test (otherRate e rate) 14 rateAt ∷ test (ltb maxPoints count) 15 (countAt s) ∷ ts)
   unfolding member
-  front-tests k e m n =
-      let later = positionsTests s ++ ratiosTests k s in
-      let from-count = countTests s ++ (roomTests s m n ++ later) in
+  front-pass e ts =
+      let from-count = countTests s ++ ts in
       let from-side = sideTests s ++ from-count in
-      ap firstOf (tests-flat k e s m n)
+      ap firstOf (front-flat e s ts)
       ∙ field-passes (all .0) (rateTag ∷ []) (some rateSize) (test (not (isRate (rateIn s))) 13 rateAt ∷ test (otherRate e (rateIn s)) 14 rateAt ∷ from-side)
       refl (length-digits 256 rateSize rate)
       ∙ first-skip _ _ (ap (λ (x : ℕ). not (isRate x)) rate-is ∙ ap not listed)
       ∙ ap (λ (x : ℕ). firstOf (test (otherRate e x) 14 rateAt ∷ from-side)) rate-is
       ∙ first-cong _ _ _
       (side-passes s count-field refl side sided (past-rate .0) (past-rate .1 .0) from-count
-      ∙ field-passes count-stands (countTag ∷ []) (some countSize) (test (ltb maxPoints (countIn s)) 15 (countAt s) ∷ (roomTests s m n ++ later)) refl (length-digits 256 countSize count)
-      ∙ ap (λ (c : ℕ). firstOf (test (ltb maxPoints c) 15 (countAt s) ∷ test (lacksRoom m n c) 16 (countAt s) ∷ later)) count-is)
+      ∙ field-passes count-stands (countTag ∷ []) (some countSize) (test (ltb maxPoints (countIn s)) 15 (countAt s) ∷ ts) refl (length-digits 256 countSize count)
+      ∙ ap (λ (c : ℕ). firstOf (test (ltb maxPoints c) 15 (countAt s) ∷ ts)) count-is)
+
+  -- in reading 16 is the first of them
+  pub front-tests : (k : ℕ → List ℕ → Option (List ℕ)) (e m n : ℕ)
+      → firstOf (readTests k e s m n)
+      ≡ firstOf (test (otherRate e rate) 14 rateAt ∷ test (ltb maxPoints count) 15 (countAt s) ∷ test (lacksRoom m n count) 16 (countAt s) ∷ (positionsTests s ++ ratiosTests k s))
+  front-tests k e m n =
+      let later = positionsTests s ++ ratiosTests k s in
+      front-pass e (roomTests s m n ++ later)
+      ∙ ap (λ (c : ℕ). firstOf (test (otherRate e rate) 14 rateAt ∷ test (ltb maxPoints count) 15 (countAt s) ∷ test (lacksRoom m n c) 16 (countAt s) ∷ later)) count-is
+
+-- ---- the front, laid, and then any bytes
+
+module _ (r d n : ℕ) (rest : List ℕ) (listed : isRate r ≡ true) (sided : d ≤ maxSide) (counts : n < 256 ^ 2) where
+  abbrev pub input : List ℕ
+  input = frontBytes r d n ++ rest
+
+  pub front-all : StandAll input rateAt (frontFields r d n)
+  front-all = laid-stand [] (frontFields r d n) rest (front-small r d n)
+
+  -- the positions' field begins where the front ends
+  pub front-length : length (frontBytes r d n) ≡ positionsAt input
+  front-length = omega (arith, stand-past input rateAt (frontFields r d n) front-all) ∙ front-past input r d n listed sided counts front-all
+
+  pub input-length : length input ≡ positionsAt input + length rest
+  input-length = length-append (frontBytes r d n) rest ∙ ap (λ (m : ℕ). m + length rest) front-length
+
+  pub tag-there : tagAt input (positionsAt input) ≡ tagAt rest 0
+  unfolding tagAt
+  tag-there = ap (λ (p : ℕ). getD input p 0) (sym front-length ∙ sym (add-zero (length (frontBytes r d n)))) ∙ getD-append-add (frontBytes r d n) rest 0 0
 
 -- ---- the positions past it
 

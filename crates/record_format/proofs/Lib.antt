@@ -6,10 +6,12 @@ pub mod Sides
 pub mod Fronts
 pub mod ReadsBack
 pub mod ReadsOnly
+pub mod Moves
 pub mod Followed
 pub mod Claims
 pub mod SideClaims
 pub mod WideClaims
+pub mod MoveClaims
 pub mod FourFields
 pub mod Longest
 pub mod Sizes

@@ -200,12 +200,13 @@ many-tag t c few many = go (eqb t (positionsTag Wide)) refl
 
 -- ---- the tests of reading
 
--- field after field
+-- field after field: the front's, and then any others
+pub front-flat : (e : ℕ) (s : List ℕ) (ts : List Test) → frontTests e s ++ ts ≡ rateTests e s ++ (sideTests s ++ (countTests s ++ ts))
+front-flat e s ts = ap (λ (l : List Test). rateTests e s ++ l) (append-assoc (sideTests s) (countTests s) ts)
+
 pub tests-flat : (k : ℕ → List ℕ → Option (List ℕ)) (e : ℕ) (s : List ℕ) (m n : ℕ)
     → readTests k e s m n ≡ rateTests e s ++ (sideTests s ++ (countTests s ++ (roomTests s m n ++ (positionsTests s ++ ratiosTests k s))))
-tests-flat k e s m n =
-    let from-room = roomTests s m n ++ (positionsTests s ++ ratiosTests k s) in
-    ap (λ (l : List Test). rateTests e s ++ l) (append-assoc (sideTests s) (countTests s) from-room)
+tests-flat k e s m n = front-flat e s (roomTests s m n ++ (positionsTests s ++ ratiosTests k s))
 
 -- no test of the side, nor of the front, has the number of a success
 

@@ -11,17 +11,18 @@ use Rattle.lists.specs.Lists.{member}
 use Rattle.refusals.specs.declared.Refusal.{Refusal}
 use Rattle.refusals.specs.Tests.{test, firstOf, refused}
 use Rattle.refusals.proofs.Tests.{first-skip}
+use Rattle.outputs.specs.Outputs.{over}
 use Rattle.position_format.specs.Positions.{codedPositions}
 use Rattle.position_format.specs.Tables.{tableOf}
 use Rattle.ratio_format.specs.Bodies.{codedRatios}
 use Rattle.record_format.specs.Fields.{Field, fieldOf}
-use Rattle.record_format.specs.Runs.{Run, positionsTag, ratiosTag, frontFields, fieldsOf, recordOf}
+use Rattle.record_format.specs.Runs.{Run, run, positionsTag, ratiosTag, frontFields, fieldsOf, recordOf}
 use Rattle.record_format.specs.Claims.{ownTests, ownAnswer, runAnswer}
-use Rattle.record_format.specs.Reading.{Answer, refusalAnswer, recordAnswer, readTests, readWith, rateAt, positionsAt, ratiosAt, endAt, countIn, formIn, positionsIn, ratiosIn, missing, listOf, otherRate, lacksRoom, ratiosTests}
+use Rattle.record_format.specs.Reading.{Answer, refusalAnswer, recordAnswer, readTests, readWith, rateAt, positionsAt, ratiosAt, endAt, rateIn, sideIn, countIn, formIn, positionsIn, ratiosIn, missing, listOf, otherRate, lacksRoom, ratiosTests}
 use Rattle.record_format.proofs.Fields.{FieldStands, StandAll, laid-stand, pastAll, stand-past, small-append, stand-append, past-append}
 use Rattle.record_format.proofs.Fronts.{first-cong, front-small, count-at, front-past, rate-is, side-is, count-is, front-tests, form-is, positions-are, positions-pass}
 use Rattle.record_format.proofs.Reading.{field-passes}
-use Rattle.record_format.proofs.Runs.{bodies-small}
+use Rattle.record_format.proofs.Runs.{same-run, bodies-small}
 use Rattle.record_format.proofs.Writing.{Fitting, fitting-few}
 
 module _ (r : Run) (fit : Fitting r) (rest : List ℕ) where
@@ -57,6 +58,9 @@ module _ (r : Run) (fit : Fitting r) (rest : List ℕ) where
   later : StandAll s (positionsAt s) (positions-field ∷ ratios-field ∷ [])
   later = subst (λ (p : ℕ). StandAll s p (positions-field ∷ ratios-field ∷ [])) past (parts .1)
 
+  pub positions-stand : FieldStands s (positionsAt s) positions-field
+  positions-stand = later .0
+
   pub ratios-stand : FieldStands s (ratiosAt s) ratios-field
   ratios-stand = later .1 .0
 
@@ -68,11 +72,11 @@ module _ (r : Run) (fit : Fitting r) (rest : List ℕ) where
 
   -- ---- what is read in them
 
-  counted : countIn s ≡ length (r .positions)
+  pub counted : countIn s ≡ length (r .positions)
   counted = count-is s (r .rate) (r .side) (length (r .positions)) (fit .listed) (fit .sided) counts (parts .0)
 
   points : positionsIn s ≡ some (r .positions)
-  points = positions-are s (r .form) (r .positions) (fit .few) (fit .valid) counted (later .0)
+  points = positions-are s (r .form) (r .positions) (fit .few) (fit .valid) counted positions-stand
 
   module _ (k : ℕ → List ℕ → Option (List ℕ)) (read : k (length (r .ratios)) (codedRatios (r .ratios)) ≡ some (r .ratios)) where
     ratios-are : ratiosIn k s ≡ some (r .ratios)
@@ -82,29 +86,42 @@ module _ (r : Run) (fit : Fitting r) (rest : List ℕ) where
     unfolding member
     ratios-pass = field-passes ratios-stand (ratiosTag ∷ []) none _ refl tt ∙ first-skip _ _ (ap missing ratios-are)
 
-    module _ (e : ℕ) (ts vs : List ℕ) where
-      only-own : firstOf (readTests k e s (length ts) (length vs)) ≡ firstOf (ownTests r e (length ts) (length vs))
-      only-own =
-          front-tests s (r .rate) (r .side) (length (r .positions)) (fit .listed) (fit .sided) counts (parts .0) k e (length ts) (length vs)
-          ∙ first-cong _ _ _
-          (first-skip _ _ (le-ltb _ _ (fitting-few r fit))
-          ∙ first-cong _ _ _ (positions-pass s (r .form) (r .positions) (fit .few) (fit .valid) counted (later .0) (ratiosTests k s) ∙ ratios-pass))
-          ∙ ap (λ (p : ℕ). firstOf (test (otherRate e (r .rate)) 14 rateAt ∷ test (lacksRoom (length ts) (length vs) (length (r .positions))) 16 p ∷ []))
-          (count-at s (r .rate) (r .side) (length (r .positions)) (fit .listed) (fit .sided) counts (parts .0))
+    -- the run
+    pub run-is : run (rateIn s) (sideIn s) (formIn s) (listOf (positionsIn s)) (listOf (ratiosIn k s)) ≡ r
+    run-is =
+        same-run _ r
+        (rate-is s (r .rate) (r .side) (length (r .positions)) (fit .listed) (fit .sided) counts (parts .0))
+        (side-is s (r .rate) (r .side) (length (r .positions)) (fit .listed) (fit .sided) counts (parts .0))
+        (form-is s (r .form) (r .positions) (fit .few) (fit .valid) counted positions-stand)
+        (ap listOf points)
+        (ap listOf ratios-are)
 
+    -- the tests that can apply
+    pub only-own : (e m n : ℕ) → firstOf (readTests k e s m n) ≡ firstOf (ownTests r e m n)
+    only-own e m n =
+        front-tests s (r .rate) (r .side) (length (r .positions)) (fit .listed) (fit .sided) counts (parts .0) k e m n
+        ∙ first-cong _ _ _
+        (first-skip _ _ (le-ltb _ _ (fitting-few r fit))
+        ∙ first-cong _ _ _ (positions-pass s (r .form) (r .positions) (fit .few) (fit .valid) counted positions-stand (ratiosTests k s) ∙ ratios-pass))
+        ∙ ap (λ (p : ℕ). firstOf (test (otherRate e (r .rate)) 14 rateAt ∷ test (lacksRoom m n (length (r .positions))) 16 p ∷ []))
+        (count-at s (r .rate) (r .side) (length (r .positions)) (fit .listed) (fit .sided) counts (parts .0))
+
+    module _ (e : ℕ) (ts vs : List ℕ) where
       own : recordAnswer k s ts vs ≡ ownAnswer r ts vs
       own =
-          let a = rate-is s (r .rate) (r .side) (length (r .positions)) (fit .listed) (fit .sided) counts (parts .0) in
-          let g = side-is s (r .rate) (r .side) (length (r .positions)) (fit .listed) (fit .sided) counts (parts .0) in
-          let h : positionsTag (formIn s) ≡ positionsTag (r .form) = ap positionsTag (form-is s (r .form) (r .positions) (fit .few) (fit .valid) counted (later .0)) in
-          let b = counted in
-          let c = at-end in
-          let d : listOf (positionsIn s) ≡ r .positions = ap listOf points in
-          let f : listOf (ratiosIn k s) ≡ r .ratios = ap listOf ratios-are in
-          cc
+          ap (λ (q : Run). record {
+            answer = record { number = 0; place = 0; rate = q .rate; side = q .side; count = countIn s; form = positionsTag (q .form); used = endAt s };
+            positions = over (q .positions) ts;
+            ratios = over (q .ratios) vs;
+          }) run-is
+          ∙ ap₂ (λ (c u : ℕ). record {
+            answer = record { number = 0; place = 0; rate = r .rate; side = r .side; count = c; form = positionsTag (r .form); used = u };
+            positions = over (r .positions) ts;
+            ratios = over (r .ratios) vs;
+          }) counted at-end
 
       -- reading the record of a run, whatever follows it
       pub read-record : readWith k e s ts vs ≡ runAnswer r e ts vs
       unfolding readWith
       read-record =
-          ap₂ (λ (f : Refusal) (a : Answer). cond (refused f) (refusalAnswer f ts vs) a) only-own own
+          ap₂ (λ (f : Refusal) (a : Answer). cond (refused f) (refusalAnswer f ts vs) a) (only-own e (length ts) (length vs)) own

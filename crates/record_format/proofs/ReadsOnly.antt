@@ -20,21 +20,39 @@ use Rattle.position_format.specs.Tables.{tableOf, pointsOf}
 use Rattle.position_format.proofs.Positions.{read-only}
 use Rattle.ratio_format.specs.Bodies.{codedRatios, strictRatios}
 use Rattle.ratio_format.proofs.Strict.{strict-only-body, strict-below}
-use Rattle.record_format.specs.Fields.{Field, fieldOf, tagAt, bodyAt, laid}
+use Rattle.record_format.specs.Fields.{Field, fieldOf, tagAt, bodyAt, nextAt, laid}
 use Rattle.record_format.specs.Runs.{Run, run, rateTag, countTag, positionsTag, ratiosTag, rateSize, countSize, sideFields, frontFields, recordOf}
-use Rattle.record_format.specs.Reading.{recordAnswer, readTests, readStrict, readWith, rateAt, sideAt, countAt, positionsAt, ratiosAt, rateIn, sideIn, countIn, formIn, positionsIn, ratiosIn, missing, otherRate, sideTests, countTests, roomTests, positionsTests, ratiosTests}
-use Rattle.record_format.proofs.Fields.{Follow, pastAll, follow-laid, follow-append}
-use Rattle.record_format.proofs.Reading.{FieldSound, field-clear, sound-follows, sound-below, sound-number, missing-some, tests-flat, answer-clear}
+use Rattle.record_format.specs.Reading.{recordAnswer, readTests, readStrict, readWith, rateAt, sideAt, countAt, positionsAt, ratiosAt, rateIn, sideIn, countIn, formIn, positionsIn, ratiosIn, missing, otherRate, sideTests, countTests, frontTests, roomTests, positionsTests, ratiosTests}
+use Rattle.record_format.proofs.Fields.{Follow, pastAll, past-append, follow-laid, follow-append}
+use Rattle.record_format.proofs.Reading.{FieldSound, field-clear, sound-follows, sound-below, sound-number, missing-some, front-flat, answer-clear}
 use Rattle.record_format.proofs.Runs.{tag-named, flatFields, record-flat}
 use Rattle.record_format.proofs.Sides.{SideSound, side-clear, side-follows}
 use Rattle.record_format.proofs.Writing.{Fitting}
 
+-- what the tests of the front say of bytes to which none applies
+pub record FrontSound (s : List ℕ) : Type 0 where
+  pub rate : FieldSound s (rateTag ∷ []) (some rateSize) rateAt
+  pub listed : isRate (rateIn s) ≡ true
+  pub side : SideSound s
+  pub count : FieldSound s (countTag ∷ []) (some countSize) (countAt s)
+  pub few : countIn s ≤ maxPoints
+
+-- and which others are left
+pub front-clear : (e : ℕ) (s : List ℕ) (ts : List Test) → firstOf (frontTests e s ++ ts) .number ≡ 0 → FrontSound s × (firstOf ts .number ≡ 0)
+front-clear e s ts clear =
+    let from-side = sideTests s ++ (countTests s ++ ts) in
+    let flat = sym (ap (λ (l : List Test). firstOf l .number) (front-flat e s ts)) ∙ clear in
+    let a = field-clear s (rateTag ∷ []) (some rateSize) rateAt (test (not (isRate (rateIn s))) 13 rateAt ∷ test (otherRate e (rateIn s)) 14 rateAt ∷ from-side) flat in
+    let a13 = first-clear _ _ (lit< tt) (a .1) in
+    let a14 = first-clear _ _ (lit< tt) (a13 .1) in
+    let a20 = side-clear s (countTests s ++ ts) (a14 .1) in
+    let b = field-clear s (countTag ∷ []) (some countSize) (countAt s) (test (ltb maxPoints (countIn s)) 15 (countAt s) ∷ ts) (a20 .1) in
+    let b15 = first-clear _ _ (lit< tt) (b .1) in
+    (record { rate = a .0; listed = not-false _ (a13 .0); side = a20 .0; count = b .0; few = ltb-false _ _ (b15 .0) }, b15 .1)
+
 -- what the tests of reading say of bytes to which none applies, by the reading k of the ratios' field
 record Read (k : ℕ → List ℕ → Option (List ℕ)) (s : List ℕ) : Type 0 where
-  rate : FieldSound s (rateTag ∷ []) (some rateSize) rateAt
-  listed : isRate (rateIn s) ≡ true
-  side : SideSound s
-  count : FieldSound s (countTag ∷ []) (some countSize) (countAt s)
+  front : FrontSound s
   positions : FieldSound s (positionsTag (formIn s) ∷ []) none (positionsAt s)
   few : countIn s ≤ pointsOf (formIn s)
   points : (ts : List ℕ) × (positionsIn s ≡ some ts)
@@ -43,19 +61,9 @@ record Read (k : ℕ → List ℕ → Option (List ℕ)) (s : List ℕ) : Type 0
 
 passed : (k : ℕ → List ℕ → Option (List ℕ)) (e : ℕ) (s : List ℕ) (m n : ℕ) → firstOf (readTests k e s m n) .number ≡ 0 → Read k s
 passed k e s m n clear =
-    let from-ratios = ratiosTests k s in
-    let from-positions = positionsTests s ++ from-ratios in
-    let from-room = roomTests s m n ++ from-positions in
-    let from-side = sideTests s ++ (countTests s ++ from-room) in
-    let flat = sym (ap (λ (l : List Test). firstOf l .number) (tests-flat k e s m n)) ∙ clear in
-    let a = field-clear s (rateTag ∷ []) (some rateSize) rateAt (test (not (isRate (rateIn s))) 13 rateAt ∷ test (otherRate e (rateIn s)) 14 rateAt ∷ from-side) flat in
-    let a13 = first-clear _ _ (lit< tt) (a .1) in
-    let a14 = first-clear _ _ (lit< tt) (a13 .1) in
-    let a20 = side-clear s (countTests s ++ from-room) (a14 .1) in
-    let b = field-clear s (countTag ∷ []) (some countSize) (countAt s) (test (ltb maxPoints (countIn s)) 15 (countAt s) ∷ from-room) (a20 .1) in
-    let b15 = first-clear _ _ (lit< tt) (b .1) in
-    let b16 = first-clear _ _ (lit< tt) (b15 .1) in
-    let head = first-clear _ _ (lit< tt) (b16 .1) in
+    let f = front-clear e s (roomTests s m n ++ (positionsTests s ++ ratiosTests k s)) clear in
+    let f16 = first-clear _ _ (lit< tt) (f .1) in
+    let head = first-clear _ _ (lit< tt) (f16 .1) in
     let tag = first-clear _ _ (lit< tt) (head .1) in
     let c15 = first-clear _ _ (lit< tt) (tag .1) in
     let body = first-clear _ _ (lit< tt) (c15 .1) in
@@ -63,10 +71,7 @@ passed k e s m n clear =
     let d = field-clear s (ratiosTag ∷ []) none (ratiosAt s) (test (missing (ratiosIn k s)) 18 (ratiosAt s) ∷ []) (c17 .1) in
     let d18 = first-clear _ _ (lit< tt) (d .1) in
     record {
-      rate = a .0;
-      listed = not-false _ (a13 .0);
-      side = a20 .0;
-      count = b .0;
+      front = f .0;
       positions = record { head = ltb-false _ _ (head .0); tagged = tag-named (tagAt s (positionsAt s)) (not-false _ (tag .0)); stated = tt; whole = ltb-false _ _ (body .0) };
       few = ltb-false _ _ (c15 .0);
       points = missing-some (positionsIn s) (c17 .0);
@@ -74,14 +79,23 @@ passed k e s m n clear =
       values = missing-some (ratiosIn k s) (d18 .0);
     }
 
--- ---- the front, by any reading
+-- ---- the front
 
 -- rate and side, and then fields from the count's on
-front-follows : (s : List ℕ) → Below 256 s → (k : ℕ → List ℕ → Option (List ℕ)) → Read k s → (fs : List Field) → Follow s (countAt s) fs
+front-follows : (s : List ℕ) → Below 256 s → FrontSound s → (fs : List Field) → Follow s (countAt s) fs
     → Follow s rateAt (fieldOf rateTag (bytesOf rateSize (rateIn s)) ∷ (sideFields (sideIn s) ++ fs))
-front-follows s bytes k h fs later =
+front-follows s bytes h fs later =
     let d = side-follows s bytes (h .side) in
     (sound-follows bytes (h .rate) _ (sound-number bytes (h .rate)), follow-append s (sideAt s) (sideFields (sideIn s)) fs (d .follows) (subst (λ (p : ℕ). Follow s p fs) (sym (d .past)) later))
+
+-- so the bytes begin with the front that is read in them
+pub front-splits : (s : List ℕ) → Below 256 s → FrontSound s → s ≡ laid (frontFields (rateIn s) (sideIn s) (countIn s)) ++ drop (positionsAt s) s
+front-splits s bytes h =
+    let count = fieldOf countTag (bytesOf countSize (countIn s)) in
+    let d = side-follows s bytes (h .side) in
+    let past : pastAll s (sideAt s) (sideFields (sideIn s) ++ (count ∷ [])) ≡ positionsAt s = past-append s (sideAt s) (sideFields (sideIn s)) (count ∷ []) ∙ ap (nextAt s) (d .past) in
+    follow-laid s rateAt (frontFields (rateIn s) (sideIn s) (countIn s)) (front-follows s bytes h (count ∷ []) (sound-follows bytes (h .count) _ (sound-number bytes (h .count)), tt))
+    ∙ ap (λ (p : ℕ). laid (frontFields (rateIn s) (sideIn s) (countIn s)) ++ drop p s) past
 
 -- and with the positions, as they are read in their form
 positions-follow : (s : List ℕ) → Below 256 s → (k : ℕ → List ℕ → Option (List ℕ)) → (h : Read k s) → (fs : List Field) → Follow s (ratiosAt s) fs
@@ -91,8 +105,8 @@ positions-follow : (s : List ℕ) → Below 256 s → (k : ℕ → List ℕ → 
     ++ (fieldOf countTag (bytesOf countSize (length (h .points .0))) ∷ fieldOf (positionsTag (formIn s)) (codedPositions (tableOf (formIn s)) (h .points .0)) ∷ fs)))
 positions-follow s bytes k h fs later =
     let p = read-only (tableOf (formIn s)) (countIn s) (bodyAt s (positionsAt s)) (h .points .0) (h .points .1) in
-    front-follows s bytes k h _
-    (sound-follows bytes (h .count) _ (sound-number bytes (h .count) ∙ ap (bytesOf countSize) (sym (p .2))), (sound-follows bytes (h .positions) _ (p .0), later))
+    front-follows s bytes (h .front) _
+    (sound-follows bytes (h .front .count) _ (sound-number bytes (h .front .count) ∙ ap (bytesOf countSize) (sym (p .2))), (sound-follows bytes (h .positions) _ (p .0), later))
 
 -- the front and the positions of bytes that are not refused
 pub record FrontStands (s : List ℕ) : Type 0 where
@@ -116,8 +130,8 @@ front-stands k e s m n bytes clear =
     let flat = fieldOf rateTag (bytesOf rateSize (rateIn s)) ∷ (sideFields (sideIn s) ++ (count ∷ body ∷ [])) in
     let follow : Follow s rateAt flat = positions-follow s bytes k h [] tt in
     record {
-      listed = h .listed;
-      sided = side-follows s bytes (h .side) .sided;
+      listed = h .front .listed;
+      sided = side-follows s bytes (h .front .side) .sided;
       points = ps;
       read = h .points .1;
       many = sym (p .2);
@@ -149,8 +163,8 @@ begins s bytes h =
     record {
       own = r;
       fits = record {
-        listed = h .listed;
-        sided = side-follows s bytes (h .side) .sided;
+        listed = h .front .listed;
+        sided = side-follows s bytes (h .front .side) .sided;
         paired = q .1 ∙ sym (p .2);
         few = subst (λ (k : ℕ). k ≤ pointsOf (formIn s)) (sym (p .2)) (h .few);
         valid = p .1;
@@ -160,10 +174,13 @@ begins s bytes h =
       splits = follow-laid s rateAt (flatFields r) follow ∙ ap (λ (l : List ℕ). l ++ drop (pastAll s rateAt (flatFields r)) s) (sym (record-flat r));
     }
 
--- bytes that strict reading accepts begin with a run's record
+-- bytes that strict reading's tests do not refuse begin with a run's record
+pub clear-begins : (e : ℕ) (s : List ℕ) (m n : ℕ) → Below 256 s → firstOf (readTests strictRatios e s m n) .number ≡ 0 → Begins s
+clear-begins e s m n bytes h = begins s bytes (passed strictRatios e s m n h)
+
+-- and so do those that it accepts
 pub accepted-begins : (e : ℕ) (s ts vs : List ℕ) → Below 256 s → readStrict e s ts vs .answer .number ≡ 0 → Begins s
 unfolding readWith
 accepted-begins e s ts vs bytes h =
-    begins s bytes
-    (passed strictRatios e s (length ts) (length vs)
-    (answer-clear (readTests strictRatios e s (length ts) (length vs)) (recordAnswer strictRatios s ts vs) ts vs h))
+    clear-begins e s (length ts) (length vs) bytes
+    (answer-clear (readTests strictRatios e s (length ts) (length vs)) (recordAnswer strictRatios s ts vs) ts vs h)

@@ -1,7 +1,7 @@
 -- Laws of a run's record: the forms and their tags, which field is which, how long the bodies of its fields are, and how long it is.
 use mathlib.Core.Bool.{Bool, true, false, false≢true}
 use mathlib.Core.List.{List, [], _∷_, _++_, append-assoc}
-use mathlib.Core.Path.{_≡_, refl, ap, _∙_}
+use mathlib.Core.Path.{_≡_, refl, ap, ap₂, _∙_}
 use Prim.Native.Nat.{ℕ, zero, suc, _+_, _≤_}
 use native.Mathlib.Omega.{arith}
 use lib.Dec.{eqb, lit≤}
@@ -18,10 +18,17 @@ use Rattle.ratio_format.specs.Windows.{windowSize}
 use Rattle.ratio_format.specs.Bodies.{codedRatios}
 use Rattle.ratio_format.proofs.Bodies.{nine-bytes}
 use Rattle.record_format.specs.Fields.{Field, fieldOf, maxBody, laid}
-use Rattle.record_format.specs.Runs.{Run, rateTag, countTag, positionsTag, formOf, ratiosTag, rateSize, sideSize, countSize, sideFields, sideLength, recordOf}
+use Rattle.record_format.specs.Runs.{Run, run, rateTag, countTag, positionsTag, formOf, ratiosTag, rateSize, sideSize, countSize, sideFields, sideLength, recordOf}
 use Rattle.record_format.specs.Sizes.{minRecord, maxPositionsBody, maxRatiosBody}
 use Rattle.record_format.proofs.Fields.{Small, length-laid, laid-append, small-append}
 use Rattle.record_format.proofs.Writing.{Fitting}
+
+-- a run is its parts
+pub same-run : (r q : Run) → r .rate ≡ q .rate → r .side ≡ q .side → r .form ≡ q .form → r .positions ≡ q .positions → r .ratios ≡ q .ratios → r ≡ q
+same-run r q a d f b c =
+    ap₂ (λ (x y : ℕ). run x y (r .form) (r .positions) (r .ratios)) a d
+    ∙ ap (λ (x : Form). run (q .rate) (q .side) x (r .positions) (r .ratios)) f
+    ∙ ap₂ (λ (x y : List ℕ). run (q .rate) (q .side) (q .form) x y) b c
 
 -- ---- the forms and their tags
 

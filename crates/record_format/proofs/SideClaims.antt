@@ -30,7 +30,7 @@ use Rattle.position_format.specs.Tables.{tableOf, pointsOf}
 use Rattle.record_format.specs.Fields.{Field, fieldOf, headSize, tagAt, lengthAt, bodyAt, nextAt, headTests, lengthTests, bodyTests, fieldTests}
 use Rattle.record_format.specs.Runs.{rateTag, sideTag, countTag, positionsTag, formOf, ratiosTag, rateSize, sideSize, countSize}
 use Rattle.record_format.specs.Reading.{Answer, refusalAnswer, recordAnswer, readTests, readWith, rateAt, sideAt, hasSide, countAt, positionsAt, ratiosAt, endAt, rateIn, sideIn, countIn, formIn, positionsIn, ratiosIn, otherRate, lacksRoom, missing, contentsTests, sideTests, countTests, roomTests, manyTests, positionsTests, ratiosTests}
-use Rattle.record_format.specs.SideClaims.{rateBytes, sideBytes, Expects, refusedBy, RateRefused, RateFirst, HeadCut, TagRefused, LengthRefused, BodyCut, SideRefused, CountRefused, moved, SideMoves}
+use Rattle.record_format.specs.SideClaims.{rateBytes, sideBytes, Expects, refusedBy, RateRefused, RateFirst, HeadCut, TagRefused, LengthRefused, BodyCut, SideRefused, CountRefused, shifted, SideShifts}
 use Rattle.record_format.proofs.Fields.{FieldStands, length-field, stands, head-stands}
 use Rattle.record_format.proofs.Reading.{refusal, head-short, tag-other, length-other, body-short, field-passes, tests-flat, answer-refused}
 use Rattle.record_format.proofs.Sides.{absent-count, absent-tests, present-count, present-side, present-tests}
@@ -340,64 +340,64 @@ ltb-same a b c d f g = go (ltb a b) refl
     go false e = le-ltb c d (g (ltb-false a b e))
 
 -- two lists of tests, one after the other
-both-moved : {a b : List Test} (c d : List Test) → a ≡ map further c → b ≡ map further d → a ++ b ≡ map further (c ++ d)
-both-moved c d e f = ap₂ (λ (x y : List Test). x ++ y) e f ∙ sym (map-append further c d)
+both-shifted : {a b : List Test} (c d : List Test) → a ≡ map further c → b ≡ map further d → a ++ b ≡ map further (c ++ d)
+both-shifted c d e f = ap₂ (λ (x y : List Test). x ++ y) e f ∙ sym (map-append further c d)
 
 -- the bytes t have from each offset on, four bytes further on, what s has there
 module _ (s t : List ℕ) (long : length t ≡ length s + 4) (same : (p : ℕ) → 7 ≤ p → drop (p + 4) t ≡ drop p s) where
   module _ (p : ℕ) (h : 7 ≤ p) where
-    tag-moved : tagAt t (p + 4) ≡ tagAt s p
+    tag-shifted : tagAt t (p + 4) ≡ tagAt s p
     unfolding tagAt
-    tag-moved =
+    tag-shifted =
         ap (λ (n : ℕ). getD t n 0) (sym (add-zero (p + 4))) ∙ sym (getD-drop (p + 4) t 0 0)
         ∙ ap (λ (l : List ℕ). getD l 0 0) (same p h) ∙ getD-drop p s 0 0 ∙ ap (λ (n : ℕ). getD s n 0) (add-zero p)
 
-    length-moved : lengthAt t (p + 4) ≡ lengthAt s p
+    length-shifted : lengthAt t (p + 4) ≡ lengthAt s p
     unfolding lengthAt
-    length-moved =
+    length-shifted =
         let e : p + 4 + 1 ≡ p + 1 + 4 = omega arith in
         ap (λ (l : List ℕ). numberOf 256 (take 2 l)) (ap (λ (n : ℕ). drop n t) e ∙ same (p + 1) (omega arith))
 
-    body-moved : bodyAt t (p + 4) ≡ bodyAt s p
+    body-shifted : bodyAt t (p + 4) ≡ bodyAt s p
     unfolding bodyAt
-    body-moved =
+    body-shifted =
         let e : p + 4 + headSize ≡ p + headSize + 4 = omega arith in
-        ap₂ take length-moved (ap (λ (n : ℕ). drop n t) e ∙ same (p + headSize) (omega arith))
+        ap₂ take length-shifted (ap (λ (n : ℕ). drop n t) e ∙ same (p + headSize) (omega arith))
 
-    next-moved : nextAt t (p + 4) ≡ nextAt s p + 4
+    next-shifted : nextAt t (p + 4) ≡ nextAt s p + 4
     unfolding nextAt
-    next-moved = omega (arith, length-moved)
+    next-shifted = omega (arith, length-shifted)
 
-    heads-moved : (tags : List ℕ) → headTests t tags (p + 4) ≡ map further (headTests s tags p)
-    heads-moved tags =
+    heads-shifted : (tags : List ℕ) → headTests t tags (p + 4) ≡ map further (headTests s tags p)
+    heads-shifted tags =
         ap₂ (λ (b : Bool) (x : ℕ). test b 10 (p + 4) ∷ test (not (member x tags)) 11 (p + 4) ∷ [])
-        (ltb-same (length s) (p + headSize) (length t) (p + 4 + headSize) (λ z. omega arith) (λ z. omega arith)) tag-moved
+        (ltb-same (length s) (p + headSize) (length t) (p + 4 + headSize) (λ z. omega arith) (λ z. omega arith)) tag-shifted
 
-    lengths-moved : (n : Option ℕ) → lengthTests t n (p + 4) ≡ map further (lengthTests s n p)
-    lengths-moved none = refl
-    lengths-moved (some j) = ap (λ (x : ℕ). test (not (eqb x j)) 12 (p + 4) ∷ []) length-moved
+    lengths-shifted : (n : Option ℕ) → lengthTests t n (p + 4) ≡ map further (lengthTests s n p)
+    lengths-shifted none = refl
+    lengths-shifted (some j) = ap (λ (x : ℕ). test (not (eqb x j)) 12 (p + 4) ∷ []) length-shifted
 
-    bodies-moved : bodyTests t (p + 4) ≡ map further (bodyTests s p)
-    bodies-moved =
+    bodies-shifted : bodyTests t (p + 4) ≡ map further (bodyTests s p)
+    bodies-shifted =
         ap (λ (b : Bool). test b 10 (p + 4) ∷ [])
-        (ltb-same (length s) (nextAt s p) (length t) (nextAt t (p + 4)) (λ z. omega (arith, next-moved)) (λ z. omega (arith, next-moved)))
+        (ltb-same (length s) (nextAt s p) (length t) (nextAt t (p + 4)) (λ z. omega (arith, next-shifted)) (λ z. omega (arith, next-shifted)))
 
-    fields-moved : (tags : List ℕ) (n : Option ℕ) → fieldTests t tags n (p + 4) ≡ map further (fieldTests s tags n p)
-    fields-moved tags n =
-        both-moved (headTests s tags p) (lengthTests s n p ++ bodyTests s p) (heads-moved tags)
-        (both-moved (lengthTests s n p) (bodyTests s p) (lengths-moved n) bodies-moved)
+    fields-shifted : (tags : List ℕ) (n : Option ℕ) → fieldTests t tags n (p + 4) ≡ map further (fieldTests s tags n p)
+    fields-shifted tags n =
+        both-shifted (headTests s tags p) (lengthTests s n p ++ bodyTests s p) (heads-shifted tags)
+        (both-shifted (lengthTests s n p) (bodyTests s p) (lengths-shifted n) bodies-shifted)
 
     -- with a test of the contents
-    contents-moved : (tags : List ℕ) (n : Option ℕ) (a b : Bool) (x : ℕ) → a ≡ b
+    contents-shifted : (tags : List ℕ) (n : Option ℕ) (a b : Bool) (x : ℕ) → a ≡ b
         → fieldTests t tags n (p + 4) ++ (test a x (p + 4) ∷ []) ≡ map further (fieldTests s tags n p ++ (test b x p ∷ []))
-    contents-moved tags n a b x e =
-        both-moved (fieldTests s tags n p) (test b x p ∷ []) (fields-moved tags n) (ap (λ (c : Bool). test c x (p + 4) ∷ []) e)
+    contents-shifted tags n a b x e =
+        both-shifted (fieldTests s tags n p) (test b x p ∷ []) (fields-shifted tags n) (ap (λ (c : Bool). test c x (p + 4) ∷ []) e)
 
     -- the body of coded numbers, where the reading of it is the same
-    coded-moved : (j k : List ℕ → Option (List ℕ)) (x : ℕ) → j ≡ k → contentsTests t j x (p + 4) ≡ map further (contentsTests s k x p)
-    coded-moved j k x e =
-        both-moved (bodyTests s p) (test (missing (k (bodyAt s p))) x p ∷ []) bodies-moved
-        (ap (λ (o : Option (List ℕ)). test (missing o) x (p + 4) ∷ []) (ap₂ (λ (f : List ℕ → Option (List ℕ)) (b : List ℕ). f b) e body-moved))
+    coded-shifted : (j k : List ℕ → Option (List ℕ)) (x : ℕ) → j ≡ k → contentsTests t j x (p + 4) ≡ map further (contentsTests s k x p)
+    coded-shifted j k x e =
+        both-shifted (bodyTests s p) (test (missing (k (bodyAt s p))) x p ∷ []) bodies-shifted
+        (ap (λ (o : Option (List ℕ)). test (missing o) x (p + 4) ∷ []) (ap₂ (λ (f : List ℕ → Option (List ℕ)) (b : List ℕ). f b) e body-shifted))
 
   -- the fields from the count's on
   module _ (k : ℕ → List ℕ → Option (List ℕ)) (m n : ℕ) (c : countAt s ≡ 7) (at : countAt t ≡ countAt s + 4) where
@@ -406,75 +406,75 @@ module _ (s t : List ℕ) (long : length t ≡ length s + 4) (same : (p : ℕ) �
     next-late p h = omega arith
 
     at-positions : positionsAt t ≡ positionsAt s + 4
-    at-positions = ap (nextAt t) at ∙ next-moved (countAt s) (omega arith)
+    at-positions = ap (nextAt t) at ∙ next-shifted (countAt s) (omega arith)
 
     at-ratios : ratiosAt t ≡ ratiosAt s + 4
-    at-ratios = ap (nextAt t) at-positions ∙ next-moved (positionsAt s) (next-late (countAt s) (omega arith))
+    at-ratios = ap (nextAt t) at-positions ∙ next-shifted (positionsAt s) (next-late (countAt s) (omega arith))
 
     late-ratios : 7 ≤ ratiosAt s
     late-ratios = next-late (positionsAt s) (next-late (countAt s) (omega arith))
 
     at-end : endAt t ≡ endAt s + 4
-    at-end = ap (nextAt t) at-ratios ∙ next-moved (ratiosAt s) late-ratios
+    at-end = ap (nextAt t) at-ratios ∙ next-shifted (ratiosAt s) late-ratios
 
     count-same : countIn t ≡ countIn s
-    count-same = ap (numberOf 256) (ap (bodyAt t) at ∙ body-moved (countAt s) (omega arith))
+    count-same = ap (numberOf 256) (ap (bodyAt t) at ∙ body-shifted (countAt s) (omega arith))
 
     late-positions : 7 ≤ positionsAt s
     late-positions = next-late (countAt s) (omega arith)
 
     form-same : formIn t ≡ formIn s
-    form-same = ap formOf (ap (tagAt t) at-positions ∙ tag-moved (positionsAt s) late-positions)
+    form-same = ap formOf (ap (tagAt t) at-positions ∙ tag-shifted (positionsAt s) late-positions)
 
     reading-same : readPositions (tableOf (formIn t)) (countIn t) ≡ readPositions (tableOf (formIn s)) (countIn s)
     reading-same = ap₂ (λ (f : Form) (c : ℕ). readPositions (tableOf f) c) form-same count-same
 
     positions-same : positionsIn t ≡ positionsIn s
-    positions-same = ap₂ (λ (f : List ℕ → Option (List ℕ)) (b : List ℕ). f b) reading-same (ap (bodyAt t) at-positions ∙ body-moved (positionsAt s) late-positions)
+    positions-same = ap₂ (λ (f : List ℕ → Option (List ℕ)) (b : List ℕ). f b) reading-same (ap (bodyAt t) at-positions ∙ body-shifted (positionsAt s) late-positions)
 
     ratios-same : ratiosIn k t ≡ ratiosIn k s
-    ratios-same = ap₂ k count-same (ap (bodyAt t) at-ratios ∙ body-moved (ratiosAt s) late-ratios)
+    ratios-same = ap₂ k count-same (ap (bodyAt t) at-ratios ∙ body-shifted (ratiosAt s) late-ratios)
 
-    count-moved : countTests t ≡ map further (countTests s)
-    count-moved =
+    count-shifted : countTests t ≡ map further (countTests s)
+    count-shifted =
         ap (λ (p : ℕ). fieldTests t (countTag ∷ []) (some countSize) p ++ (test (ltb maxPoints (numberOf 256 (bodyAt t p))) 15 p ∷ [])) at
-        ∙ contents-moved (countAt s) (omega arith) (countTag ∷ []) (some countSize) _ _ 15 (ap (λ (b : List ℕ). ltb maxPoints (numberOf 256 b)) (body-moved (countAt s) (omega arith)))
+        ∙ contents-shifted (countAt s) (omega arith) (countTag ∷ []) (some countSize) _ _ 15 (ap (λ (b : List ℕ). ltb maxPoints (numberOf 256 b)) (body-shifted (countAt s) (omega arith)))
 
-    room-moved : roomTests t m n ≡ map further (roomTests s m n)
-    room-moved = ap₂ (λ (x p : ℕ). test (lacksRoom m n x) 16 p ∷ []) count-same at
+    room-shifted : roomTests t m n ≡ map further (roomTests s m n)
+    room-shifted = ap₂ (λ (x p : ℕ). test (lacksRoom m n x) 16 p ∷ []) count-same at
 
-    many-moved : manyTests t ≡ map further (manyTests s)
-    many-moved =
+    many-shifted : manyTests t ≡ map further (manyTests s)
+    many-shifted =
         ap₂ (λ (f : Form) (c : ℕ). test (ltb (pointsOf f) c) 15 (countAt t) ∷ []) form-same count-same
         ∙ ap (λ (p : ℕ). test (ltb (pointsOf (formIn s)) (countIn s)) 15 p ∷ []) at
 
     abbrev good : List ℕ
     good = positionsTag Old ∷ positionsTag Wide ∷ []
 
-    positions-moved : positionsTests t ≡ map further (positionsTests s)
-    positions-moved =
+    positions-shifted : positionsTests t ≡ map further (positionsTests s)
+    positions-shifted =
         let read = readPositions (tableOf (formIn s)) (countIn s) in
-        both-moved (headTests s good (positionsAt s)) (manyTests s ++ contentsTests s read 17 (positionsAt s)) (ap (headTests t good) at-positions ∙ heads-moved (positionsAt s) late-positions good)
-        (both-moved (manyTests s) (contentsTests s read 17 (positionsAt s)) many-moved
+        both-shifted (headTests s good (positionsAt s)) (manyTests s ++ contentsTests s read 17 (positionsAt s)) (ap (headTests t good) at-positions ∙ heads-shifted (positionsAt s) late-positions good)
+        (both-shifted (manyTests s) (contentsTests s read 17 (positionsAt s)) many-shifted
         (ap (contentsTests t (readPositions (tableOf (formIn t)) (countIn t)) 17) at-positions
-        ∙ coded-moved (positionsAt s) late-positions (readPositions (tableOf (formIn t)) (countIn t)) read 17 reading-same))
+        ∙ coded-shifted (positionsAt s) late-positions (readPositions (tableOf (formIn t)) (countIn t)) read 17 reading-same))
 
-    ratios-moved : ratiosTests k t ≡ map further (ratiosTests k s)
-    ratios-moved =
-        both-moved (headTests s (ratiosTag ∷ []) (ratiosAt s)) (contentsTests s (k (countIn s)) 18 (ratiosAt s)) (ap (headTests t (ratiosTag ∷ [])) at-ratios ∙ heads-moved (ratiosAt s) late-ratios (ratiosTag ∷ []))
-        (ap (contentsTests t (k (countIn t)) 18) at-ratios ∙ coded-moved (ratiosAt s) late-ratios (k (countIn t)) (k (countIn s)) 18 (ap k count-same))
+    ratios-shifted : ratiosTests k t ≡ map further (ratiosTests k s)
+    ratios-shifted =
+        both-shifted (headTests s (ratiosTag ∷ []) (ratiosAt s)) (contentsTests s (k (countIn s)) 18 (ratiosAt s)) (ap (headTests t (ratiosTag ∷ [])) at-ratios ∙ heads-shifted (ratiosAt s) late-ratios (ratiosTag ∷ []))
+        (ap (contentsTests t (k (countIn t)) 18) at-ratios ∙ coded-shifted (ratiosAt s) late-ratios (k (countIn t)) (k (countIn s)) 18 (ap k count-same))
 
-    all-moved : countTests t ++ (roomTests t m n ++ (positionsTests t ++ ratiosTests k t)) ≡ map further (countTests s ++ (roomTests s m n ++ (positionsTests s ++ ratiosTests k s)))
-    all-moved =
-        both-moved (countTests s) (roomTests s m n ++ (positionsTests s ++ ratiosTests k s)) count-moved
-        (both-moved (roomTests s m n) (positionsTests s ++ ratiosTests k s) room-moved (both-moved (positionsTests s) (ratiosTests k s) positions-moved ratios-moved))
+    all-shifted : countTests t ++ (roomTests t m n ++ (positionsTests t ++ ratiosTests k t)) ≡ map further (countTests s ++ (roomTests s m n ++ (positionsTests s ++ ratiosTests k s)))
+    all-shifted =
+        both-shifted (countTests s) (roomTests s m n ++ (positionsTests s ++ ratiosTests k s)) count-shifted
+        (both-shifted (roomTests s m n) (positionsTests s ++ ratiosTests k s) room-shifted (both-shifted (positionsTests s) (ratiosTests k s) positions-shifted ratios-shifted))
 
--- an answer by its refusal, moved
-answer-moved : (d : ℕ) (f g : Refusal) → Further f g → (a b : Answer) → b ≡ moved d a → (ts vs : List ℕ)
-    → cond (refused g) (refusalAnswer g ts vs) b ≡ moved d (cond (refused f) (refusalAnswer f ts vs) a)
-answer-moved d f g h a b e ts vs = go (eqb (f .number) 0) refl
+-- an answer by its refusal, shifted
+answer-shifted : (d : ℕ) (f g : Refusal) → Further f g → (a b : Answer) → b ≡ shifted d a → (ts vs : List ℕ)
+    → cond (refused g) (refusalAnswer g ts vs) b ≡ shifted d (cond (refused f) (refusalAnswer f ts vs) a)
+answer-shifted d f g h a b e ts vs = go (eqb (f .number) 0) refl
   where
-    go : (t : Bool) → eqb (f .number) 0 ≡ t → cond (refused g) (refusalAnswer g ts vs) b ≡ moved d (cond (refused f) (refusalAnswer f ts vs) a)
+    go : (t : Bool) → eqb (f .number) 0 ≡ t → cond (refused g) (refusalAnswer g ts vs) b ≡ shifted d (cond (refused f) (refusalAnswer f ts vs) a)
     go true q = rw (h .0, q) e
     go false q = rw (h .1 (eqb-false (f .number) 0 q), q, q)
 
@@ -548,11 +548,11 @@ module _ (k : ℕ → List ℕ → Option (List ℕ)) (e r d : ℕ) (rest ts vs 
     further-tests : Further (firstOf (tests k e r rest ts vs)) (firstOf (tests k e r (sideBytes d ++ rest) ts vs))
     further-tests =
         let a = past-absent k e r rest ts vs listed o absent in
-        let b = from-here ∙ ap firstOf (all-moved without with-side longer same-past k (length ts) (length vs) count-seven count-at) in
+        let b = from-here ∙ ap firstOf (all-shifted without with-side longer same-past k (length ts) (length vs) count-seven count-at) in
         rw (a, b) (first-further (from-count k e r rest ts vs))
 
-    record-moved : recordAnswer k with-side ts vs ≡ moved d (recordAnswer k without ts vs)
-    record-moved =
+    record-shifted : recordAnswer k with-side ts vs ≡ shifted d (recordAnswer k without ts vs)
+    record-shifted =
         let here = rate-small k e r rest ts vs listed o in
         let a : rateIn with-side ≡ rateIn without = rate-is k e r (sideBytes d ++ rest) ts vs here ∙ sym (rate-is k e r rest ts vs here) in
         let b : sideIn with-side ≡ d = present-side with-side (present k e r d rest ts vs listed o small) ∙ stored-is k e r d rest ts vs listed o small in
@@ -563,12 +563,12 @@ module _ (k : ℕ → List ℕ → Option (List ℕ)) (e r d : ℕ) (rest ts vs 
         let f = form-same without with-side longer same-past k (length ts) (length vs) count-seven count-at in
         cc
 
-    moves : readWith k e with-side ts vs ≡ moved d (readWith k e without ts vs)
+    moves : readWith k e with-side ts vs ≡ shifted d (readWith k e without ts vs)
     unfolding readWith
-    moves = answer-moved d _ _ further-tests (recordAnswer k without ts vs) (recordAnswer k with-side ts vs) record-moved ts vs
+    moves = answer-shifted d _ _ further-tests (recordAnswer k without ts vs) (recordAnswer k with-side ts vs) record-shifted ts vs
 
-pub side-moves : SideMoves
-side-moves k e r d rest ts vs listed o low high other = moves k e r d rest ts vs listed o low high other
+pub side-shifts : SideShifts
+side-shifts k e r d rest ts vs listed o low high other = moves k e r d rest ts vs listed o low high other
 
 pub count-refused : CountRefused
 unfolding tagAt
@@ -577,10 +577,10 @@ count-refused k e r l rest ts vs listed o small =
     let other : (tagAt count 0 ≡ 6 → ⊥) = λ z. omega arith in (
       λ d.
           let h = twelve-count k e r count ts vs listed o l rest refl small d in
-          (h, λ n low high. side-moves k e r n count ts vs listed o low high other ∙ ap (moved n) h),
+          (h, λ n low high. side-shifts k e r n count ts vs listed o low high other ∙ ap (shifted n) h),
       λ two cut.
           let h = ten-count k e r count ts vs listed o l rest refl small two cut in
-          (h, λ n low high. side-moves k e r n count ts vs listed o low high other ∙ ap (moved n) h),
+          (h, λ n low high. side-shifts k e r n count ts vs listed o low high other ∙ ap (shifted n) h),
     )
 
 pub head-cut : HeadCut

@@ -35,7 +35,7 @@ use Rattle.record_format.specs.SideClaims.{Expects, refusedBy}
 use Rattle.record_format.specs.Claims.{countPlace, positionsPlace}
 use Rattle.record_format.specs.WideClaims.{FormNumbers, RecordFields, wideTests, RefusesWide, AcceptsWide, FormsApart, frontBytes, CountFirst, TagFirst, BodyByForm, fieldOfPoints, RatiosByReading}
 use Rattle.record_format.proofs.Fields.{FieldStands, StandAll, length-field, stands, laid-stand, pastAll, stand-past, small-append, stand-append, past-append, head-stands}
-use Rattle.record_format.proofs.Fronts.{front-small, count-at, positions-at, front-past, rate-is, side-is, count-is, front-tests, form-is, positions-are, positions-pass}
+use Rattle.record_format.proofs.Fronts.{front-small, count-at, positions-at, front-past, rate-is, side-is, count-is, front-tests, input, front-all, front-length, input-length, tag-there, form-is, positions-are, positions-pass}
 use Rattle.record_format.proofs.Reading.{refusal, body-short, field-good, positions-few, positions-many, answer-refused, answer-good}
 use Rattle.record_format.proofs.Runs.{form-of, tag-good, coded-size, form-bodies}
 use Rattle.record_format.proofs.Writing.{fitting-accepted}
@@ -226,25 +226,6 @@ module _ (k : ℕ → List ℕ → Option (List ℕ)) (e r d n : ℕ) (s ts vs :
                   answer-good (recordAnswer k s ts vs) ts vs tests (past-ratios ∙ first-skip _ _ (ap missing v)) ∙ cc
 
 -- ---- the statements
-
--- the front, and then any bytes
-module _ (r d n : ℕ) (rest : List ℕ) (listed : isRate r ≡ true) (sided : d ≤ 26) (counts : n < 256 ^ 2) where
-  abbrev input : List ℕ
-  input = frontBytes r d n ++ rest
-
-  front-all : StandAll input rateAt (frontFields r d n)
-  front-all = laid-stand [] (frontFields r d n) rest (front-small r d n)
-
-  -- the positions' field begins where the front ends
-  front-length : length (frontBytes r d n) ≡ positionsAt input
-  front-length = omega (arith, stand-past input rateAt (frontFields r d n) front-all) ∙ front-past input r d n listed sided counts front-all
-
-  input-length : length input ≡ positionsAt input + length rest
-  input-length = length-append (frontBytes r d n) rest ∙ ap (λ (m : ℕ). m + length rest) front-length
-
-  tag-there : tagAt input (positionsAt input) ≡ tagAt rest 0
-  unfolding tagAt
-  tag-there = ap (λ (p : ℕ). getD input p 0) (sym front-length ∙ sym (add-zero (length (frontBytes r d n)))) ∙ getD-append-add (frontBytes r d n) rest 0 0
 
 pub count-first : CountFirst
 count-first k e r d n rest ts vs listed o sided counts =

@@ -59,11 +59,11 @@ module _ (ts : List ℕ) (low : length ts ≤ firstHigh ts) where
   old-valid : length ts ≤ firstOutside rows ts → validPositions rows ts ≡ true
   old-valid h = valid-of rows ts none-high (omega (arith, first-le (outside rows) (steps ts), length-steps ts))
 
-  steps-valid : (f : Form) → firstOf (stepTests f ts) .number ≡ 0 → validPositions (tableOf f) ts ≡ true
+  pub steps-valid : (f : Form) → firstOf (stepTests f ts) .number ≡ 0 → validPositions (tableOf f) ts ≡ true
   steps-valid Old e = old-valid (ltb-false _ _ (first-clear _ _ (lit< tt) e .0))
   steps-valid Wide e = wide-valid ts low
 
-valid-steps : (f : Form) (ts : List ℕ) → validPositions (tableOf f) ts ≡ true → firstOf (stepTests f ts) ≡ firstOf []
+pub valid-steps : (f : Form) (ts : List ℕ) → validPositions (tableOf f) ts ≡ true → firstOf (stepTests f ts) ≡ firstOf []
 valid-steps Old ts v =
     let p = valid-parts rows ts v in
     let near : length ts ≤ firstOutside rows ts = omega (arith, p .1, length-steps ts) in

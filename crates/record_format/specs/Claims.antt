@@ -1,6 +1,6 @@
 -- The demands on records as statements about the definitions, in the terms of document 01, "What demand 3 compares", for runs that carry a
--- side, 0 for none, and the form that they are written in (document 02, No. 2 and No. 3). Followed is proved in proofs/Followed, each other in
--- proofs/Claims; the calls are tied to them by their contracts.
+-- side, 0 for none, and the form that they are written in (document 02, No. 2 and No. 3), and of the moves of No. 5. Followed and MoveFollowed are proved in
+-- proofs/Followed, each other in proofs/Claims; the calls are tied to them by their contracts.
 --   Accepted r          r is a run that the writer accepts, in the standard term valid: its ratios have 64 bits, and no test of writing but 6
 --                       applies. AllAccepted rs: every run of a list is
 --   Bytes s             s is a string of bytes
@@ -20,7 +20,7 @@
 --   OpenAgrees          what strict reading accepts open reading answers alike
 --   PrefixFree          no record begins another, in the same form or in the other: in the standard term, records are a prefix code
 --   ListsApart          joined records, in which forms may mix, tell their lists: a uniquely decodable code
---   TrailingBytes       whatever follows a record changes nothing; Followed: nor does what follows any whole fields
+--   TrailingBytes       whatever follows a record changes no reading and no move; Followed, MoveFollowed: nor does what follows any whole fields
 --   Shortest, NineEach  no string of the same ratios is shorter than ours, which takes at most nine bytes a ratio
 --   Demand3             demand 3, whole: the conjunction of its parts
 use mathlib.Core.Bool.{true, false, cond}
@@ -42,6 +42,7 @@ use Rattle.record_format.specs.Fields.{fieldOf, laid}
 use Rattle.record_format.specs.Runs.{Run, positionsTag, sideLength, frontFields, recordOf}
 use Rattle.record_format.specs.Writing.{runTests, accepts, writeAnswer, writeOutput}
 use Rattle.record_format.specs.Reading.{Answer, refusalAnswer, endAt, otherRate, lacksRoom, rateAt, readWith, readStrict, readOpen}
+use Rattle.record_format.specs.Moves.{moveOf}
 
 -- an accepted run
 pub record Accepted (r : Run) : Type 0 where
@@ -158,17 +159,22 @@ PrefixFree = (r q : Run) → Accepted r → Accepted q → (r ≡ q → ⊥)
 abbrev pub ListsApart : Type 0
 ListsApart = (rs qs : List Run) → AllAccepted rs → AllAccepted qs → (joined rs ≡ joined qs) ↔ (rs ≡ qs)
 
--- demand 3: whatever bytes follow a record, both readings answer as for the record alone
+-- demand 3: whatever bytes follow a record, both readings and both moves answer as for the record alone
 abbrev pub TrailingBytes : Type 0
 TrailingBytes = (r : Run) → Accepted r → (e : ℕ) (rest ts vs : List ℕ)
     → (readStrict e (recordOf r ++ rest) ts vs ≡ readStrict e (recordOf r) ts vs)
     × (readOpen e (recordOf r ++ rest) ts vs ≡ readOpen e (recordOf r) ts vs)
+    × ((f : Form) (o : List ℕ) → moveOf f (recordOf r ++ rest) o ≡ moveOf f (recordOf r) o)
 
 -- the same of any bytes that have as many whole fields as a record, four or, where the second has a side's tag, five; also of such as only open
 -- reading accepts, or neither
 abbrev pub Followed : Type 0
 Followed = (k : ℕ → List ℕ → Option (List ℕ)) (e : ℕ) (s rest ts vs : List ℕ) → endAt s ≤ length s
     → readWith k e (s ++ rest) ts vs ≡ readWith k e s ts vs
+
+-- and of moves
+abbrev pub MoveFollowed : Type 0
+MoveFollowed = (f : Form) (s rest o : List ℕ) → endAt s ≤ length s → moveOf f (s ++ rest) o ≡ moveOf f s o
 
 -- demand 3: a string that the open rule reads as the same ratios, at the same count, is at least as long as ours
 abbrev pub Shortest : Type 0
@@ -180,4 +186,4 @@ NineEach = (vs : List ℕ) → length (codedRatios vs) ≤ 9 * length vs
 
 -- demand 3, undivided
 abbrev pub Demand3 : Type 0
-Demand3 = PrefixFree × ListsApart × TrailingBytes × Followed × Shortest × NineEach
+Demand3 = PrefixFree × ListsApart × TrailingBytes × Followed × MoveFollowed × Shortest × NineEach

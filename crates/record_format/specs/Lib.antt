@@ -2,12 +2,15 @@ pub mod Fields
 pub mod Runs
 pub mod Writing
 pub mod Reading
+pub mod Moves
 pub mod Claims
 pub mod SideClaims
 pub mod WideClaims
+pub mod MoveClaims
 pub mod FourFields
 pub mod Examples
 pub mod AnswerExamples
 pub mod SideExamples
 pub mod WideExamples
+pub mod MoveExamples
 pub mod Sizes

@@ -12,7 +12,9 @@
 --   rateTests, sideTests, countTests   the tests of their fields; frontTests e s: of all three, with the expected rate e (0 for none)
 --   lacksRoom m n c        an output lacks room for c numbers, in the standard term capacity; roomTests s m n: the test of it
 --   contentsTests s k x p   the tests of the body of coded numbers in the field at p: whole, and taken by the reading k, or else the number x
---   manyTests s            the test of the count by the form; positionsTests, ratiosTests: those of the positions' field and of the ratios'
+--   manyTests s            the test of the count by the form
+--   positionsTestsBy tags s   those of the positions' field, whose tag must be one of the list; positionsTests: of either form's
+--   ratiosTests            those of the ratios' field
 --   readTests k e s m n    the tests of reading in their order, with the reading k of the ratios' field
 --   Answer                 what a reading returns, and both outputs, the caller's buffers, afterwards
 --   refusalAnswer, recordAnswer, answerBy   that of a refusal, of a record, and by a list of tests
@@ -151,11 +153,15 @@ contentsTests s k x p = bodyTests s p ++ (test (missing (k (bodyAt s p))) x p �
 abbrev pub manyTests : List ℕ → List Test
 manyTests s = test (ltb (pointsOf (formIn s)) (countIn s)) 15 (countAt s) ∷ []
 
--- the positions' field, in either form: straight after its tag 15, then 10 for its body, and then 17
-abbrev pub positionsTests : List ℕ → List Test
-positionsTests s =
-    headTests s (positionsTag Old ∷ positionsTag Wide ∷ []) (positionsAt s)
+-- the positions' field, where some tags are good: straight after its tag 15, then 10 for its body, and then 17
+abbrev pub positionsTestsBy : List ℕ → List ℕ → List Test
+positionsTestsBy tags s =
+    headTests s tags (positionsAt s)
     ++ (manyTests s ++ contentsTests s (readPositions (tableOf (formIn s)) (countIn s)) 17 (positionsAt s))
+
+-- in either form
+abbrev pub positionsTests : List ℕ → List Test
+positionsTests s = positionsTestsBy (positionsTag Old ∷ positionsTag Wide ∷ []) s
 
 -- the ratios': 18
 abbrev pub ratiosTests : (ℕ → List ℕ → Option (List ℕ)) → List ℕ → List Test

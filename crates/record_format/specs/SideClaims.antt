@@ -11,8 +11,8 @@
 --   BodyCut         a side's field without its byte: 10 at 7
 --   SideRefused     a stored side that is 0 or above 26: 20 at 7
 --   CountRefused    a count's field of another length than 2: 12 at 7, or past a side at 11; one without its two bytes: 10 there
---   moved d a       the answer a with each offset four bytes further on and, of a success, the side d
---   SideMoves       a side's field moves what follows it by four bytes and changes nothing else: not the refusal's number, not a point
+--   shifted d a       the answer a with each offset four bytes further on and, of a success, the side d
+--   SideShifts       a side's field shifts what follows it by four bytes and changes nothing else: not the refusal's number, not a point
 use mathlib.Core.Bool.{true, false, cond}
 use mathlib.Core.List.{List, _∷_, _++_}
 use mathlib.Core.Logic.{_⊎_}
@@ -99,8 +99,8 @@ CountRefused = (k : ℕ → List ℕ → Option (List ℕ)) (e r l : ℕ) (rest 
     × ((d : ℕ) → 1 ≤ d → d ≤ 26 → readWith k e (rateBytes r ++ (sideBytes d ++ count)) ts vs ≡ refusedBy 10 11 ts vs))
 
 -- of a refusal the place, of a success the side and the bytes used
-abbrev pub moved : ℕ → Answer → Answer
-moved d a = record {
+abbrev pub shifted : ℕ → Answer → Answer
+shifted d a = record {
   answer = cond (eqb (a .answer .number) 0)
       (record { number = 0; place = 0; rate = a .answer .rate; side = d; count = a .answer .count; form = a .answer .form; used = a .answer .used + 4 })
       (record { number = a .answer .number; place = a .answer .place + 4; rate = 0; side = 0; count = 0; form = 0; used = 0 });
@@ -109,6 +109,6 @@ moved d a = record {
 }
 
 -- a side between the rate and what is no side's field
-abbrev pub SideMoves : Type 0
-SideMoves = (k : ℕ → List ℕ → Option (List ℕ)) (e r d : ℕ) (rest ts vs : List ℕ) → isRate r ≡ true → Expects e r → 1 ≤ d → d ≤ 26 → (tagAt rest 0 ≡ 6 → ⊥)
-    → readWith k e (rateBytes r ++ (sideBytes d ++ rest)) ts vs ≡ moved d (readWith k e (rateBytes r ++ rest) ts vs)
+abbrev pub SideShifts : Type 0
+SideShifts = (k : ℕ → List ℕ → Option (List ℕ)) (e r d : ℕ) (rest ts vs : List ℕ) → isRate r ≡ true → Expects e r → 1 ≤ d → d ≤ 26 → (tagAt rest 0 ≡ 6 → ⊥)
+    → readWith k e (rateBytes r ++ (sideBytes d ++ rest)) ts vs ≡ shifted d (readWith k e (rateBytes r ++ rest) ts vs)

@@ -21,6 +21,15 @@ pub struct ReadAnswer {
     pub used: u64,
 }
 
+// The answer of a move: number and place of the refusal, or 0 and 0 with the length of the record written and the bytes used of the one read.
+#[repr(C)]
+pub struct MoveAnswer {
+    pub number: u32,
+    pub place: u32,
+    pub length: u64,
+    pub used: u64,
+}
+
 // The tags of the fields, by what they hold; the positions' by its form.
 pub const RATE_TAG: u8 = 1;
 

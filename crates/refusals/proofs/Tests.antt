@@ -1,11 +1,12 @@
 -- Laws of a call's tests: the refusal that the first of them gives, by one test and by two lists of tests.
-use mathlib.Core.Bool.{Bool, true, false}
+use mathlib.Core.Bool.{Bool, true, false, cond}
 use mathlib.Core.List.{List, [], _∷_, _++_}
-use mathlib.Core.Path.{_≡_, refl, sym, _∙_}
+use mathlib.Core.Path.{_≡_, refl, sym, ap, ap₂, _∙_}
 use Prim.Native.Nat.{_<_}
 use native.Mathlib.Omega.{arith}
 use borrow.Author.Tests.{ltb-true}
 use lib.Dec.{ltb}
+use Rattle.refusals.specs.declared.Refusal.{Refusal}
 use Rattle.refusals.specs.Tests.{Test, noRefusal, firstOf}
 use Rattle.lists.proofs.Lists.{every, every-cons}
 
@@ -65,3 +66,19 @@ first-append-some (s ∷ ss) ts e = go (s .applies) refl (first-append-some ss t
     go : (b : Bool) → s .applies ≡ b → ((firstOf ss .number ≡ 0 → ⊥) → firstOf (ss ++ ts) ≡ firstOf ss) → firstOf (s ∷ (ss ++ ts)) ≡ firstOf (s ∷ ss)
     go true q f = first-here s (ss ++ ts) q ∙ sym (first-here s ss q)
     go false q f = first-skip s (ss ++ ts) q ∙ f (λ z. e (rw (first-skip s ss q) z)) ∙ sym (first-skip s ss q)
+
+-- both lists refuse nothing where together they refuse nothing
+pub first-append-clear : (ss ts : List Test) → numbered ss ≡ true → firstOf (ss ++ ts) .number ≡ 0 → (firstOf ss .number ≡ 0) × (firstOf ts .number ≡ 0)
+first-append-clear [] ts n e = (ap (λ (r : Refusal). r .number) first-end, e)
+first-append-clear (s ∷ ss) ts n e =
+    let p = parts s ss n in
+    let h = first-clear s (ss ++ ts) (p .0) e in
+    let i = first-append-clear ss ts (p .1) (h .1) in
+    (ap (λ (r : Refusal). r .number) (first-skip s ss (h .0)) ∙ i .0, i .1)
+
+-- and no test of both has the number of a success where none of either has
+pub numbered-append : (ss ts : List Test) → numbered ss ≡ true → numbered ts ≡ true → numbered (ss ++ ts) ≡ true
+numbered-append [] ts m n = n
+numbered-append (s ∷ ss) ts m n =
+    let h = every-cons (λ (t : Test). ltb 0 (t .number)) s ss m in
+    ap₂ (λ (a b : Bool). cond a b false) (h .0) (numbered-append ss ts (h .1) n)

@@ -1,19 +1,17 @@
 -- `read_record` meets its contract: a law of readings answers each return.
 use mathlib.Core.Bool.{false}
-use mathlib.Core.Path.{_≡_, sym, ap, _∙_}
-use Prim.Native.Nat.{ℕ}
+use mathlib.Core.Path.{_≡_, sym, _∙_}
 use native.Mathlib.Omega.{arith}
 use borrow.Author.Needs.{needs}
 use lib.ListN.{length}
-use Rattle.record_format.specs.Fields.{tagAt}
-use Rattle.record_format.specs.Runs.{formOf}
-use Rattle.record_format.specs.Reading.{lacksRoom, formIn}
-use Rattle.record_codec.proofs.Fronts.{place-near}
-use Rattle.record_codec.proofs.Readings.{answered-as, read-front, read-lacks, room-positions, room-ratios, read-positions, ratios-at, positions-inside, positions-near, read-ratios, read-found}
+use Rattle.record_format.specs.Reading.{lacksRoom}
+use Rattle.record_parts.specs.Fields.{FrontFound}
+use Rattle.record_parts.proofs.Fronts.{place-near}
+use Rattle.record_codec.proofs.Readings.{answered-as, read-front, read-lacks, room-both, read-points, read-found}
 use Rattle.record_codec.proofs.reader.read_record.Statement.{statement}
 use Rattle.record_codec.proofs.reader.read_record.Tie as tie
 
--- ---- places: the front, the room, the positions and the ratios, as later places see them
+-- ---- places: the front, the room and the points, as later places see them
 
 abbrev entry : tie.After-read-front → tie.Start
 entry k = k .before .before .before .before
@@ -21,20 +19,14 @@ entry k = k .before .before .before .before
 abbrev front : tie.Else1 → tie.After-read-front
 front k = k .before .before
 
-abbrev formed : tie.After-read-positions → tie.After-form-at
-formed k = k .before .before
+abbrev room : tie.After-read-points → tie.Else2
+room k = k .before .before .before
 
-abbrev room : tie.After-read-positions → tie.Else2
-room k = formed k .before
+abbrev outputs-known : tie.After-slice-known8 → tie.After-read-points
+outputs-known k = k .before .before .before .before
 
-abbrev positions : tie.After-positions-refused → tie.After-read-positions
-positions k = k .before .before .before
-
-abbrev later : tie.After-read-ratios → tie.Else3
-later k = k .before .before
-
-abbrev ratios : tie.After-ratios-refused → tie.After-read-ratios
-ratios k = k .before .before .before
+abbrev points : tie.After-points-refused → tie.After-read-points
+points k = outputs-known (k .before)
 
 -- the call that clears the outputs, as each return of a refusal sees it
 abbrev front-cleared : tie.After-slice-known4 → tie.After-refuse-read
@@ -43,11 +35,8 @@ front-cleared k = k .before .before .before .before
 abbrev room-cleared : tie.After-slice-known6 → tie.After-refuse-read2
 room-cleared k = k .before .before .before .before
 
-abbrev positions-cleared : tie.After-slice-known9 → tie.After-refuse-read3
-positions-cleared k = k .before .before .before .before
-
-abbrev ratios-cleared : tie.After-slice-known12 → tie.After-refuse-read4
-ratios-cleared k = k .before .before .before .before
+abbrev points-cleared : tie.After-slice-known10 → tie.After-refuse-read3
+points-cleared k = k .before .before .before .before
 
 -- ---- what holds past the test of room
 
@@ -64,14 +53,11 @@ module _ (k : tie.Else2) where
   good-front : fronted .read-front .result .refusal .number ≡ 0
   good-front = lacked .before .if1 .left
 
+  found : FrontFound (start .args .input .now) (fronted .read-front .result)
+  found = fronted .read-front .ensures .found good-front
+
   enough : lacksRoom (length (start .args .positions .now)) (length (start .args .ratios .now)) (fronted .read-front .result .count) ≡ false
   enough = sym (lacked .lacks .ensures) ∙ k .if2 .left
-
--- the form of the positions, which the tag past the front names
-form-is : (k : tie.After-form-at) → k .form-at .result ≡ formIn (start (k .before) .args .input .now)
-form-is k =
-    let r = k .before in
-    k .form-at .ensures ∙ ap (λ (p : ℕ). formOf (tagAt (start r .args .input .now) p)) (fronted r .read-front .ensures .next (good-front r))
 
 -- ---- the needs
 
@@ -99,10 +85,10 @@ returns c =
 lacks-requires : tie.Need-lacks-requires
 lacks-requires c κs = search needs
 
-cast-t25 : tie.Need-cast-t25
-cast-t25 c =
+cast-t22 : tie.Need-cast-t22
+cast-t22 c =
     let l = c .before .before in
-    let near = place-near (front (l .before) .read-front .ensures) (l .before .if1 .left) in
+    let near = place-near (front (l .before) .read-front .ensures .found (l .before .if1 .left) .count) in
     omega arith
 
 refuse-read-requires-2 : tie.Need-refuse-read-requires-2
@@ -125,22 +111,12 @@ returns-2 c =
     (sym (l .lacks .ensures) ∙ i .if2 .taken))
     (room-cleared c .refuse-read2 .ensures)
 
-form-at-requires : tie.Need-form-at-requires
-form-at-requires c κs = search needs
-
-read-positions-requires : tie.Need-read-positions-requires
-read-positions-requires c κs =
-    let m = c .before in
-    let k = m .before in
-    let g = good-front k in
-    let h = fronted k .read-front .ensures in
-    let next = h .next g in
-    let inside = h .inside g in
-    let near = h .near g in
-    let count = h .count g in
-    let few = h .few g in
+read-points-requires : tie.Need-read-points-requires
+read-points-requires c κs =
+    let k = c .before .before in
     let a = start k .args in
-    (form-is m, next, h .place g, count, omega arith, omega arith, room-positions (a .openly) (a .expected) (a .input .now) (a .positions .now) (a .ratios .now) _ h g (enough k), omega arith)
+    let r = room-both (a .openly) (a .expected) (a .input .now) (a .positions .now) (a .ratios .now) _ (fronted k .read-front .ensures) (good-front k) (enough k) in
+    (found k .count, r .0, r .1)
 
 refuse-read-requires-3 : tie.Need-refuse-read-requires-3
 refuse-read-requires-3 c κs = search needs
@@ -153,34 +129,28 @@ same-length-6 c = search needs
 
 returns-3 : tie.Need-returns-3
 returns-3 c =
-    let i = positions-cleared c .before .before .before in
-    let p = positions (i .before) in
+    let i = points-cleared c .before .before .before in
+    let p = points (i .before) in
     let r = room p in
     let f = fronted r in
     let a = start r .args in
     answered-as
-    (read-positions (a .openly) (a .expected) (a .input .now) (a .positions .now) (a .ratios .now) (f .read-front .result) (f .read-front .ensures) (good-front r) (enough r) (p .read-positions .result) _ (formed p .form-at .result) (form-is (formed p)) (p .read-positions .ensures) (i .if3 .taken) (p .read-positions .kept .1 .1 .1 .1 .1 .0))
-    (positions-cleared c .refuse-read3 .ensures)
+    (read-points (a .openly) (a .expected) (a .input .now) (a .positions .now) (a .ratios .now) (f .read-front .result) (f .read-front .ensures) (good-front r) (enough r)
+    (p .read-points .result) _ _ (p .read-points .ensures) (i .if3 .taken) (p .read-points .kept .1 .1 .1 .1 .1 .0) (p .read-points .kept .1 .1 .1 .1 .1 .1 .0))
+    (points-cleared c .refuse-read3 .ensures)
 
-read-ratios-requires : tie.Need-read-ratios-requires
-read-ratios-requires c κs =
-    let i = c .before in
-    let p = positions (i .before) in
-    let r = room p in
-    let f = fronted r in
-    let a = start r .args in
-    let g = good-front r in
-    let next = f .read-front .ensures .next g in
-    let near = f .read-front .ensures .near g in
-    let count = f .read-front .ensures .count g in
-    let few = f .read-front .ensures .few g in
-    let at = ratios-at (a .openly) (a .expected) (a .input .now) (a .positions .now) (a .ratios .now) (f .read-front .result) (f .read-front .ensures) (good-front r) (enough r) (p .read-positions .result) _ (formed p .form-at .result) (form-is (formed p)) (p .read-positions .ensures) (i .if3 .left) in
-    let inside = positions-inside (a .openly) (a .expected) (a .input .now) (a .positions .now) (a .ratios .now) (f .read-front .result) (f .read-front .ensures) (good-front r) (enough r) (p .read-positions .result) _ (formed p .form-at .result) (form-is (formed p)) (p .read-positions .ensures) (i .if3 .left) in
-    let close = positions-near (a .openly) (a .expected) (a .input .now) (a .positions .now) (a .ratios .now) (f .read-front .result) (f .read-front .ensures) (good-front r) (enough r) (p .read-positions .result) _ (formed p .form-at .result) (form-is (formed p)) (p .read-positions .ensures) (i .if3 .left) in
-    (at, count, omega arith, omega arith, room-ratios (a .openly) (a .expected) (a .input .now) (a .positions .now) (a .ratios .now) _ (f .read-front .ensures) g (enough r), omega arith)
+cast-t36 : tie.Need-cast-t36
+cast-t36 c =
+    let r = room (points (c .before)) in
+    let counted = found r .count .counted in
+    let few = found r .count .few in
+    omega arith
 
-refuse-read-requires-4 : tie.Need-refuse-read-requires-4
-refuse-read-requires-4 c κs = search needs
+form-tag-requires : tie.Need-form-tag-requires
+form-tag-requires c κs = search needs
+
+cast-t38 : tie.Need-cast-t38
+cast-t38 c = search needs
 
 same-length-7 : tie.Need-same-length-7
 same-length-7 c = search needs
@@ -190,49 +160,13 @@ same-length-8 c = search needs
 
 returns-4 : tie.Need-returns-4
 returns-4 c =
-    let j = ratios-cleared c .before .before .before in
-    let q = ratios (j .before) in
-    let i = later q in
-    let p = positions (i .before) in
-    let r = room p in
-    let f = fronted r in
-    let a = start r .args in
-    answered-as
-    (read-ratios (a .openly) (a .expected) (a .input .now) (a .positions .now) (a .ratios .now) (f .read-front .result) (f .read-front .ensures) (good-front r) (enough r) (p .read-positions .result) _ (formed p .form-at .result) (form-is (formed p)) (p .read-positions .ensures) (i .if3 .left)
-    (q .read-ratios .result) _ (q .read-ratios .ensures) (j .if4 .taken) (p .read-positions .kept .1 .1 .1 .1 .1 .0) (q .read-ratios .kept .1 .1 .1 .1 .0))
-    (ratios-cleared c .refuse-read4 .ensures)
-
-cast-t43 : tie.Need-cast-t43
-cast-t43 c =
-    let q = ratios (c .before) in
-    let r = room (positions (later q .before)) in
-    let count = fronted r .read-front .ensures .count (good-front r) in
-    let few = fronted r .read-front .ensures .few (good-front r) in
-    omega arith
-
-form-tag-requires : tie.Need-form-tag-requires
-form-tag-requires c κs = search needs
-
-cast-t45 : tie.Need-cast-t45
-cast-t45 c = search needs
-
-same-length-9 : tie.Need-same-length-9
-same-length-9 c = search needs
-
-same-length-10 : tie.Need-same-length-10
-same-length-10 c = search needs
-
-returns-5 : tie.Need-returns-5
-returns-5 c =
     let last = c .before in
-    let q = ratios (last .before) in
-    let i = later q in
-    let p = positions (i .before) in
+    let p = points (last .before) in
     let r = room p in
     let f = fronted r in
     let a = start r .args in
-    read-found (a .openly) (a .expected) (a .input .now) (a .positions .now) (a .ratios .now) (f .read-front .result) (f .read-front .ensures) (good-front r) (enough r) (p .read-positions .result) _ (formed p .form-at .result) (form-is (formed p)) (p .read-positions .ensures) (i .if3 .left)
-    (q .read-ratios .result) _ (q .read-ratios .ensures) (last .if4 .left) (c .form-tag .result) (c .form-tag .ensures)
+    read-found (a .openly) (a .expected) (a .input .now) (a .positions .now) (a .ratios .now) (f .read-front .result) (f .read-front .ensures) (good-front r) (enough r)
+    (p .read-points .result) _ _ (p .read-points .ensures) (last .if3 .left) (c .form-tag .result) (c .form-tag .ensures)
 
 pub read-record-spec : {M : Type 1} → statement M
 read-record-spec =
@@ -244,25 +178,19 @@ read-record-spec =
     same-length-2
     returns
     lacks-requires
-    cast-t25
+    cast-t22
     refuse-read-requires-2
     same-length-3
     same-length-4
     returns-2
-    form-at-requires
-    read-positions-requires
+    read-points-requires
     refuse-read-requires-3
     same-length-5
     same-length-6
     returns-3
-    read-ratios-requires
-    refuse-read-requires-4
+    cast-t36
+    form-tag-requires
+    cast-t38
     same-length-7
     same-length-8
-    returns-4
-    cast-t43
-    form-tag-requires
-    cast-t45
-    same-length-9
-    same-length-10
-    returns-5)
+    returns-4)

@@ -1,0 +1,375 @@
+// Moving: a record is read strictly and written in the other form. Its ratios' field is copied as it stands, since it is the same in both.
+ghost use mathlib.Core.Path.{_≡_};
+ghost use mathlib.Core.Bool.{true};
+ghost use mathlib.Core.List.{_++_};
+ghost use Prim.Native.Nat.{_≤_};
+ghost use lib.ListN.{length};
+ghost use Rattle.limits.specs.Points.{maxPoints, firstHigh};
+ghost use Rattle.outputs.specs.Outputs.{Placed};
+ghost use Rattle.position_format.specs.Positions.{validPositions};
+ghost use Rattle.position_format.specs.Tables.{tableOf};
+ghost use Rattle.refusals.specs.Tests.{firstOf};
+ghost use Rattle.record_format.specs.Fields.{laid};
+ghost use Rattle.record_format.specs.Moves.{targetTests, refusedMove, moveOf};
+ghost use Rattle.record_parts.specs.Leads.{leadFields};
+ghost use Rattle.record_codec.specs.Answers.{Moved};
+ghost use Rattle.record_codec.specs.Movable.{Movable, Opened};
+use super::writer::old_steps;
+use limits::MAX_POINTS;
+use limits::MAX_WIDE_POINTS;
+use outputs::Wrote;
+use position_format::Form;
+use record_format::MoveAnswer;
+use record_parts::coding::is_in;
+use record_parts::front::Front;
+use record_parts::front::no_front;
+use record_parts::front::read_front;
+use record_parts::points::read_points;
+use record_parts::putting::put_lead;
+use refusals::Refusal;
+
+// A refused move: the output is 0 from end to end.
+fn refuse_move(refusal: Refusal, out: &mut [u8]) -> MoveAnswer
+    ensures { λ r. ⌜ Moved (refusedMove refusal (now (out .entry))) r (now (out .exit)) ⌝ }
+{
+    outputs::clear_bytes(out);
+    MoveAnswer {
+        number: refusal.number,
+        place: refusal.place,
+        length: 0,
+        used: 0,
+    }
+}
+
+// The refusal of too many points for the wide form: 3.
+fn wide_points(positions: &[u64]) -> Refusal
+    ensures { λ r. ⌜ r ≡ firstOf (targetTests Form.Wide (now (positions .entry))) ⌝ }
+{
+    if MAX_WIDE_POINTS < positions.len() {
+        return Refusal {
+            number: 3,
+            place: 0,
+        };
+    }
+    Refusal {
+        number: 0,
+        place: 0,
+    }
+}
+
+// The refusal of positions in the form moved to: 3 toward wide, 5 toward old.
+fn check_target(form: Form, positions: &[u64]) -> Refusal
+    requires { ⌜ (length (now positions) ≤ firstHigh (now positions)) × (length (now positions) ≤ maxPoints) ⌝ }
+    ensures { λ r. ⌜ r ≡ firstOf (targetTests form (now (positions .entry))) ⌝ }
+{
+    match form {
+        Form::Old => old_steps(positions),
+        Form::Wide => wide_points(positions),
+    }
+}
+
+// The fields of a record in a form up to and with the positions', and then the ratios' field, which is given as bytes.
+fn put_moved(
+    rate: u32,
+    side: u32,
+    form: Form,
+    positions: &[u64],
+    field: &[u8],
+    out: &mut [u8],
+) -> Wrote
+    requires { ⌜ (validPositions (tableOf form) (now positions) ≡ true) × (length (now positions) ≤ maxPoints) ⌝ }
+    ensures { λ r. ⌜ Placed (laid (leadFields rate side form (now (positions .entry))) ++ now (field .entry)) r (now (out .entry)) (now (out .exit)) ⌝ }
+{
+    let Wrote::Done(lead_end) = put_lead(rate, side, form, positions, out) else {
+        return Wrote::NoRoom;
+    };
+    let Wrote::Done(field_size) = outputs::put_copy(field, &mut out[lead_end..]) else {
+        return Wrote::NoRoom;
+    };
+    Wrote::Done(lead_end + field_size)
+}
+
+// The move of a record whose front is read and whose form is not the one moved to, by way of arrays with room for its points. The count's field stands at
+// `place`, the positions' at `at`.
+fn move_by(
+    form: Form,
+    input: &[u8],
+    rate: u32,
+    side: u32,
+    count: usize,
+    place: usize,
+    at: usize,
+    positions: &mut [u64],
+    ratios: &mut [u64],
+    out: &mut [u8],
+) -> MoveAnswer
+    requires { ⌜ Movable form (now input) rate side count place at × (count ≤ length (now positions)) × (count ≤ length (now ratios)) ⌝ }
+    ensures { λ r. ⌜ Moved (moveOf form (now (input .entry)) (now (out .entry))) r (now (out .exit)) ⌝ }
+{
+    let points = read_points(false, input, count, place, at, positions, ratios);
+    let points_refused = points.refusal;
+    let points_number = points_refused.number;
+    if points_number != 0 {
+        return refuse_move(points_refused, out);
+    }
+    let target_refused = check_target(form, &positions[..count]);
+    let target_number = target_refused.number;
+    if target_number != 0 {
+        return refuse_move(target_refused, out);
+    }
+    let from = points.from;
+    let end = points.end;
+    let Wrote::Done(n) = put_moved(
+        rate,
+        side,
+        form,
+        &positions[..count],
+        &input[from..end],
+        out,
+    ) else {
+        return refuse_move(
+            Refusal {
+                number: 6,
+                place: 0,
+            },
+            out,
+        );
+    };
+    MoveAnswer {
+        number: 0,
+        place: 0,
+        length: n as u64,
+        used: end as u64,
+    }
+}
+
+// The same with arrays for up to 64 points, and below for up to 256, 1,024 and all: an array is filled with zeros first, which for every point that a run
+// can have takes longer than to move a short record.
+fn move_up_to_64(
+    form: Form,
+    input: &[u8],
+    rate: u32,
+    side: u32,
+    count: usize,
+    place: usize,
+    at: usize,
+    out: &mut [u8],
+) -> MoveAnswer
+    requires { ⌜ Movable form (now input) rate side count place at × (count ≤ 64) ⌝ }
+    ensures { λ r. ⌜ Moved (moveOf form (now (input .entry)) (now (out .entry))) r (now (out .exit)) ⌝ }
+{
+    let mut positions = [0; 64];
+    let mut ratios = [0; 64];
+    move_by(
+        form,
+        input,
+        rate,
+        side,
+        count,
+        place,
+        at,
+        &mut positions,
+        &mut ratios,
+        out,
+    )
+}
+
+fn move_up_to_256(
+    form: Form,
+    input: &[u8],
+    rate: u32,
+    side: u32,
+    count: usize,
+    place: usize,
+    at: usize,
+    out: &mut [u8],
+) -> MoveAnswer
+    requires { ⌜ Movable form (now input) rate side count place at × (count ≤ 256) ⌝ }
+    ensures { λ r. ⌜ Moved (moveOf form (now (input .entry)) (now (out .entry))) r (now (out .exit)) ⌝ }
+{
+    let mut positions = [0; 256];
+    let mut ratios = [0; 256];
+    move_by(
+        form,
+        input,
+        rate,
+        side,
+        count,
+        place,
+        at,
+        &mut positions,
+        &mut ratios,
+        out,
+    )
+}
+
+fn move_up_to_1024(
+    form: Form,
+    input: &[u8],
+    rate: u32,
+    side: u32,
+    count: usize,
+    place: usize,
+    at: usize,
+    out: &mut [u8],
+) -> MoveAnswer
+    requires { ⌜ Movable form (now input) rate side count place at × (count ≤ 1024) ⌝ }
+    ensures { λ r. ⌜ Moved (moveOf form (now (input .entry)) (now (out .entry))) r (now (out .exit)) ⌝ }
+{
+    let mut positions = [0; 1024];
+    let mut ratios = [0; 1024];
+    move_by(
+        form,
+        input,
+        rate,
+        side,
+        count,
+        place,
+        at,
+        &mut positions,
+        &mut ratios,
+        out,
+    )
+}
+
+fn move_up_to_4096(
+    form: Form,
+    input: &[u8],
+    rate: u32,
+    side: u32,
+    count: usize,
+    place: usize,
+    at: usize,
+    out: &mut [u8],
+) -> MoveAnswer
+    requires { ⌜ Movable form (now input) rate side count place at ⌝ }
+    ensures { λ r. ⌜ Moved (moveOf form (now (input .entry)) (now (out .entry))) r (now (out .exit)) ⌝ }
+{
+    let mut positions = [0; MAX_POINTS];
+    let mut ratios = [0; MAX_POINTS];
+    move_by(
+        form,
+        input,
+        rate,
+        side,
+        count,
+        place,
+        at,
+        &mut positions,
+        &mut ratios,
+        out,
+    )
+}
+
+// The move of a record with at most 64 points, or of one whose front is refused.
+fn move_short(
+    form: Form,
+    input: &[u8],
+    refusal: Refusal,
+    rate: u32,
+    side: u32,
+    count: usize,
+    place: usize,
+    at: usize,
+    out: &mut [u8],
+) -> MoveAnswer
+    requires { ⌜ Opened form (now input) refusal rate side count place at × (count ≤ 64) ⌝ }
+    ensures { λ r. ⌜ Moved (moveOf form (now (input .entry)) (now (out .entry))) r (now (out .exit)) ⌝ }
+{
+    let number = refusal.number;
+    if number != 0 {
+        return refuse_move(refusal, out);
+    }
+    move_up_to_64(form, input, rate, side, count, place, at, out)
+}
+
+// The move of a record with more, in arrays that the count asks for. It stands apart from the short one, which would else take as much of the stack.
+fn move_long(
+    form: Form,
+    input: &[u8],
+    rate: u32,
+    side: u32,
+    count: usize,
+    place: usize,
+    at: usize,
+    out: &mut [u8],
+) -> MoveAnswer
+    requires { ⌜ Movable form (now input) rate side count place at ⌝ }
+    ensures { λ r. ⌜ Moved (moveOf form (now (input .entry)) (now (out .entry))) r (now (out .exit)) ⌝ }
+{
+    if count <= 256 {
+        return move_up_to_256(form, input, rate, side, count, place, at, out);
+    }
+    if count <= 1024 {
+        return move_up_to_1024(form, input, rate, side, count, place, at, out);
+    }
+    move_up_to_4096(form, input, rate, side, count, place, at, out)
+}
+
+// The front of a record that is to be moved to a form. 11 for a record that is in that form already stands before all tests past the head of the
+// positions' field.
+fn open_front(form: Form, input: &[u8]) -> Front
+    ensures { λ r. ⌜ Opened form (now (input .entry)) (r .refusal) (r .rate) (r .side) (r .count) (r .place) (r .end) ⌝ }
+{
+    let front = read_front(0, input);
+    let refusal = front.refusal;
+    let number = refusal.number;
+    if number != 0 {
+        return no_front(refusal);
+    }
+    let end = front.end;
+    if is_in(form, input, end) {
+        return no_front(Refusal {
+            number: 11,
+            place: end as u32,
+        });
+    }
+    front
+}
+
+// Moves the record at the front of the input to the wide form, into the output: strict reading's tests without an expected rate, with 11 for a record that is
+// wide already; then 3 above 3,500 points, and 6.
+pub fn to_wide(input: &[u8], out: &mut [u8]) -> MoveAnswer
+    ensures { λ r. ⌜ (r ≡ moveOf Form.Wide (now (input .entry)) (now (out .entry)) .answer)
+        × (now (out .exit) ≡ moveOf Form.Wide (now (input .entry)) (now (out .entry)) .output) ⌝ }
+{
+    let front = open_front(Form::Wide, input);
+    let refusal = front.refusal;
+    let rate = front.rate;
+    let side = front.side;
+    let count = front.count;
+    let place = front.place;
+    let at = front.end;
+    if count <= 64 {
+        return move_short(
+            Form::Wide,
+            input,
+            refusal,
+            rate,
+            side,
+            count,
+            place,
+            at,
+            out,
+        );
+    }
+    move_long(Form::Wide, input, rate, side, count, place, at, out)
+}
+
+// The same to the old form: 11 for a record that is in it already; then 5 for the first step outside document 01's table, and 6.
+pub fn to_old(input: &[u8], out: &mut [u8]) -> MoveAnswer
+    ensures { λ r. ⌜ (r ≡ moveOf Form.Old (now (input .entry)) (now (out .entry)) .answer)
+        × (now (out .exit) ≡ moveOf Form.Old (now (input .entry)) (now (out .entry)) .output) ⌝ }
+{
+    let front = open_front(Form::Old, input);
+    let refusal = front.refusal;
+    let rate = front.rate;
+    let side = front.side;
+    let count = front.count;
+    let place = front.place;
+    let at = front.end;
+    if count <= 64 {
+        return move_short(Form::Old, input, refusal, rate, side, count, place, at, out);
+    }
+    move_long(Form::Old, input, rate, side, count, place, at, out)
+}

@@ -1,0 +1,237 @@
+-- What moves do, proved of the definitions.
+use mathlib.Core.Path.{_≡_, refl, sym, ap, ap₂, _∙_, subst}
+use mathlib.Core.Bool.{Bool, true, false, not, cond, false≢true}
+use mathlib.Core.List.{List, [], _∷_, _++_, append-nil}
+use mathlib.Core.Logic.{_⊎_, inl, inr}
+use Prim.Native.Nat.{ℕ, zero, suc, _+_, _-_, _≤_, _<_}
+use native.Mathlib.Nat.{add-zero}
+use native.Mathlib.Omega.{arith}
+use borrow.Author.Tests.{eqb-true, le-ltb, lt-ltb, leb-true, leb-false, ltb-false}
+use lib.Dec.{ltb, leb, eqb, lit<, eqb·suc-zero}
+use lib.ListN.{length, getD, take, drop, length-drop}
+use lib.Seq.{take-at, getD-drop}
+use Rattle.lists.specs.Compare.{both}
+use Rattle.lists.specs.Lists.{member}
+use Rattle.lists.proofs.Compare.{both-true}
+use Rattle.limits.specs.Points.{maxPoints}
+use Rattle.refusals.specs.declared.Refusal.{Refusal}
+use Rattle.refusals.specs.Tests.{Test, test, firstOf, refused}
+use Rattle.refusals.proofs.Tests.{first-here, first-skip, first-end, first-clear, first-append-clear}
+use Rattle.position_format.specs.declared.Form.{Form}
+use Rattle.position_format.specs.declared.Form.the-variants.{Old, Wide}
+use Rattle.position_format.specs.Rows.{rows, inTable}
+use Rattle.position_format.specs.Steps.{firstOutside, stepHere}
+use Rattle.position_format.proofs.Points.{outside-here, outside-later}
+use Rattle.ratio_format.specs.Bodies.{strictRatios}
+use Rattle.record_format.specs.Fields.{headSize, tagAt}
+use Rattle.record_format.specs.Runs.{Run, positionsTag, formOf, recordOf}
+use Rattle.record_format.specs.Reading.{Answer, refusalAnswer, recordAnswer, answerBy, readTests, readStrict, readWith, positionsAt, rateIn, sideIn, countIn, frontTests}
+use Rattle.record_format.specs.Moves.{Move, otherForm, inForm, runIn, sourceTests, targetTests, moveTests, refusedMove, recordMove, moveOf}
+use Rattle.record_format.specs.Claims.{Accepted, Bytes, ownTests, runAnswer}
+use Rattle.record_format.specs.MoveClaims.{notMoved, movedTo, ByRoom, ToWide, Held, ToOld, FormThere, StrictFirst, MovesOnly, MovesBack, ReadsAlike, MovesWhole}
+use Rattle.record_format.proofs.Reading.{refusal, front-numbered}
+use Rattle.record_format.proofs.ReadsOnly.{FrontSound, front-clear, front-splits, clear-begins}
+use Rattle.record_format.proofs.Sides.{side-follows}
+use Rattle.record_format.proofs.Moves.{other-other, headOf, source-form, source-strict, target-numbered, runMoveTests, source-refused, move-clear, moved-fits, fits-target, ownMove, own-run, own-move, own-target, own-room, own-done, own-form}
+use Rattle.record_format.proofs.Claims.{refused-reading, reads-back}
+use Rattle.record_format.proofs.Writing.{Fitting, accepted-fits, fitting-accepted}
+
+-- ---- the record of a run in the other form
+
+module _ (f : Form) (r : Run) (a : Accepted r) (other : r .form ≡ otherForm f) (rest o : List ℕ) where
+  fit : Fitting r
+  fit = accepted-fits r (a .passes)
+
+  moves : moveOf f (recordOf r ++ rest) o ≡ ownMove f r o
+  moves = own-move f r fit (a .words) rest other o
+
+  -- refused by the tests of its positions
+  by-target : (n p : ℕ) → firstOf (targetTests f (r .positions)) ≡ refusal n p → (n ≡ 0 → ⊥) → moveOf f (recordOf r ++ rest) o ≡ notMoved n p o
+  by-target n p e d = moves ∙ own-target f r o (refusal n p) e d
+
+  module _ (clear : firstOf (targetTests f (r .positions)) .number ≡ 0) where
+    -- or taken
+    there : Accepted (inForm f r)
+    there = record { words = a .words; passes = fitting-accepted (inForm f r) (moved-fits f r fit clear) }
+
+    by-room : ByRoom f r (inForm f r) rest o
+    by-room = (λ h. moves ∙ own-room f r o clear h, λ h. moves ∙ own-done f r o clear h)
+
+pub to-wide : ToWide
+to-wide r a e rest o = (
+  λ many. by-target Wide r a e rest o 3 0 (first-here _ _ (lt-ltb _ _ many)) (λ z. omega arith),
+  λ few.
+      let clear = ap (λ (g : Refusal). g .number) (first-skip (test (ltb 3500 (length (r .positions))) 3 0) [] (le-ltb _ _ few) ∙ first-end) in
+      (there Wide r a e rest o clear, by-room Wide r a e rest o clear),
+)
+
+-- steps that the table holds from the third point on, up to the point of index k + 2
+held-to : (ts : List ℕ) (k : ℕ) → ((i : ℕ) → 2 ≤ i → i < k + 2 → Held ts i) → k + 2 ≤ length ts → k + 2 ≤ firstOutside rows ts
+held-to ts zero all h = omega arith
+held-to ts (suc k) all h =
+    let so-far = held-to ts k (λ i a b. all i a (omega arith)) (omega arith) in
+    let next = outside-later rows ts (k + 2) (omega arith) (omega arith) so-far true (sym (all (k + 2) (omega arith) (omega arith))) refl in
+    omega arith
+
+-- and of every point
+held-all : (ts : List ℕ) → ((i : ℕ) → 2 ≤ i → i < length ts → Held ts i) → length ts ≤ firstOutside rows ts
+held-all ts all = go (leb 2 (length ts)) refl
+  where
+    go : (b : Bool) → leb 2 (length ts) ≡ b → length ts ≤ firstOutside rows ts
+    go true e =
+        let long = leb-true 2 (length ts) e in
+        let near = held-to ts (length ts - 2) (λ i a b. all i a (omega arith)) (omega arith) in
+        omega arith
+    go false e =
+        let short = leb-false 2 (length ts) e in
+        omega arith
+
+-- the first point whose step it does not hold
+not-held : (ts : List ℕ) (p : ℕ) → 2 ≤ p → p < length ts → (Held ts p → ⊥) → ((i : ℕ) → 2 ≤ i → i < p → Held ts i) → p ≡ firstOutside rows ts
+not-held ts p two here out all = go (inTable rows (stepHere ts p)) refl
+  where
+    go : (b : Bool) → inTable rows (stepHere ts p) ≡ b → p ≡ firstOutside rows ts
+    go true e = absurd (out e)
+    go false e =
+        let so-far : p ≤ firstOutside rows ts =
+        (let near = held-to ts (p - 2) (λ i a b. all i a (omega arith)) (omega arith) in omega arith) in
+        outside-here rows ts p two here so-far false (sym e) refl
+
+pub to-old : ToOld
+to-old r a e rest o =
+    let ts = r .positions in (
+      λ p two here out all.
+          let is = not-held ts p two here out all in
+          by-target Old r a e rest o 5 p
+          (first-here (test (ltb (firstOutside rows ts) (length ts)) 5 (firstOutside rows ts)) [] (lt-ltb _ _ (subst (λ (n : ℕ). n < length ts) is here)) ∙ ap (refusal 5) (sym is)) (λ z. omega arith),
+      λ all.
+          let clear = ap (λ (g : Refusal). g .number) (first-skip (test (ltb (firstOutside rows ts) (length ts)) 5 (firstOutside rows ts)) [] (le-ltb _ _ (held-all ts all)) ∙ first-end) in
+          (there Old r a e rest o clear, by-room Old r a e rest o clear),
+    )
+
+-- ---- everything else that strict reading refuses
+
+-- a front that is not refused, and past it the head of the form f
+form-there : (f : Form) (s : List ℕ) → Bytes s → FrontSound s → headOf f s ≡ true → FormThere f s
+unfolding tagAt
+form-there f s bytes h e =
+    let p = both-true (leb (positionsAt s + headSize) (length s)) _ e in
+    let whole : positionsAt s + headSize ≤ length s = leb-true _ _ (p .0) in (
+      rateIn s,
+      sideIn s,
+      countIn s,
+      drop (positionsAt s) s,
+      h .listed,
+      side-follows s bytes (h .side) .sided,
+      h .few,
+      front-splits s bytes h,
+      omega (arith, length-drop (positionsAt s) s),
+      getD-drop (positionsAt s) s 0 0 ∙ ap (λ (n : ℕ). getD s n 0) (add-zero (positionsAt s)) ∙ eqb-true _ _ (p .1),
+    )
+
+pub strict-first : StrictFirst
+unfolding readWith
+strict-first f s o ts vs bytes m n none d =
+    let tests = readTests strictRatios 0 s (length ts) (length vs) in
+    let e : firstOf (sourceTests f s) ≡ firstOf tests = source-strict f s (length ts) (length vs) m n (λ clear. other clear (headOf f s) refl) in
+    let q = refused-reading tests (recordAnswer strictRatios s ts vs) ts vs d refl in
+    rw q (sym (source-refused f s o (firstOf tests) (sym e) (λ z. d (ap (λ (a : Answer). a .answer .number) q ∙ z))))
+  where
+    other : firstOf (frontTests 0 s) .number ≡ 0 → (b : Bool) → headOf f s ≡ b → headOf f s ≡ false
+    other clear true e = absurd (none (form-there f s bytes (front-clear 0 s [] (ap (λ (l : List Test). firstOf l .number) (append-nil (frontTests 0 s)) ∙ clear) .0) e))
+    other clear false e = e
+
+-- ---- what is moved
+
+-- either a run has the form f, or the other one
+by-form : (f g : Form) → (g ≡ f) ⊎ (g ≡ otherForm f)
+by-form Old Old = inl refl
+by-form Old Wide = inr refl
+by-form Wide Old = inr refl
+by-form Wide Wide = inl refl
+
+moved-run : (f : Form) (r : Run) → Accepted r → (rest o : List ℕ) → moveOf f (recordOf r ++ rest) o .answer .number ≡ 0
+    → (r .form ≡ otherForm f) × Accepted (inForm f r) × (length (recordOf (inForm f r)) ≤ length o) × (moveOf f (recordOf r ++ rest) o ≡ movedTo r (inForm f r) o)
+moved-run f r a rest o h = go (by-form f (r .form))
+  where
+    go : (r .form ≡ f) ⊎ (r .form ≡ otherForm f)
+        → (r .form ≡ otherForm f) × Accepted (inForm f r) × (length (recordOf (inForm f r)) ≤ length o) × (moveOf f (recordOf r ++ rest) o ≡ movedTo r (inForm f r) o)
+    go (inl e) = absurd (let z = ap (λ (m : Move). m .answer .number) (own-form f r (accepted-fits r (a .passes)) rest e o) in omega (arith, z, h))
+    go (inr e) =
+        let fit = accepted-fits r (a .passes) in
+        let run-clear : firstOf (runMoveTests f r o) .number ≡ 0 =
+        sym (ap (λ (q : Run). firstOf (runMoveTests f q o) .number) (own-run f r fit (a .words) rest e)) ∙ move-clear f (recordOf r ++ rest) o h .1 in
+        let c = first-append-clear (targetTests f (r .positions)) (test (ltb (length o) (length (recordOf (inForm f r)))) 6 0 ∷ []) (target-numbered f (r .positions)) run-clear in
+        let room : length (recordOf (inForm f r)) ≤ length o = ltb-false _ _ (first-clear (test (ltb (length o) (length (recordOf (inForm f r)))) 6 0) [] (lit< tt) (c .1) .0) in
+        (e, there f r a e rest o (c .0), room, by-room f r a e rest o (c .0) .1 room)
+
+pub moves-only : MovesOnly
+moves-only f s o bytes h =
+    let clear = move-clear f s o h .0 in
+    let front = first-append-clear (frontTests 0 s) _ (front-numbered 0 s) clear .0 in
+    let read = sym (ap (λ (g : Refusal). g .number) (source-strict f s maxPoints maxPoints (omega arith) (omega arith) (λ z. other clear z (headOf f s) refl))) ∙ clear in
+    let b = clear-begins 0 s maxPoints maxPoints bytes read in
+    let r = b .own in
+    let a : Accepted r = record { words = b .ratios; passes = fitting-accepted r (b .fits) } in
+    let m = moved-run f r a (b .rest) o (ap (λ (l : List ℕ). moveOf f l o .answer .number) (sym (b .splits)) ∙ h) in
+    (r, a, m .0, (b .rest, b .splits), m .1, m .2, ap (λ (l : List ℕ). moveOf f l o) (b .splits) ∙ m .3)
+  where
+    other : firstOf (sourceTests f s) .number ≡ 0 → firstOf (frontTests 0 s) .number ≡ 0 → (b : Bool) → headOf f s ≡ b → headOf f s ≡ false
+    other clear front true e = absurd (let z = ap (λ (g : Refusal). g .number) (source-form f s front e) in omega (arith, z, clear))
+    other clear front false e = e
+
+-- ---- there and back
+
+pub moves-back : MovesBack
+moves-back f s o bytes h rest p =
+    let w = moves-only f s o bytes h in
+    let r : Run = w .0 in
+    let q = inForm f r in
+    let same : inForm (otherForm f) q ≡ r = ap (λ (g : Form). inForm g r) (sym (w .2)) in
+    let fit = subst Fitting (sym same) (accepted-fits r (w .1 .passes)) in
+    let clear = ap (λ (g : Refusal). g .number) (fits-target (otherForm f) r fit ∙ first-end) in
+    let room : ByRoom (otherForm f) q r rest p = subst (λ (x : Run). ByRoom (otherForm f) q x rest p) same (by-room (otherForm f) q (w .4) (sym (other-other f)) rest p clear) in
+    let written : take (length (recordOf q)) (recordOf q ++ drop (length (recordOf q)) o) ≡ recordOf q = take-at (recordOf q) _ (length (recordOf q)) refl in
+    let used : take (length (recordOf r)) s ≡ recordOf r = ap (take (length (recordOf r))) (w .3 .1) ∙ take-at (recordOf r) (w .3 .0) (length (recordOf r)) refl in
+    rw (w .6) (rw (written, used) room)
+
+-- ---- both records read alike
+
+pub reads-alike : ReadsAlike
+reads-alike f s o bytes h e ts vs =
+    let w = moves-only f s o bytes h in
+    let r : Run = w .0 in
+    let q = inForm f r in
+    let source : readStrict e s ts vs ≡ runAnswer r e ts vs = ap (λ (l : List ℕ). readStrict e l ts vs) (w .3 .1) ∙ reads-back r (w .1) e (w .3 .0) ts vs .0 in
+    let target : readStrict e (recordOf q ++ drop (length (recordOf q)) o) ts vs ≡ runAnswer q e ts vs = reads-back q (w .4) e _ ts vs .0 in
+    rw (w .6) (rw (source) (target ∙ alike r (firstOf (ownTests r e (length ts) (length vs)) .number) refl))
+  where
+    alike : (r : Run) (n : ℕ) → firstOf (ownTests r e (length ts) (length vs)) .number ≡ n
+        → runAnswer (inForm f r) e ts vs
+        ≡ cond (eqb (runAnswer r e ts vs .answer .number) 0)
+        (record {
+          answer = record {
+            number = 0;
+            place = 0;
+            rate = runAnswer r e ts vs .answer .rate;
+            side = runAnswer r e ts vs .answer .side;
+            count = runAnswer r e ts vs .answer .count;
+            form = positionsTag f;
+            used = length (recordOf (inForm f r));
+          };
+          positions = runAnswer r e ts vs .positions;
+          ratios = runAnswer r e ts vs .ratios;
+        })
+        (runAnswer r e ts vs)
+    alike r zero q = rw q
+    alike r (suc n) q = rw (q, eqb·suc-zero n, eqb·suc-zero n)
+
+-- ---- refusals
+
+pub moves-whole : MovesWhole
+unfolding moveOf
+moves-whole f s o d = go (eqb (firstOf (moveTests f s o) .number) 0) refl
+  where
+    go : (b : Bool) → eqb (firstOf (moveTests f s o) .number) 0 ≡ b → moveOf f s o ≡ notMoved (moveOf f s o .answer .number) (moveOf f s o .answer .place) o
+    go true e = absurd (d (rw e))
+    go false e = rw e

@@ -1,0 +1,134 @@
+-- Laws of fields of coded numbers as they are read: what each outcome leaves to be said.
+use mathlib.Core.Path.{_≡_, refl, sym, ap, ap₂, _∙_, subst}
+use mathlib.Core.Bool.{Bool, true, false}
+use mathlib.Core.List.{List, [], _∷_, _++_}
+use mathlib.Core.Option.{Option, none, some}
+use Prim.Native.Nat.{ℕ, _+_, _-_, _≤_}
+use native.Mathlib.Omega.{arith}
+use borrow.Author.Tests.{leb-true, leb-false, ltb-true, lt-ltb}
+use lib.Dec.{leb, ltb}
+use lib.ListN.{length, take, drop}
+use Rattle.lists.specs.Compare.{both}
+use Rattle.lists.proofs.Compare.{both-true}
+use Rattle.limits.specs.Points.{maxPoints}
+use Rattle.outputs.specs.Outputs.{over, Filled}
+use Rattle.refusals.specs.declared.Refusal.{Refusal}
+use Rattle.refusals.specs.Tests.{Test, test, firstOf}
+use Rattle.refusals.proofs.Tests.{first-here, first-skip, first-end}
+use Rattle.position_format.specs.declared.Form.{Form}
+use Rattle.position_format.specs.declared.Form.the-variants.{Old, Wide}
+use Rattle.position_format.specs.Positions.{readPositions}
+use Rattle.position_format.specs.Tables.{tableOf, pointsOf}
+use Rattle.record_format.specs.Fields.{headSize, tagAt, lengthAt, bodyAt, nextAt, headTests, fieldTests}
+use Rattle.record_format.specs.Runs.{positionsTag}
+use Rattle.record_format.specs.Reading.{missing, listOf, countAt, positionsAt, countIn, formIn, positionsTests}
+use Rattle.record_format.proofs.Reading.{refusal, positions-few, positions-many, many-tag}
+use Rattle.record_parts.specs.declared.field.Field.{Field}
+use Rattle.record_parts.specs.Fields.{PartRead, FieldRead, CodedRead}
+use Rattle.record_parts.proofs.Fields.{part-refused, part-first, part-then, part-both, field-numbered}
+
+-- what a reader of a list says of it
+filled-none : (o : Option (List ℕ)) (b : Bool) (x y : List ℕ) → Filled o b x y → b ≡ false → missing o ≡ true
+filled-none none b x y f e = refl
+filled-none (some l) b x y f e = absurd (let z : _≡_ {A = ℕ} 0 1 = cc (f .0) in omega arith)
+
+filled-some : (o : Option (List ℕ)) (b : Bool) (x y : List ℕ) → Filled o b x y → b ≡ true → (missing o ≡ false) × (y ≡ over (listOf o) x)
+filled-some none b x y f e = absurd (let z : _≡_ {A = ℕ} 0 1 = cc in omega arith)
+filled-some (some l) b x y f e = (refl, f .1)
+
+-- the tests of the field at p, whose body the reading k takes, or else the number x
+abbrev pub codedTests : List ℕ → List ℕ → (List ℕ → Option (List ℕ)) → ℕ → ℕ → List Test
+codedTests s tags k x p = fieldTests s tags none p ++ (test (missing (k (bodyAt s p))) x p ∷ [])
+
+-- a part by tests that give the same refusal
+part-as : (us ts : List Test) (s : List ℕ) (p : ℕ) (f : Refusal) (e : ℕ) → firstOf us ≡ firstOf ts → PartRead ts s p f e → PartRead us s p f e
+part-as us ts s p f e same h = record { refuses = h .refuses ∙ sym same; next = h .next; inside = h .inside; near = h .near }
+
+-- the field at the offset p, by its tests and its body, where the tests us give the same refusal as these
+module _ (us : List Test) (tags : List ℕ) (k : List ℕ → Option (List ℕ)) (x : ℕ) (some-number : x ≡ 0 → ⊥) (s : List ℕ) (p : ℕ)
+    (same : firstOf us ≡ firstOf (codedTests s tags k x p)) (f : Field) (h : FieldRead (fieldTests s tags none p) s p f) where
+  abbrev fs : List Test
+  fs = fieldTests s tags none p
+
+  abbrev ts : List Test
+  ts = test (missing (k (bodyAt s p))) x p ∷ []
+
+  pub coded-refused : (o q : List ℕ) → (f .refusal .number ≡ 0 → ⊥) → CodedRead us k s p (record { refusal = f .refusal; end = 0 }) o q
+  coded-refused o q d = record {
+    part = part-refused us s p (f .refusal) 0 d (part-first fs ts s p (f .refusal) (f .to) (field-numbered s tags none p) (h .part) d .refuses ∙ sym same);
+    filled = λ z. absurd (d z);
+  }
+
+  module _ (clear : f .refusal .number ≡ 0) where
+    pub body-order : f .from ≤ f .to
+    unfolding nextAt
+    body-order = omega (arith, h .from clear, h .part .next clear)
+
+    pub body-inside : f .to ≤ length s
+    body-inside = omega (arith, h .part .next clear, h .part .inside clear)
+
+    body-lent : take (f .to - f .from) (drop (f .from) s) ≡ bodyAt s p
+    unfolding bodyAt nextAt
+    body-lent =
+        let e : f .to - f .from ≡ lengthAt s p = omega (arith, h .from clear, h .part .next clear) in
+        ap₂ (λ (n m : ℕ). take n (drop m s)) e (h .from clear)
+
+    module _ (b : Bool) (o q : List ℕ) (got : Filled (k (take (f .to - f .from) (drop (f .from) s))) b o q) where
+      got-body : Filled (k (bodyAt s p)) b o q
+      got-body = subst (λ (l : List ℕ). Filled (k l) b o q) body-lent got
+
+      pub coded-none : b ≡ false → CodedRead us k s p (record { refusal = refusal x p; end = 0 }) o q
+      coded-none e =
+          let g = sym (first-here _ _ (filled-none (k (bodyAt s p)) b o q got-body e)) in
+          record {
+            part = part-as us (fs ++ ts) s p (refusal x p) 0 same
+                (part-then fs ts s p (f .refusal) (f .to) (field-numbered s tags none p) (h .part) clear (refusal x p) 0 g some-number);
+            filled = λ z. absurd (some-number z);
+          }
+
+      pub coded-found : b ≡ true → CodedRead us k s p (record { refusal = f .refusal; end = f .to }) o q
+      coded-found e =
+          let g = filled-some (k (bodyAt s p)) b o q got-body e in
+          record {
+            part = part-as us (fs ++ ts) s p (f .refusal) (f .to) same
+                (part-both fs ts s p (f .refusal) (f .to) (field-numbered s tags none p) (h .part) clear (first-skip _ _ (g .0) ∙ first-end));
+            filled = λ _. g .1;
+          }
+
+-- a cut head decides, whatever tests follow
+head-cut : (s tags : List ℕ) (p : ℕ) (us ts : List Test) → ltb (length s) (p + headSize) ≡ true → firstOf (headTests s tags p ++ us) ≡ firstOf (headTests s tags p ++ ts)
+head-cut s tags p us ts cut = first-here _ _ cut ∙ sym (first-here _ _ cut)
+
+-- ---- the positions' field, by whether its head is whole and its form has fewer points than the count
+
+abbrev pub positions-tags : List ℕ
+positions-tags = positionsTag Old ∷ positionsTag Wide ∷ []
+
+module _ (s : List ℕ) (form : Form) (count at : ℕ) (is : form ≡ formIn s) (here : at ≡ positionsAt s) (counted : count ≡ countIn s) (t : Bool)
+    (et : t ≡ both (leb (at + headSize) (length s)) (ltb (pointsOf form) count)) where
+  -- the same of what reading looks at
+  tested : both (leb (positionsAt s + headSize) (length s)) (ltb (pointsOf (formIn s)) (countIn s)) ≡ t
+  tested =
+      ap₂ (λ (p c : ℕ). both (leb (p + headSize) (length s)) (ltb (pointsOf (formIn s)) c)) (sym here) (sym counted)
+      ∙ ap (λ (f : Form). both (leb (at + headSize) (length s)) (ltb (pointsOf f) count)) (sym is) ∙ sym et
+
+  -- then it is refused
+  pub many-refused : t ≡ true → count ≤ maxPoints → (place : ℕ) → place ≡ countAt s → refusal 15 place ≡ firstOf (positionsTests s)
+  many-refused e few place there =
+      let p = both-true (leb (positionsAt s + headSize) (length s)) _ (tested ∙ e) in
+      ap (refusal 15) there
+      ∙ positions-many s [] (leb-true _ _ (p .0)) (many-tag (tagAt s (positionsAt s)) (countIn s) (omega arith) (ltb-true _ _ (p .1))) (p .1)
+
+  -- and else its tests are those of any field of coded numbers
+  pub many-passed : t ≡ false → firstOf (positionsTests s) ≡ firstOf (codedTests s positions-tags (readPositions (tableOf form) count) 17 at)
+  many-passed e =
+      go (leb (positionsAt s + headSize) (length s)) refl
+      ∙ ap₂ (λ (p c : ℕ). firstOf (codedTests s positions-tags (readPositions (tableOf (formIn s)) c) 17 p)) (sym here) (sym counted)
+      ∙ ap (λ (f : Form). firstOf (codedTests s positions-tags (readPositions (tableOf f) count) 17 at)) (sym is)
+    where
+      go : (b : Bool) → leb (positionsAt s + headSize) (length s) ≡ b
+          → firstOf (positionsTests s) ≡ firstOf (codedTests s positions-tags (readPositions (tableOf (formIn s)) (countIn s)) 17 (positionsAt s))
+      go true q = positions-few s [] (ap (λ (b : Bool). both b (ltb (pointsOf (formIn s)) (countIn s))) (sym q) ∙ tested ∙ e)
+      go false q =
+          let cut : ltb (length s) (positionsAt s + headSize) ≡ true = lt-ltb (length s) (positionsAt s + headSize) (leb-false (positionsAt s + headSize) (length s) q) in
+          head-cut s positions-tags (positionsAt s) _ _ cut

@@ -1,0 +1,5 @@
+pub mod Fields
+pub mod Fronts
+pub mod Codings
+pub mod ReadPoints
+pub mod Writings

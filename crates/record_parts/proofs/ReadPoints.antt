@@ -1,0 +1,82 @@
+-- Laws of the points of a record as they are read: what each outcome leaves to be said.
+use mathlib.Core.Path.{_≡_, refl, sym, ap, ap₂, _∙_}
+use mathlib.Core.List.{List, _++_}
+use mathlib.Core.Option.{Option}
+use Prim.Native.Nat.{ℕ, _+_, _*_, _≤_}
+use native.Mathlib.Omega.{arith}
+use lib.ListN.{length}
+use Rattle.outputs.specs.Outputs.{over}
+use Rattle.refusals.specs.declared.Refusal.{Refusal}
+use Rattle.refusals.specs.Tests.{Test, firstOf}
+use Rattle.refusals.proofs.Tests.{first-append-none, first-append-some}
+use Rattle.position_format.specs.declared.Form.{Form}
+use Rattle.position_format.specs.Positions.{readPositions}
+use Rattle.position_format.specs.Tables.{tableOf}
+use Rattle.record_format.specs.Fields.{bodyAt, nextAt}
+use Rattle.record_format.specs.Reading.{positionsAt, ratiosAt, endAt, countIn, formIn, positionsIn, ratiosIn, listOf, positionsTests, ratiosTests}
+use Rattle.record_parts.specs.declared.coding.Part.{Part}
+use Rattle.record_parts.specs.declared.points.Points.{Points}
+use Rattle.record_parts.specs.Fields.{longestField, PartRead, CountFound, CodedRead, PointsRead}
+
+-- a part that is not refused: its tests refuse nothing
+part-clear : {tests : List Test} {s : List ℕ} {p : ℕ} {f : Refusal} {e : ℕ} → PartRead tests s p f e → f .number ≡ 0 → firstOf tests .number ≡ 0
+part-clear h z = sym (ap (λ (g : Refusal). g .number) (h .refuses)) ∙ z
+
+-- of refused points nothing else is said
+points-none : (k : ℕ → List ℕ → Option (List ℕ)) (s ts vs : List ℕ) (r : Points) (ps qs : List ℕ) (g : Refusal) → r .refusal ≡ g → (g .number ≡ 0 → ⊥)
+    → g ≡ firstOf (positionsTests s ++ ratiosTests k s) → PointsRead k s ts vs r ps qs
+points-none k s ts vs r ps qs g q d e =
+    let n : (r .refusal .number ≡ 0 → ⊥) = λ z. d (sym (ap (λ (x : Refusal). x .number) q) ∙ z) in
+    record {
+      refuses = q ∙ e;
+      form = λ z. absurd (n z);
+      from = λ z. absurd (n z);
+      next = λ z. absurd (n z);
+      inside = λ z. absurd (n z);
+      near = λ z. absurd (n z);
+      positions = λ z. absurd (n z);
+      ratios = λ z. absurd (n z);
+    }
+
+-- past a front with the count c, positions in the form o, and then ratios by the reading k
+module _ (k : ℕ → List ℕ → Option (List ℕ)) (s ts vs : List ℕ) {c place at : ℕ} (h : CountFound s c place at) (o : Form) (of : o ≡ formIn s)
+    (g : Part) (ps : List ℕ) (i : CodedRead (positionsTests s) (readPositions (tableOf o) c) s at g ts ps) where
+  pub points-positions : (r : Points) (qs : List ℕ) → r .refusal ≡ g .refusal → (g .refusal .number ≡ 0 → ⊥) → PointsRead k s ts vs r ps qs
+  points-positions r qs q d =
+      points-none k s ts vs r ps qs (g .refusal) q d
+      (i .part .refuses ∙ sym (first-append-some (positionsTests s) _ (λ z. d (ap (λ (x : Refusal). x .number) (i .part .refuses) ∙ z))))
+
+  module _ (good : g .refusal .number ≡ 0) where
+    pub ratios-at : g .end ≡ ratiosAt s
+    ratios-at = i .part .next good ∙ ap (nextAt s) (h .next)
+
+    pub ratios-inside : g .end ≤ length s
+    ratios-inside = omega (arith, i .part .next good, i .part .inside good)
+
+    pub ratios-near : g .end ≤ 4 * longestField
+    ratios-near = omega (arith, i .part .next good, i .part .near good, h .next, h .near)
+
+    past-positions : firstOf (positionsTests s ++ ratiosTests k s) ≡ firstOf (ratiosTests k s)
+    past-positions = first-append-none (positionsTests s) _ refl (part-clear (i .part) good)
+
+    module _ (l : Part) (qs : List ℕ) (j : CodedRead (ratiosTests k s) (k c) s (g .end) l vs qs) where
+      pub points-ratios : (r : Points) → r .refusal ≡ l .refusal → (l .refusal .number ≡ 0 → ⊥) → PointsRead k s ts vs r ps qs
+      points-ratios r q d = points-none k s ts vs r ps qs (l .refusal) q d (j .part .refuses ∙ sym past-positions)
+
+      pub points-found : l .refusal .number ≡ 0 → PointsRead k s ts vs (record { refusal = l .refusal; form = o; from = g .end; end = l .end }) ps qs
+      points-found whole =
+          let b = h .counted in
+          let e : l .end ≡ endAt s = j .part .next whole ∙ ap (nextAt s) ratios-at in
+          record {
+            refuses = j .part .refuses ∙ sym past-positions;
+            form = λ _. of;
+            from = λ _. ratios-at;
+            next = λ _. e;
+            inside = λ _. omega (arith, e, j .part .next whole, j .part .inside whole);
+            near = λ _. omega (arith, e, j .part .next whole, j .part .near whole, ratios-near);
+            positions = λ _.
+                i .filled good
+                ∙ ap₂ (λ (n q : ℕ). over (listOf (readPositions (tableOf o) n (bodyAt s q))) ts) b (h .next)
+                ∙ ap (λ (x : Form). over (listOf (readPositions (tableOf x) (countIn s) (bodyAt s (positionsAt s)))) ts) of;
+            ratios = λ _. j .filled whole ∙ ap₂ (λ (n q : ℕ). over (listOf (k n (bodyAt s q))) vs) b ratios-at;
+          }

@@ -1,0 +1,26 @@
+-- `put_head` meets its contract: the tag, and then the length.
+use mathlib.Core.Path.{_∙_}
+use borrow.Author.Needs.{needs}
+use lib.ListN.{length-set}
+use Rattle.bits.specs.Digits.{bytesOf}
+use Rattle.record_parts.proofs.Writings.{head-on}
+use Rattle.record_parts.proofs.putting.put_head.Statement.{statement}
+use Rattle.record_parts.proofs.putting.put_head.Tie as tie
+
+slice-write-out : tie.Need-slice-write-out
+slice-write-out c = search needs
+
+put-bytes-requires : tie.Need-put-bytes-requires
+put-bytes-requires c κs = search needs
+
+same-length : tie.Need-same-length
+same-length c = c .before .before .put-bytes .kept .0 ∙ simp length-set
+
+returns : tie.Need-returns
+returns c =
+    let written = c .before .before in
+    let k = written .before .before .before in
+    c .before .before .put-bytes .ensures ∙ head-on (k .args .out .now) (bytesOf 2 (k .args .n)) (k .args .tag) (k .pre)
+
+pub put-head-spec : {M : Type 1} → statement M
+put-head-spec = tie.close (tie.spec slice-write-out put-bytes-requires same-length returns)

@@ -1,0 +1,65 @@
+// The points of a record: the fields of the positions and of the ratios, past its front.
+ghost use mathlib.Core.Path.{_≡_};
+ghost use Prim.Native.Nat.{_≤_};
+ghost use lib.ListN.{length};
+ghost use Rattle.record_parts.specs.Fields.{ratiosBy, CountFound, PointsRead};
+use super::coding::form_at;
+use super::coding::read_positions;
+use super::coding::read_ratios;
+use position_format::Form;
+use refusals::Refusal;
+
+// Positions and ratios: their refusal, or the form of the positions, the offset of the ratios' field, and the offset past it.
+pub struct Points {
+    pub refusal: Refusal,
+    pub form: Form,
+    pub from: usize,
+    pub end: usize,
+}
+
+// No points: a refusal of the positions or of the ratios.
+fn no_points(refusal: Refusal) -> Points
+    ensures { λ r. ⌜ r .refusal ≡ refusal ⌝ }
+{
+    Points {
+        refusal,
+        form: Form::Old,
+        from: 0,
+        end: 0,
+    }
+}
+
+// The points past a front, at the front of the outputs, which have room for the count; the ratios by the open rule or strictly. The count's field
+// stands at `place`, the positions' at `at`.
+pub fn read_points(
+    openly: bool,
+    input: &[u8],
+    count: usize,
+    place: usize,
+    at: usize,
+    positions: &mut [u64],
+    ratios: &mut [u64],
+) -> Points
+    requires { ⌜ CountFound (now input) count place at × (count ≤ length (now positions)) × (count ≤ length (now ratios)) ⌝ }
+    ensures { λ r. ⌜ PointsRead (ratiosBy openly) (now (input .entry)) (now (positions .entry)) (now (ratios .entry)) r (now (positions .exit)) (now (ratios .exit)) ⌝ }
+{
+    let form = form_at(input, at);
+    let points = read_positions(form, input, at, place, count, positions);
+    let positions_refused = points.refusal;
+    let positions_number = positions_refused.number;
+    if positions_number != 0 {
+        return no_points(positions_refused);
+    }
+    let values = read_ratios(openly, input, points.end, count, ratios);
+    let ratios_refused = values.refusal;
+    let ratios_number = ratios_refused.number;
+    if ratios_number != 0 {
+        return no_points(ratios_refused);
+    }
+    Points {
+        refusal: ratios_refused,
+        form,
+        from: points.end,
+        end: values.end,
+    }
+}

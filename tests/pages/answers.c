@@ -3,6 +3,7 @@
    reading RATE ROOM ROOM BYTE..   strict and open reading, a line each, `10 at 0`, `taken` or `taken, side 4, wide form`, with this
                                    rate expected and room for so many positions and ratios
    writing RATE SIDE FORM NUMBER NUMBER ROOM   the record of so many positions and ratios, all 0, with room for so many bytes, or the refusal
+   moving FORM ROOM BYTE..         a move to this form, with room for so many bytes: the bytes used, and the record or the refusal, a tab between
    longest SIDE FORM               a longest record of this side and form, as it stands
    bounds                          of sides, points and records, as the header has them
    forms                           the numbers of the old and of the wide form, as the header has them
@@ -190,6 +191,32 @@ static void writing(uint32_t rate, uint32_t side, uint32_t form, size_t position
     }
 }
 
+static void moving(uint32_t form, size_t room)
+{
+    farigolenc_move_answer moved;
+    size_t i;
+    if (room > sizeof body) {
+        exit(2);
+    }
+    memset(body, 0xA5, sizeof body);
+    moved = (form == FARIGOLENC_WIDE ? farigolenc_to_wide : farigolenc_to_old)(bytes, length, body, room);
+    printf("%" PRIu64 "\t", moved.used);
+    if (moved.number == 0) {
+        print_bytes(body, (size_t)moved.length);
+    } else {
+        printf("refused %" PRIu32 " at %" PRIu32 "\n", moved.number, moved.place);
+    }
+    if (moved.number == 0 ? moved.place != 0 : moved.length != 0) {
+        printf("and a wrong place or length\n");
+    }
+    for (i = moved.number == 0 ? (size_t)moved.length : 0; i < sizeof body; i++) {
+        if (body[i] != (moved.number != 0 && i < room ? 0 : 0xA5)) {
+            printf("and a wrong byte at %zu\n", i);
+            return;
+        }
+    }
+}
+
 /* Each step is in the form's last row. Each ratio is an exception: it has eight times the same byte, which comes back after 200 ratios. */
 static void longest(uint32_t side, uint32_t form)
 {
@@ -346,6 +373,7 @@ static farigolenc_write_answer (*const write_call)(
     lent_rate, lent_side, lent_form, const lent_point *, size_t, const lent_point *, size_t, uint8_t *, size_t) = farigolenc_write;
 static farigolenc_read_answer (*const read_calls[2])(
     lent_rate, const uint8_t *, size_t, lent_point *, size_t, lent_point *, size_t) = {farigolenc_read_strict, farigolenc_read_open};
+static farigolenc_move_answer (*const move_calls[2])(const uint8_t *, size_t, uint8_t *, size_t) = {farigolenc_to_wide, farigolenc_to_old};
 static farigolenc_span_answer (*const span_call)(lent_rate, const lent_point *, size_t) = farigolenc_span;
 static farigolenc_write_answer (*const add_call)(farigolenc_live *, lent_point, uint8_t *, size_t) = farigolenc_live_add;
 static farigolenc_cursor_answer (*const making_call)(lent_count) = farigolenc_cursor_new;
@@ -368,12 +396,13 @@ static void widths(void)
     farigolenc_explain_answer why;
     farigolenc_write_answer written;
     farigolenc_read_answer read;
+    farigolenc_move_answer moved;
     farigolenc_span_answer span;
     farigolenc_cursor_answer made;
     farigolenc_step_answer stepped;
     farigolenc_live state;
     farigolenc_cursor cursor;
-    if (!write_call || !read_calls[0] || !read_calls[1] || !span_call || !add_call || !making_call || !explain_call) {
+    if (!write_call || !read_calls[0] || !read_calls[1] || !move_calls[0] || !move_calls[1] || !span_call || !add_call || !making_call || !explain_call) {
         exit(2);
     }
     SAME(rate, side);
@@ -383,6 +412,8 @@ static void widths(void)
     SAME(read.number, read.place);
     SAME(read.number, written.number);
     SAME(read.number, written.place);
+    SAME(read.number, moved.number);
+    SAME(read.number, moved.place);
     SAME(read.number, span.number);
     SAME(read.number, span.place);
     SAME(read.number, made.number);
@@ -396,7 +427,9 @@ static void widths(void)
     SAME(read.rate, read.count);
     SAME(read.rate, read.form);
     WIDTH(read.rate);
+    SAME(written.length, moved.length);
     WIDTH(written.length);
+    SAME(read.used, moved.used);
     WIDTH(read.used);
     WIDTH(span.milliseconds);
     WIDTH(count);
@@ -430,6 +463,9 @@ int main(int count, char **words)
     } else if (strcmp(mode, "writing") == 0 && count == 8) {
         writing((uint32_t)decimal(words[2]), (uint32_t)decimal(words[3]), (uint32_t)decimal(words[4]), (size_t)decimal(words[5]), (size_t)decimal(words[6]),
                 (size_t)decimal(words[7]));
+    } else if (strcmp(mode, "moving") == 0 && count > 4) {
+        length = take_bytes(words + 4, bytes);
+        moving((uint32_t)decimal(words[2]), (size_t)decimal(words[3]));
     } else if (strcmp(mode, "longest") == 0 && count == 4) {
         longest((uint32_t)decimal(words[2]), (uint32_t)decimal(words[3]));
     } else if (strcmp(mode, "bounds") == 0) {

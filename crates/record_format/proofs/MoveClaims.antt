@@ -27,12 +27,12 @@ use Rattle.record_format.specs.Fields.{headSize, tagAt}
 use Rattle.record_format.specs.Runs.{Run, positionsTag, formOf, recordOf}
 use Rattle.record_format.specs.Reading.{Answer, refusalAnswer, recordAnswer, answerBy, readTests, readStrict, readWith, positionsAt, rateIn, sideIn, countIn, frontTests}
 use Rattle.record_format.specs.Moves.{Move, otherForm, inForm, runIn, sourceTests, targetTests, moveTests, refusedMove, recordMove, moveOf}
-use Rattle.record_format.specs.Claims.{Accepted, Bytes, ownTests, runAnswer}
+use Rattle.record_format.specs.Claims.{Accepted, Bytes, Beginning, ownTests, runAnswer}
 use Rattle.record_format.specs.MoveClaims.{notMoved, movedTo, ByRoom, ToWide, Held, ToOld, FormThere, StrictFirst, MovesOnly, MovesBack, ReadsAlike, MovesWhole}
 use Rattle.record_format.proofs.Reading.{refusal, front-numbered}
 use Rattle.record_format.proofs.ReadsOnly.{FrontSound, front-clear, front-splits, clear-begins}
 use Rattle.record_format.proofs.Sides.{side-follows}
-use Rattle.record_format.proofs.Moves.{other-other, headOf, source-form, source-strict, target-numbered, runMoveTests, source-refused, move-clear, moved-fits, fits-target, ownMove, own-run, own-move, own-target, own-room, own-done, own-form}
+use Rattle.record_format.proofs.Moves.{other-other, headOf, source-form, source-strict, target-numbered, runMoveTests, source-refused, move-done, move-clear, move-short, moved-fits, fits-target, ownMove, own-run, own-move, own-target, own-room, own-done, own-form}
 use Rattle.record_format.proofs.Claims.{refused-reading, reads-back}
 use Rattle.record_format.proofs.Writing.{Fitting, accepted-fits, fitting-accepted}
 
@@ -54,7 +54,7 @@ module _ (f : Form) (r : Run) (a : Accepted r) (other : r .form ≡ otherForm f)
     there : Accepted (inForm f r)
     there = record { words = a .words; passes = fitting-accepted (inForm f r) (moved-fits f r fit clear) }
 
-    by-room : ByRoom f r (inForm f r) rest o
+    pub by-room : ByRoom f r (inForm f r) rest o
     by-room = (λ h. moves ∙ own-room f r o clear h, λ h. moves ∙ own-done f r o clear h)
 
 pub to-wide : ToWide
@@ -235,3 +235,32 @@ moves-whole f s o d = go (eqb (firstOf (moveTests f s o) .number) 0) refl
     go : (b : Bool) → eqb (firstOf (moveTests f s o) .number) 0 ≡ b → moveOf f s o ≡ notMoved (moveOf f s o .answer .number) (moveOf f s o .answer .place) o
     go true e = absurd (d (rw e))
     go false e = rw e
+
+-- ---- bytes that are refused by 6
+
+-- they begin with a run's record, which has no room in the form moved to
+pub short-only : (f : Form) (s o : List ℕ) → Bytes s → moveOf f s o .answer .number ≡ 6
+    → (r : Run) × Accepted r × (r .form ≡ otherForm f) × Beginning (recordOf r) s × Accepted (inForm f r) × (length o < length (recordOf (inForm f r)))
+short-only f s o bytes e =
+    let h = move-short f s o e in
+    let large = recordOf (inForm f (runIn s)) in
+    let c = move-done f s large (h .0) (h .1) (omega arith) in
+    let m = moves-only f s large bytes (sym (ap (λ (x : Move). x .answer .number) c)) in
+    let is : length (recordOf (inForm f (m .0))) ≡ length large = sym (ap (λ (x : Move). x .answer .length) (c ∙ m .6)) in
+    (m .0, m .1, m .2, m .3, m .4, omega (arith, h .2, is))
+
+-- ---- what is written lies within the output
+
+pub moved-within : (f : Form) (s o : List ℕ) → moveOf f s o .answer .length ≤ length o
+moved-within f s o = go (moveOf f s o .answer .number) refl
+  where
+    go : (n : ℕ) → moveOf f s o .answer .number ≡ n → moveOf f s o .answer .length ≤ length o
+    go zero e =
+        let c = first-append-clear (targetTests f (runIn s .positions)) (test (ltb (length o) (length (recordOf (inForm f (runIn s))))) 6 0 ∷ [])
+        (target-numbered f (runIn s .positions)) (move-clear f s o e .1) in
+        let room = ltb-false (length o) (length (recordOf (inForm f (runIn s)))) (first-clear (test (ltb (length o) (length (recordOf (inForm f (runIn s))))) 6 0) [] (lit< tt) (c .1) .0) in
+        subst (λ (m : Move). m .answer .length ≤ length o) (move-done f s o (move-clear f s o e .0) (c .0) room) room
+    go (suc n) e =
+        let q = moves-whole f s o (λ z. omega arith) in
+        let none : moveOf f s o .answer .length ≡ 0 = ap (λ (m : Move). m .answer .length) q in
+        omega arith

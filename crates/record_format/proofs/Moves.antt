@@ -17,7 +17,7 @@ use Rattle.lists.specs.Lists.{member}
 use Rattle.limits.specs.Points.{maxPoints, firstHigh}
 use Rattle.refusals.specs.declared.Refusal.{Refusal}
 use Rattle.refusals.specs.Tests.{Test, test, firstOf, refused}
-use Rattle.refusals.proofs.Tests.{numbered, first-here, first-skip, first-end, first-clear, first-append-none, first-append-some, first-append-clear, numbered-append}
+use Rattle.refusals.proofs.Tests.{numbered, first-here, first-skip, first-end, first-clear, first-append-none, first-append-some, first-append-clear, numbered-append, without, first-without, without-append}
 use Rattle.outputs.specs.Outputs.{over}
 use Rattle.position_format.specs.declared.Form.{Form}
 use Rattle.position_format.specs.declared.Form.the-variants.{Old, Wide}
@@ -35,7 +35,7 @@ use Rattle.record_format.specs.Claims.{positionsPlace}
 use Rattle.record_format.specs.MoveClaims.{notMoved, movedTo, FormFirst}
 use Rattle.record_format.proofs.Fields.{length-laid, laid-append, laid-one}
 use Rattle.record_format.proofs.Fronts.{count-at, positions-at, front-pass, input, front-all, input-length, tag-there}
-use Rattle.record_format.proofs.Reading.{refusal, front-numbered}
+use Rattle.record_format.proofs.Reading.{refusal, front-numbered, front-roomless}
 use Rattle.record_format.proofs.ReadsBack.{positions-stand, ratios-stand, at-end, counted, run-is, only-own}
 use Rattle.record_format.proofs.ReadsOnly.{front-clear, clear-begins}
 use Rattle.record_format.proofs.Writing.{Fitting, fitting-few, steps-valid, valid-steps}
@@ -136,6 +136,14 @@ pub target-numbered : (f : Form) (ts : List ℕ) → numbered (targetTests f ts)
 target-numbered Old ts = refl
 target-numbered Wide ts = refl
 
+-- none but the last has the number 6
+source-roomless : (f : Form) (s : List ℕ) → without 6 (sourceTests f s) ≡ true
+source-roomless f s = without-append 6 (frontTests 0 s) _ (front-roomless 0 s) refl
+
+target-roomless : (f : Form) (ts : List ℕ) → without 6 (targetTests f ts) ≡ true
+target-roomless Old ts = refl
+target-roomless Wide ts = refl
+
 -- the tests past those of the record, of a run r
 abbrev pub runMoveTests : Form → Run → List ℕ → List Test
 runMoveTests f r o = targetTests f (r .positions) ++ (test (ltb (length o) (length (recordOf (inForm f r)))) 6 0 ∷ [])
@@ -178,6 +186,33 @@ move-clear f s o e = first-append-clear (sourceTests f s) _ (source-numbered f s
     go : (n : ℕ) → firstOf (moveTests f s o) .number ≡ n → cond (not (eqb n 0)) (refusedMove (firstOf (moveTests f s o)) o) (recordMove f s o) .answer .number ≡ 0 → firstOf (moveTests f s o) .number ≡ 0
     go zero q h = q
     go (suc n) q h = rw (eqb·suc-zero n) at h
+
+-- a move that is refused by 6 finds too little room, and nothing else
+pub move-short : (f : Form) (s o : List ℕ) → moveOf f s o .answer .number ≡ 6
+    → (firstOf (sourceTests f s) .number ≡ 0) × (firstOf (targetTests f (runIn s .positions)) .number ≡ 0) × (length o < length (recordOf (inForm f (runIn s))))
+move-short f s o e = go (firstOf (sourceTests f s) .number) refl
+  where
+    by-target : firstOf (sourceTests f s) .number ≡ 0 → (n : ℕ) → firstOf (targetTests f (runIn s .positions)) .number ≡ n
+        → (firstOf (sourceTests f s) .number ≡ 0) × (firstOf (targetTests f (runIn s .positions)) .number ≡ 0) × (length o < length (recordOf (inForm f (runIn s))))
+    by-target clear zero q = (clear, q, by-room (leb (length (recordOf (inForm f (runIn s)))) (length o)) refl)
+      where
+        by-room : (b : Bool) → leb (length (recordOf (inForm f (runIn s)))) (length o) ≡ b → length o < length (recordOf (inForm f (runIn s)))
+        by-room true h = absurd (let z : _≡_ {A = ℕ} 0 6 = ap (λ (m : Move). m .answer .number) (move-done f s o clear q (leb-true _ _ h)) ∙ e in omega arith)
+        by-room false h = leb-false _ _ h
+    by-target clear (suc n) q =
+        absurd
+        (let d : (firstOf (targetTests f (runIn s .positions)) .number ≡ 0 → ⊥) = λ z. omega arith in
+        first-without 6 (lit< tt) (targetTests f (runIn s .positions)) (target-roomless f (runIn s .positions))
+        (ap (λ (m : Move). m .answer .number) (target-refused f s o clear (firstOf (targetTests f (runIn s .positions))) refl d) ∙ e))
+
+    go : (n : ℕ) → firstOf (sourceTests f s) .number ≡ n
+        → (firstOf (sourceTests f s) .number ≡ 0) × (firstOf (targetTests f (runIn s .positions)) .number ≡ 0) × (length o < length (recordOf (inForm f (runIn s))))
+    go zero q = by-target q (firstOf (targetTests f (runIn s .positions)) .number) refl
+    go (suc n) q =
+        absurd
+        (let d : (firstOf (sourceTests f s) .number ≡ 0 → ⊥) = λ z. omega arith in
+        first-without 6 (lit< tt) (sourceTests f s) (source-roomless f s)
+        (ap (λ (m : Move). m .answer .number) (source-refused f s o (firstOf (sourceTests f s)) refl d) ∙ e))
 
 -- ---- the run in the other form
 

@@ -17,7 +17,7 @@ use Rattle.limits.specs.Points.{maxPoints}
 use Rattle.limits.specs.Sides.{isSide}
 use Rattle.refusals.specs.declared.Refusal.{Refusal}
 use Rattle.refusals.specs.Tests.{Test, test, firstOf, refused}
-use Rattle.refusals.proofs.Tests.{numbered, first-here, first-skip, first-clear, first-end}
+use Rattle.refusals.proofs.Tests.{numbered, without, first-here, first-skip, first-clear, first-end}
 use Rattle.position_format.specs.declared.Form.the-variants.{Old, Wide}
 use Rattle.position_format.specs.Tables.{pointsOf}
 use Rattle.record_format.specs.Fields.{Field, fieldOf, headSize, fieldBytes, tagAt, lengthAt, bodyAt, nextAt, headTests, lengthTests, bodyTests, fieldTests}
@@ -224,6 +224,14 @@ pub front-numbered : (e : ℕ) (s : List ℕ) → numbered (frontTests e s) ≡ 
 front-numbered e s = go (hasSide s)
   where
     go : (b : Bool) → numbered (rateTests e s ++ (side-of s b ++ countTests s)) ≡ true
+    go true = refl
+    go false = refl
+
+-- nor that of a test of room for bytes
+pub front-roomless : (e : ℕ) (s : List ℕ) → without 6 (frontTests e s) ≡ true
+front-roomless e s = go (hasSide s)
+  where
+    go : (b : Bool) → without 6 (rateTests e s ++ (side-of s b ++ countTests s)) ≡ true
     go true = refl
     go false = refl
 

@@ -1,11 +1,11 @@
 -- Laws of a call's tests: the refusal that the first of them gives, by one test and by two lists of tests.
-use mathlib.Core.Bool.{Bool, true, false, cond}
+use mathlib.Core.Bool.{Bool, true, false, not, cond, false≢true}
 use mathlib.Core.List.{List, [], _∷_, _++_}
 use mathlib.Core.Path.{_≡_, refl, sym, ap, ap₂, _∙_}
-use Prim.Native.Nat.{_<_}
+use Prim.Native.Nat.{ℕ, _<_}
 use native.Mathlib.Omega.{arith}
-use borrow.Author.Tests.{ltb-true}
-use lib.Dec.{ltb}
+use borrow.Author.Tests.{ltb-true, eq-eqb}
+use lib.Dec.{ltb, eqb}
 use Rattle.refusals.specs.declared.Refusal.{Refusal}
 use Rattle.refusals.specs.Tests.{Test, noRefusal, firstOf}
 use Rattle.lists.proofs.Lists.{every, every-cons}
@@ -82,3 +82,25 @@ numbered-append [] ts m n = n
 numbered-append (s ∷ ss) ts m n =
     let h = every-cons (λ (t : Test). ltb 0 (t .number)) s ss m in
     ap₂ (λ (a b : Bool). cond a b false) (h .0) (numbered-append ss ts (h .1) n)
+
+-- ---- numbers that no test has
+
+-- no test has the number n: of tests with literal numbers, by refl
+abbrev pub without : ℕ → List Test → Bool
+without n ts = every (λ t. not (eqb (t .number) n)) ts
+
+pub first-without : (n : ℕ) → 0 < n → (ts : List Test) → without n ts ≡ true → firstOf ts .number ≡ n → ⊥
+first-without n some [] w e = let z : firstOf [] .number ≡ 0 = ap (λ (r : Refusal). r .number) first-end in omega arith
+first-without n some (t ∷ ts) w e =
+    let h = every-cons (λ (t : Test). not (eqb (t .number) n)) t ts w in
+    go (t .applies) refl (h .0) (first-without n some ts (h .1))
+  where
+    go : (b : Bool) → t .applies ≡ b → not (eqb (t .number) n) ≡ true → (firstOf ts .number ≡ n → ⊥) → ⊥
+    go true q h f = false≢true (sym (ap not (eq-eqb (t .number) n (sym (ap (λ (r : Refusal). r .number) (first-here t ts q)) ∙ e))) ∙ h)
+    go false q h f = f (sym (ap (λ (r : Refusal). r .number) (first-skip t ts q)) ∙ e)
+
+pub without-append : (n : ℕ) (ss ts : List Test) → without n ss ≡ true → without n ts ≡ true → without n (ss ++ ts) ≡ true
+without-append n [] ts a b = b
+without-append n (s ∷ ss) ts a b =
+    let h = every-cons (λ (t : Test). not (eqb (t .number) n)) s ss a in
+    ap₂ (λ (x y : Bool). cond x y false) (h .0) (without-append n ss ts (h .1) b)

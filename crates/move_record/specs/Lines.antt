@@ -1,0 +1,32 @@
+-- Document 02, No. 5: the line that the program prints, as ASCII codes. Single spaces; it ends in one newline.
+--   lineLimit          how many bytes it has at most: 53, in a refusal
+--   movedWord, toWord  its fixed parts
+--   movedLine u n      `moved 1234 to 1240`: the bytes used of the record read, and the length of the one written
+--   answerLine a       the line for the answer a of a move; that of a refusal is the listing's
+use mathlib.Core.Bool.{cond}
+use mathlib.Core.List.{List, [], _∷_, _++_}
+use Prim.Native.Nat.{ℕ}
+use lib.Dec.{eqb}
+use Rattle.record_format.specs.declared.MoveAnswer.{MoveAnswer}
+use Rattle.text.specs.Lines.{newline, refusedLine}
+use Rattle.text.specs.Numbers.{decimal}
+
+-- 8, 20, 4, 20 and 1
+abbrev pub lineLimit : ℕ
+lineLimit = 53
+
+-- "moved "
+abbrev pub movedWord : List ℕ
+movedWord = 109 ∷ 111 ∷ 118 ∷ 101 ∷ 100 ∷ 32 ∷ []
+
+-- " to "
+abbrev pub toWord : List ℕ
+toWord = 32 ∷ 116 ∷ 111 ∷ 32 ∷ []
+
+-- the line of a move
+unfoldable pub movedLine : ℕ → ℕ → List ℕ
+movedLine u n = movedWord ++ (decimal u ++ (toWord ++ (decimal n ++ newline)))
+
+-- by the number
+unfoldable pub answerLine : MoveAnswer → List ℕ
+answerLine a = cond (eqb (a .number) 0) (movedLine (a .used) (a .length)) (refusedLine (a .number) (a .place))

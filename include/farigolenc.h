@@ -154,9 +154,9 @@ farigolenc_read_answer farigolenc_read_open(
  * record that would be written.
  *
  * That one may be longer than the one read; FARIGOLENC_RECORD bytes are always room
- * enough. On a refusal the output is 0 from end to end, also where a part of the record was
- * written already. The run is kept on the stack meanwhile: a move takes about 80 KiB
- * of it. */
+ * enough. On a refusal the output is 0 from end to end, also where a part of the
+ * record was written already. The run is kept on the stack meanwhile: a move takes
+ * about 68 KiB of it, and of a run of up to 64 points less than 4 KiB. */
 typedef struct {
     uint32_t number, place;
     uint64_t length; /* bytes written */

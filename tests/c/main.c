@@ -519,7 +519,7 @@ static void check_there_and_back(const uint8_t *const records[2], const size_t l
     }
 }
 
-/* Refusals by the side, and those whose places a side moves. */
+/* Refusals by the side, and those whose places a side shifts. */
 static void check_side_refusals(void)
 {
     const uint64_t sound[3] = {0, 10, 20};

@@ -1200,7 +1200,7 @@ impl Test {
     }
 
     /// Prints how often each call returned each number, reading and moving each side and the places
-    /// that a side moves, reading each form, moving no bytes more, some and the most, and explain
+    /// that a side shifts, reading each form, moving no bytes more, some and the most, and explain
     /// each reason, places at the window's ends, and each sum; each must have come up. The place of
     /// 18 depends on the positions too, so that 18 itself is counted, without a side (0) and with
     /// one (1).

@@ -1,4 +1,4 @@
--- Document 01, "Bytes to compare", the listing, with the limit of document 02, No. 3: how a program reads a record. Every program reads so.
+-- Document 01, "Bytes to compare", the listing, with the limit of document 02, No. 3: how a program reads a record. Every program reads as far.
 --   inputLimit      how many bytes a program reads at most
 --   blank           an output with room for every run, all 0
 --   readInput s     the reading of the input s: at most inputLimit bytes of it, strictly, with no rate expected

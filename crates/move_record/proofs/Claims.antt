@@ -3,6 +3,8 @@ use mathlib.Core.Path.{_≡_, refl, sym, ap, ap₂, _∙_}
 use mathlib.Core.List.{List, _++_, append-assoc}
 use Prim.Native.Nat.{ℕ, _-_, _≤_}
 use native.Mathlib.Omega.{arith}
+use borrow.Author.Tests.{ne-eqb}
+use lib.Dec.{eqb}
 use lib.ListN.{length, take, drop, length-replicate, take-append-drop}
 use lib.Seq.{take-at}
 use Rattle.lists.proofs.Below.{below-take}
@@ -42,6 +44,7 @@ pub moves-file : MovesFile
 moves-file f r a e b rest =
     let m = moved f r a e b rest in
     let q = recordOf (inForm f r) in (
+      ap (λ (x : Move). eqb (x .answer .number) 0) m,
       ap (λ (x : Move). take (x .answer .length) (x .output)) m ∙ take-at q (drop (length q) blankRecord) (length q) refl,
       sym (line-moved (moveInput f (recordOf r ++ rest) .answer) (ap (λ (x : Move). x .answer .number) m))
           ∙ ap₂ movedLine (ap (λ (x : Move). x .answer .used) m) (ap (λ (x : Move). x .answer .length) m),
@@ -59,6 +62,7 @@ refuses-file f s bytes never =
     let no : (moveOf f l blankRecord .answer .number ≡ 0 → ⊥) = λ e. (let m = moves-only f l blankRecord low e in never (m .0) (m .1) (m .2) (m .4) (from-cut (m .0) s (m .3))) in (
       no,
       λ e. (let m = short-only f l blankRecord low e in let room = roomy (inForm f (m .0)) (m .4) in let short = m .5 in omega arith),
+      ne-eqb (moveInput f s .answer .number) 0 no,
       ap (λ (x : Move). take (x .answer .length) (moveInput f s .output)) (moves-whole f l blankRecord no),
       sym (line-refused (moveInput f s .answer) no),
     )

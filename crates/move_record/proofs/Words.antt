@@ -1,6 +1,6 @@
 -- Laws of two texts that are compared byte by byte, and of the words that name a form.
-use mathlib.Core.Path.{_≡_, refl, sym, ap, ap₂, _∙_}
-use mathlib.Core.Bool.{Bool, true, false, cond}
+use mathlib.Core.Path.{_≡_, sym, ap, ap₂, _∙_}
+use mathlib.Core.Bool.{Bool, true, false}
 use mathlib.Core.List.{List, [], _∷_}
 use Prim.Native.Nat.{ℕ, _+_, _≤_, _<_}
 use native.Mathlib.Nat.{add-zero}
@@ -10,7 +10,7 @@ use borrow.Author.Tests.{eq-eqb}
 use lib.Dec.{eqb}
 use lib.ListN.{length, getD, drop}
 use lib.Seq.{drop-cons, drop-length, getD-drop}
-use Rattle.lists.specs.Compare.{both, same}
+use Rattle.lists.specs.Compare.{same}
 use Rattle.lists.proofs.Compare.{same-own, same-not}
 use Rattle.position_format.specs.declared.Form.the-variants.{Old, Wide}
 use Rattle.move_record.specs.declared.Word.{Word}

@@ -1,5 +1,5 @@
 -- Document 02, No. 5: the line that the program prints, as ASCII codes. Single spaces; it ends in one newline.
---   lineLimit          how many bytes it has at most: 53, in a refusal
+--   lineLimit          room for every line: 53 bytes
 --   movedWord, toWord  its fixed parts
 --   movedLine u n      `moved 1234 to 1240`: the bytes used of the record read, and the length of the one written
 --   answerLine a       the line for the answer a of a move; that of a refusal is the listing's
@@ -11,7 +11,7 @@ use Rattle.record_format.specs.declared.MoveAnswer.{MoveAnswer}
 use Rattle.text.specs.Lines.{newline, refusedLine}
 use Rattle.text.specs.Numbers.{decimal}
 
--- 8, 20, 4, 20 and 1
+-- the words of a refusal, 8 and 4, two numbers of up to 20 digits, and the line's end
 abbrev pub lineLimit : ℕ
 lineLimit = 53
 

@@ -1,7 +1,7 @@
 -- Document 02, No. 5: what the program prints and writes, given the form and a file's bytes.
 --   blankRecord     an output with room for every record, all 0
 --   moveInput f s   the move of the input s to the form f: at most inputLimit bytes of it, into such an output
---   moves f s       whether there is a file to be made
+--   isMoved f s     whether there is a file to be made
 --   printed f s     the line, which goes out where no file is to be made or once it stands
 --   written f s     the bytes of the file
 --   Told ..         what the function that does all but read, write and print leaves: these four, in its answer and its outputs
@@ -28,8 +28,8 @@ abbrev pub moveInput : Form → List ℕ → Move
 moveInput f s = moveOf f (take inputLimit s) blankRecord
 
 -- no refusal
-abbrev pub moves : Form → List ℕ → Bool
-moves f s = eqb (moveInput f s .answer .number) 0
+abbrev pub isMoved : Form → List ℕ → Bool
+isMoved f s = eqb (moveInput f s .answer .number) 0
 
 -- one line in any case
 abbrev pub printed : Form → List ℕ → List ℕ
@@ -41,7 +41,7 @@ written f s = take (moveInput f s .answer .length) (moveInput f s .output)
 
 -- the record at the front of the output o, and the line at that of l, which is now p
 pub record Told (f : Form) (s : List ℕ) (r : Outcome) (o l p : List ℕ) : Type 0 where
-  pub moved : r .moved ≡ moves f s
+  pub moved : r .moved ≡ isMoved f s
   pub room : r .size ≤ length o
   pub bytes : take (r .size) o ≡ written f s
   pub line : PlacedAt lineLimit (printed f s) 0 (r .line) l p

@@ -19,7 +19,7 @@ use record_format::MoveAnswer;
 // As many bytes as the longest record has.
 const RECORD: usize = 61709;
 
-// As many bytes as the longest line has, that of a refusal.
+// Room for every line: two words, two numbers of up to 20 digits, and the line's end.
 const LINE: usize = 53;
 
 // What the first argument names: a form, or none.
@@ -80,7 +80,7 @@ fn form_named(word: &[u8]) -> Word
 }
 
 // The line of a move.
-fn put_moved(out: &mut [u8], used: u64, wrote: u64) -> usize
+fn put_moved_line(out: &mut [u8], used: u64, wrote: u64) -> usize
     requires { ⌜ lineLimit ≤ length (now out) ⌝ }
     ensures { λ r. ⌜ PlacedAt lineLimit (movedLine used wrote) 0 r (now (out .entry)) (now (out .exit)) ⌝ }
 {
@@ -98,7 +98,7 @@ fn put_answer(out: &mut [u8], answer: MoveAnswer) -> usize
     if number != 0 {
         return text::put_refused(out, 0, number, answer.place);
     }
-    put_moved(out, answer.used, answer.length)
+    put_moved_line(out, answer.used, answer.length)
 }
 
 // The move to a form.
@@ -126,10 +126,14 @@ fn move_input(form: Form, input: &[u8], out: &mut [u8], line: &mut [u8]) -> Outc
     }
 }
 
-// Makes the file that the third argument names.
+// Makes the file that the third argument names. One that is longer than a name may be is left out by `arg`, which notes so.
 fn save(bytes: &[u8]) -> bool {
     let mut path = io::buffer();
     let n = os::arg(3, &mut path);
+    if os::errno() != 0 {
+        os::fail(b"the name of the new file");
+        return false;
+    }
     files::save_new(&path[..n], bytes)
 }
 

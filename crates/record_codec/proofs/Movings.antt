@@ -8,7 +8,7 @@ use lib.ListN.{length, take, drop, replicate}
 use lib.Seq.{take-at}
 use Rattle.lists.specs.Below.{Below}
 use Rattle.limits.specs.Points.{maxPoints, firstHigh}
-use Rattle.outputs.specs.Outputs.{over, Placed}
+use Rattle.outputs.specs.Outputs.{Placed}
 use Rattle.outputs.specs.declared.Wrote.{Wrote}
 use Rattle.outputs.specs.declared.Wrote.the-variants.{Done, NoRoom}
 use Rattle.refusals.specs.declared.Refusal.{Refusal}
@@ -19,7 +19,7 @@ use Rattle.position_format.specs.Tables.{tableOf}
 use Rattle.position_format.proofs.Valid.{valid-parts}
 use Rattle.ratio_format.specs.Bodies.{strictRatios}
 use Rattle.record_format.specs.Fields.{laid}
-use Rattle.record_format.specs.Runs.{Run, recordOf}
+use Rattle.record_format.specs.Runs.{recordOf}
 use Rattle.record_format.specs.Reading.{countIn, rateIn, sideIn, frontTests}
 use Rattle.record_format.specs.Moves.{Move, inForm, runIn, sourceTests, targetTests, refusedMove, moveOf}
 use Rattle.record_format.specs.declared.MoveAnswer.{MoveAnswer}
@@ -32,7 +32,7 @@ use Rattle.record_parts.specs.Fields.{FrontRead, PointsRead}
 use Rattle.record_parts.specs.Leads.{leadFields}
 use Rattle.record_parts.proofs.Writings.{short-of, wrote-all}
 use Rattle.record_codec.specs.Answers.{Moved}
-use Rattle.record_codec.specs.Movable.{Unmoved, Movable, Opened}
+use Rattle.record_codec.specs.Movable.{NotThere, Movable, Opened}
 
 -- a move that is known to be another
 pub moved-as : {m n : Move} {r : MoveAnswer} {p : List ℕ} → n ≡ m → Moved n r p → Moved m r p
@@ -73,7 +73,7 @@ module _ (f : Form) (s : List ℕ) (g : Front) (h : FrontRead 0 s g) where
     opened-good e = record {
       refused = λ d. absurd (d good);
       empty = λ d. absurd (d good);
-      movable = λ _. record { unmoved = (front-clear, e); rated = h .found good .rate; sided = h .found good .side; found = h .found good .count };
+      movable = λ _. record { elsewhere = (front-clear, e); rated = h .found good .rate; sided = h .found good .side; found = h .found good .count };
     }
 
 -- a front with a count above 0 is not refused
@@ -89,13 +89,13 @@ opened-long {f} {s} {g} {rate} {side} {count} {place} {at} h long = go (g .numbe
 -- points past a front with the count c, in bytes that are to be moved to the form f
 pub record PointsFound (f : Form) (s ts vs : List ℕ) (c : ℕ) (g : Points) (ps qs : List ℕ) : Type 0 where
   pub bytes : Below 256 s
-  pub unmoved : Unmoved f s
+  pub elsewhere : NotThere f s
   pub counted : c ≡ countIn s
   pub read : PointsRead strictRatios s ts vs g ps qs
 
 module _ {f : Form} {s ts vs : List ℕ} {c : ℕ} {g : Points} {ps qs : List ℕ} (i : PointsFound f s ts vs c g ps qs) (o : List ℕ) where
   source-is : g .refusal ≡ firstOf (sourceTests f s)
-  source-is = i .read .refuses ∙ sym (source-points f s (i .unmoved .0) (i .unmoved .1))
+  source-is = i .read .refuses ∙ sym (source-points f s (i .elsewhere .0) (i .elsewhere .1))
 
   pub points-stop : (g .refusal .number ≡ 0 → ⊥) → refusedMove (g .refusal) o ≡ moveOf f s o
   points-stop d = source-refused f s o (g .refusal) source-is d
@@ -105,7 +105,7 @@ module _ {f : Form} {s ts vs : List ℕ} {c : ℕ} {g : Points} {ps qs : List �
     clear = sym (ap (λ (x : Refusal). x .number) source-is) ∙ good
 
     sound : SourceSound s
-    sound = source-sound f s (i .bytes) (i .unmoved .1) clear
+    sound = source-sound f s (i .bytes) (i .elsewhere .1) clear
 
     -- the positions that were read
     points-are : take c ps ≡ runIn s .positions

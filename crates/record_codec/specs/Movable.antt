@@ -1,5 +1,5 @@
 -- What the functions that move a record know of it when its front is read.
---   Unmoved f s       no test of the front applies to the bytes s, and past it stands no whole head with the tag of the form f
+--   NotThere f s       no test of the front applies to the bytes s, and past it stands no whole head with the tag of the form f
 --   Movable f s ..    that, the rate and the side, the count, the place of its field, and the offset of the positions'
 --   Opened f s g ..   the refusal g of the front, or else that; a refusal has the count 0
 use mathlib.Core.Path.{_≡_}
@@ -19,14 +19,14 @@ use Rattle.record_format.specs.Moves.{refusedMove, moveOf}
 use Rattle.record_parts.specs.Fields.{CountFound}
 
 -- a sound front, and not the form moved to
-abbrev pub Unmoved : Form → List ℕ → Type 0
-Unmoved f s =
+abbrev pub NotThere : Form → List ℕ → Type 0
+NotThere f s =
     (firstOf (frontTests 0 s) .number ≡ 0)
     × (both (leb (positionsAt s + headSize) (length s)) (eqb (tagAt s (positionsAt s)) (positionsTag f)) ≡ false)
 
 -- with what the front holds
 pub record Movable (f : Form) (s : List ℕ) (rate side count place at : ℕ) : Type 0 where
-  pub unmoved : Unmoved f s
+  pub elsewhere : NotThere f s
   pub rated : rate ≡ rateIn s
   pub sided : side ≡ sideIn s
   pub found : CountFound s count place at

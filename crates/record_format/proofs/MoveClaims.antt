@@ -1,6 +1,6 @@
 -- What moves do, proved of the definitions.
-use mathlib.Core.Path.{_≡_, refl, sym, ap, ap₂, _∙_, subst}
-use mathlib.Core.Bool.{Bool, true, false, not, cond, false≢true}
+use mathlib.Core.Path.{_≡_, refl, sym, ap, _∙_, subst}
+use mathlib.Core.Bool.{Bool, true, false, not, cond}
 use mathlib.Core.List.{List, [], _∷_, _++_, append-nil}
 use mathlib.Core.Logic.{_⊎_, inl, inr}
 use Prim.Native.Nat.{ℕ, zero, suc, _+_, _-_, _≤_, _<_}
@@ -11,7 +11,6 @@ use lib.Dec.{ltb, leb, eqb, lit<, eqb·suc-zero}
 use lib.ListN.{length, getD, take, drop, length-drop}
 use lib.Seq.{take-at, getD-drop}
 use Rattle.lists.specs.Compare.{both}
-use Rattle.lists.specs.Lists.{member}
 use Rattle.lists.proofs.Compare.{both-true}
 use Rattle.limits.specs.Points.{maxPoints}
 use Rattle.refusals.specs.declared.Refusal.{Refusal}
@@ -24,9 +23,9 @@ use Rattle.position_format.specs.Steps.{firstOutside, stepHere}
 use Rattle.position_format.proofs.Points.{outside-here, outside-later}
 use Rattle.ratio_format.specs.Bodies.{strictRatios}
 use Rattle.record_format.specs.Fields.{headSize, tagAt}
-use Rattle.record_format.specs.Runs.{Run, positionsTag, formOf, recordOf}
-use Rattle.record_format.specs.Reading.{Answer, refusalAnswer, recordAnswer, answerBy, readTests, readStrict, readWith, positionsAt, rateIn, sideIn, countIn, frontTests}
-use Rattle.record_format.specs.Moves.{Move, otherForm, inForm, runIn, sourceTests, targetTests, moveTests, refusedMove, recordMove, moveOf}
+use Rattle.record_format.specs.Runs.{Run, positionsTag, recordOf}
+use Rattle.record_format.specs.Reading.{Answer, recordAnswer, readTests, readStrict, readWith, positionsAt, rateIn, sideIn, countIn, frontTests}
+use Rattle.record_format.specs.Moves.{Move, otherForm, inForm, runIn, sourceTests, targetTests, moveTests, moveOf}
 use Rattle.record_format.specs.Claims.{Accepted, Bytes, Beginning, ownTests, runAnswer}
 use Rattle.record_format.specs.MoveClaims.{notMoved, movedTo, ByRoom, ToWide, Held, ToOld, FormThere, StrictFirst, MovesOnly, MovesBack, ReadsAlike, MovesWhole}
 use Rattle.record_format.proofs.Reading.{refusal, front-numbered}

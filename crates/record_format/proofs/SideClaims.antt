@@ -311,7 +311,7 @@ side-refused k e r d rest ts vs listed o (inl z) = twenty k e r d rest ts vs lis
 side-refused k e r d rest ts vs listed o (inr h) =
     twenty k e r d rest ts vs listed o (h .1) (ap₂ both (le-leb 1 d (omega arith)) (lt-leb d maxSide (h .0)))
 
--- ---- what a side's field moves
+-- ---- what a side's field shifts
 
 -- a test four bytes further on
 abbrev further : Test → Test
@@ -563,12 +563,12 @@ module _ (k : ℕ → List ℕ → Option (List ℕ)) (e r d : ℕ) (rest ts vs 
         let f = form-same without with-side longer same-past k (length ts) (length vs) count-seven count-at in
         cc
 
-    moves : readWith k e with-side ts vs ≡ shifted d (readWith k e without ts vs)
+    shifts : readWith k e with-side ts vs ≡ shifted d (readWith k e without ts vs)
     unfolding readWith
-    moves = answer-shifted d _ _ further-tests (recordAnswer k without ts vs) (recordAnswer k with-side ts vs) record-shifted ts vs
+    shifts = answer-shifted d _ _ further-tests (recordAnswer k without ts vs) (recordAnswer k with-side ts vs) record-shifted ts vs
 
 pub side-shifts : SideShifts
-side-shifts k e r d rest ts vs listed o low high other = moves k e r d rest ts vs listed o low high other
+side-shifts k e r d rest ts vs listed o low high other = shifts k e r d rest ts vs listed o low high other
 
 pub count-refused : CountRefused
 unfolding tagAt

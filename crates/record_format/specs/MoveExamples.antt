@@ -6,7 +6,7 @@
 --   steppedOld, steppedWide   that record in each form
 --   noPoints t    the last two fields of a record without points, the positions' with the tag t
 --   wide ts       the record of a run in the wide form with the positions ts and ratios that are all 0; old ts: in the old form
---   oddRun f      a run in the form f on side 26 at 44,100, with ratios that are no plain numbers: 0, -0, a signalling not-a-number, and one that takes an xor form
+--   oddRun f      a run in the form f on side 26 at 44,100, with ratios whose bits a coding through doubles could change: 0, -0 and two not-a-numbers
 --   moveRows      the rows; moves-hold: each is as it is given
 use mathlib.Core.Path.{_≡_, refl}
 use mathlib.Core.List.{List, [], _∷_, _++_, map}
@@ -86,12 +86,12 @@ wide ts = recordOf (run 96000 0 Wide ts (map (λ _. 0) ts))
 abbrev old : List ℕ → List ℕ
 old ts = recordOf (run 96000 0 Old ts (map (λ _. 0) ts))
 
--- ratios that a coding through doubles would change
+-- an exception, an xor form, an exception and an xor form
 abbrev oddRun : Form → Run
 oddRun f = run 44100 26 f (0 ∷ 3 ∷ 9 ∷ 5 ∷ []) (0 ∷ 0x8000000000000000 ∷ 0x7FF0000000000001 ∷ 0x7FF0000000000301 ∷ [])
 
--- moves: the listing's run, on a side too and followed by bytes; steps that the wide form makes longer, with just enough room, and back; no points; ratios of
--- every kind; the last steps that the old table holds. Refusals: 6, with a room that is one short; 11 for the form moved to, before a cut body, ratios that are
+-- moves: the listing's run, on a side too and followed by bytes; steps that the wide form makes longer, with just enough room, and back; no points; ratios that
+-- are not-a-numbers; the last steps that the old table holds. Refusals: 6, with a room that is one short; 11 for the form moved to, before a cut body, ratios that are
 -- no coding and too many points, but not for a cut head; 10, 11, 12, 13, 15, 17, 18 and 20 as in strict reading; 5 at the first such step
 pub moveRows : List MoveExample
 moveRows =

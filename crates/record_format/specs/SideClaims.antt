@@ -11,8 +11,8 @@
 --   BodyCut         a side's field without its byte: 10 at 7
 --   SideRefused     a stored side that is 0 or above 26: 20 at 7
 --   CountRefused    a count's field of another length than 2: 12 at 7, or past a side at 11; one without its two bytes: 10 there
---   shifted d a       the answer a with each offset four bytes further on and, of a success, the side d
---   SideShifts       a side's field shifts what follows it by four bytes and changes nothing else: not the refusal's number, not a point
+--   shifted d a     the answer a with each offset four bytes further on and, of a success, the side d
+--   SideShifts      a side's field shifts what follows it by four bytes and changes nothing else: not the refusal's number, not a point
 use mathlib.Core.Bool.{true, false, cond}
 use mathlib.Core.List.{List, _∷_, _++_}
 use mathlib.Core.Logic.{_⊎_}

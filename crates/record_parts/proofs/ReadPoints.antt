@@ -13,7 +13,7 @@ use Rattle.position_format.specs.declared.Form.{Form}
 use Rattle.position_format.specs.Positions.{readPositions}
 use Rattle.position_format.specs.Tables.{tableOf}
 use Rattle.record_format.specs.Fields.{bodyAt, nextAt}
-use Rattle.record_format.specs.Reading.{positionsAt, ratiosAt, endAt, countIn, formIn, positionsIn, ratiosIn, listOf, positionsTests, ratiosTests}
+use Rattle.record_format.specs.Reading.{positionsAt, ratiosAt, endAt, countIn, formIn, listOf, positionsTests, ratiosTests}
 use Rattle.record_parts.specs.declared.coding.Part.{Part}
 use Rattle.record_parts.specs.declared.points.Points.{Points}
 use Rattle.record_parts.specs.Fields.{longestField, PartRead, CountFound, CodedRead, PointsRead}

@@ -148,7 +148,7 @@ fn read_count(input: &[u8], at: usize) -> Number
     found
 }
 
-// No front: a refusal of the rate, of the side or of the count.
+// No front: a refusal, and zeros.
 pub fn no_front(refusal: Refusal) -> Front
     ensures { λ r. ⌜ r ≡ record { refusal = refusal; rate = 0; side = 0; count = 0; place = 0; end = 0 } ⌝ }
 {

@@ -17,8 +17,8 @@ returns c =
     let i = put .before .before in
     put-same (line-refused (i .before .before .args .answer) (i .if1 .taken)) (put .put-refused .ensures)
 
-put-moved-requires : tie.Need-put-moved-requires
-put-moved-requires c κs = search needs
+put-moved-line-requires : tie.Need-put-moved-line-requires
+put-moved-line-requires c κs = search needs
 
 same-length-2 : tie.Need-same-length-2
 same-length-2 c = search needs
@@ -27,9 +27,9 @@ returns-2 : tie.Need-returns-2
 returns-2 c =
     let put = c .before .before in
     let i = put .before .before in
-    put-same (line-moved (i .before .before .args .answer) (i .if1 .left)) (put .put-moved .ensures)
+    put-same (line-moved (i .before .before .args .answer) (i .if1 .left)) (put .put-moved-line .ensures)
 
 pub put-answer-spec : {M : Type 1} → statement M
 put-answer-spec =
     tie.close
-    (tie.spec put-refused-requires same-length returns put-moved-requires same-length-2 returns-2)
+    (tie.spec put-refused-requires same-length returns put-moved-line-requires same-length-2 returns-2)

@@ -46,7 +46,7 @@ found : (k : tie.After-read-points)
     (k .read-points .result) (k .read-points .last .1 .1 .1 .1 .1 .0) (k .read-points .last .1 .1 .1 .1 .1 .1 .0)
 found k = record {
   bytes = below-of 256 (entry k .args .input .now) (λ i. shared k .shared-slice-known .given i .fits);
-  unmoved = entry k .pre .0 .unmoved;
+  elsewhere = entry k .pre .0 .elsewhere;
   counted = entry k .pre .0 .found .counted;
   read = k .read-points .ensures;
 }

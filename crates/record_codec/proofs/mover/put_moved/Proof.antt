@@ -1,6 +1,5 @@
 -- `put_moved` meets its contract: the fields up to the positions', and then the bytes of the ratios' field after them.
 use mathlib.Core.List.{List}
-use mathlib.Core.Path.{refl}
 use Prim.Native.Nat.{ℕ}
 use native.Mathlib.Omega.{arith}
 use borrow.Author.Needs.{needs}

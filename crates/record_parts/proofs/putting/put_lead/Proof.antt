@@ -1,7 +1,6 @@
 -- `put_lead` meets its contract: the front, and then the positions' field after it.
 use mathlib.Core.List.{List, [], _∷_}
 use mathlib.Core.Path.{refl}
-use Prim.Native.Nat.{ℕ}
 use native.Mathlib.Omega.{arith}
 use borrow.Author.Needs.{needs}
 use lib.ListN.{length}

@@ -1,10 +1,10 @@
--- `put_moved` meets its contract: three texts, one after the other.
+-- `put_moved_line` meets its contract: three texts, one after the other.
 use native.Mathlib.Omega.{arith}
 use Rattle.text.proofs.PlacedAt.{put-put, put-more}
 use Rattle.move_record.specs.Lines.{movedLine}
 use borrow.Author.Needs.{needs}
-use Rattle.move_record.proofs.put_moved.Statement.{statement}
-use Rattle.move_record.proofs.put_moved.Tie as tie
+use Rattle.move_record.proofs.put_moved_line.Statement.{statement}
+use Rattle.move_record.proofs.put_moved_line.Tie as tie
 
 slice-aggregate-put-text : tie.Need-slice-aggregate-put-text
 slice-aggregate-put-text c = search needs
@@ -32,8 +32,8 @@ returns c =
     let word = number .before .before .before .before in
     put-more (omega arith) (put-put (omega arith) (word .put-text .ensures) (put-put (omega arith) (number .put-decimal .ensures) (size .put-named .ensures)))
 
-pub put-moved-spec : {M : Type 1} → statement M
-put-moved-spec =
+pub put-moved-line-spec : {M : Type 1} → statement M
+put-moved-line-spec =
     tie.close
     (tie.spec
     slice-aggregate-put-text

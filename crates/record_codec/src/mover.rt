@@ -143,8 +143,8 @@ fn move_by(
     }
 }
 
-// The same with arrays for up to 64 points, and below for up to 256, 1,024 and all: an array is filled with zeros first, which for every point that a run
-// can have takes longer than to move a short record.
+// The same with arrays for up to 64 points. There are more sizes, since an array is filled with zeros first, which for every point that a run can have
+// takes longer than to move a short record.
 fn move_up_to_64(
     form: Form,
     input: &[u8],
@@ -174,6 +174,7 @@ fn move_up_to_64(
     )
 }
 
+// Up to 256.
 fn move_up_to_256(
     form: Form,
     input: &[u8],
@@ -203,6 +204,7 @@ fn move_up_to_256(
     )
 }
 
+// Up to 1,024.
 fn move_up_to_1024(
     form: Form,
     input: &[u8],
@@ -232,6 +234,7 @@ fn move_up_to_1024(
     )
 }
 
+// Up to 4,096, which is all.
 fn move_up_to_4096(
     form: Form,
     input: &[u8],

@@ -71,8 +71,8 @@
  * back to 0, when something that stands here changes or goes, so that a program
  * must be looked at and compiled again; the minor grows by one when something is
  * added. Records have no version. */
-#define FARIGOLENC_VERSION_MAJOR 3
-#define FARIGOLENC_VERSION_MINOR 1
+#define FARIGOLENC_VERSION_MAJOR 4
+#define FARIGOLENC_VERSION_MINOR 0
 
 #include <stddef.h>
 #include <stdint.h>
@@ -171,8 +171,10 @@ farigolenc_move_answer farigolenc_to_old(
     const uint8_t *record, size_t record_length,
     uint8_t *out, size_t out_length);
 
-/* The time from the first position to the last, rounded toward zero; 0 for no
- * position or one. Tests 1, 3 and 4, the last over all positions. */
+/* The time from the first position to the last, rounded down to the whole
+ * millisecond below: at 48000 16 samples forwards are 0, and backwards -1; 48
+ * backwards are -1, and 49 are -2. 0 for no position or one. Tests 1, 3 and 4, the
+ * last over all positions. Before version 4.0 it was rounded toward zero. */
 typedef struct {
     uint32_t number, place;
     int64_t milliseconds;

@@ -340,14 +340,29 @@ static void check_kinds(void)
     check_kind(UINT64_MAX, FARIGOLENC_NAN, 0, 0, UINT64_MAX, "kind of all ones");
 }
 
+/* The span of two positions, in milliseconds. */
+static void check_span(uint32_t rate, uint64_t first, uint64_t last, int64_t milliseconds,
+                       const char *what)
+{
+    const uint64_t positions[2] = {first, last};
+    farigolenc_span_answer span = farigolenc_span(rate, positions, 2);
+    check(span.number == 0 && span.place == 0 && span.milliseconds == milliseconds, what);
+}
+
 static void check_spans(void)
 {
+    const uint64_t top = (UINT64_C(1) << 62) - 1;
     const uint64_t back[2] = {1000, 0};
     const uint64_t above[2] = {0, UINT64_C(1) << 62};
     farigolenc_span_answer span;
 
-    span = farigolenc_span(48000, back, 2);
-    check(span.number == 0 && span.place == 0 && span.milliseconds == -20, "span backwards");
+    check_span(48000, 0, 16, 0, "span of a third of a millisecond");
+    check_span(48000, 16, 0, -1, "span of a third of a millisecond backwards");
+    check_span(48000, 48, 0, -1, "span of a millisecond backwards");
+    check_span(48000, 49, 0, -2, "span of a sample more backwards");
+    check_span(48000, 1000, 0, -21, "span backwards, rounded down");
+    check_span(44100, 0, top, INT64_C(104573379102661857), "longest span");
+    check_span(44100, top, 0, -INT64_C(104573379102661858), "longest span backwards");
     span = farigolenc_span(48000, back, 0);
     check(span.number == 0 && span.place == 0 && span.milliseconds == 0, "span of nothing");
     span = farigolenc_span(48001, back, 2);

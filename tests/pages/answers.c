@@ -13,11 +13,12 @@
    form RATIO..                    the bytes of the last of these ratios
    ratios COUNT BYTE..             the ratios of this body of the ratios' field, read strictly and openly, a line each
    reason INDEX RATIO..            why the ratio of this index has its form, or the refusal
+   span RATE POSITION..            the milliseconds of the span, or the refusal
    live FILL SEEN                  the number that an addition to this state gives
    reader FILL SEEN COUNT OFFSET LENGTH   the number that a step of this reader gives, over so many bytes 00
    widths                          sign and bits of the integers, in the order of the page
    version                         that of the header
-   Bytes and ratios are hex; `none` stands for none of them, and for no rate expected. */
+   Bytes and ratios are hex; `none` stands for none of them or of positions, and for no rate expected. */
 #include "farigolenc.h"
 
 #include <inttypes.h>
@@ -320,6 +321,24 @@ static void body_of_ratios(size_t count)
     }
 }
 
+static void span(uint32_t rate, char **words)
+{
+    farigolenc_span_answer answer;
+    size_t count;
+    for (count = 0; words[count] != NULL && strcmp(words[count], "none") != 0; count++) {
+        if (count == POINTS) {
+            exit(2);
+        }
+        positions[count] = decimal(words[count]);
+    }
+    answer = farigolenc_span(rate, positions, count);
+    if (answer.number != 0 && answer.milliseconds == 0) {
+        printf("refused %" PRIu32 " at %" PRIu32 "\n", answer.number, answer.place);
+    } else if (answer.number == 0 && answer.place == 0) {
+        printf("%" PRId64 "\n", answer.milliseconds);
+    }
+}
+
 static void reason(uint64_t index, char **words)
 {
     farigolenc_explain_answer why;
@@ -486,6 +505,8 @@ int main(int count, char **words)
         body_of_ratios((size_t)decimal(words[2]));
     } else if (strcmp(mode, "reason") == 0 && count > 3) {
         reason(decimal(words[2]), words + 3);
+    } else if (strcmp(mode, "span") == 0 && count > 3) {
+        span((uint32_t)decimal(words[2]), words + 3);
     } else if (strcmp(mode, "live") == 0 && count == 4) {
         live(words + 2);
     } else if (strcmp(mode, "reader") == 0 && count == 7) {

@@ -12,6 +12,7 @@ mod inputs;
 mod library;
 mod moves;
 mod reference;
+mod spans;
 
 use answers::{
     Cursor, Explained, Kind, Live, Making, Move, Moved, Reading, Span, Stepped, Write, Written,
@@ -35,7 +36,7 @@ struct Test {
     cases: u64,
     /// How often each call returned each number, reading and moving each side, reading each form,
     /// some numbers at each place, 18 without a side (0) and with one (1), 17 and 18 in each form,
-    /// how many bytes moving added, and explain each reason, place and sum.
+    /// how many bytes moving added, spans back at each rate, and explain each reason, place and sum.
     numbers: BTreeMap<(&'static str, u32), u64>,
 }
 
@@ -222,14 +223,14 @@ impl Test {
         (moved, outputs)
     }
 
-    fn span(&mut self, rate: u32, positions: &[u64]) {
+    fn span(&mut self, rate: u32, positions: &[u64]) -> Span {
         self.case::<fn(u32, &[u64]) -> Span, _>(
             "span",
             || format!("rate {rate:x} positions {positions:x?}"),
             |span| span(rate, positions),
             [reference::span, library::span],
             |span| span.number,
-        );
+        )
     }
 
     fn live_new(&mut self) -> Live {
@@ -592,43 +593,6 @@ impl Test {
         }
         let room = random.pick(&[9, 9, 9, 12, 3, 0]);
         self.live_add(state, ratio, room);
-    }
-
-    fn spans(&mut self) {
-        let random = &mut self.random;
-        let any = |random: &mut Random| random.below(LAST_POSITION as usize + 1) as u64;
-        let count = match random.below(40) {
-            0 => random.pick(&[3_501, 4_095, 4_096, 4_097, 5_000]),
-            1..=10 => random.below(20),
-            _ => random.below(4),
-        };
-        let mut rate = random.pick(&RATES);
-        let mut positions: Vec<u64> = match random.below(3) {
-            0 => (0..count).map(|_| any(random)).collect(),
-            1 => any_positions(random, WIDE, count),
-            _ => (0..count)
-                .map(|_| random.pick(&[0, LAST_POSITION, 1, 1 << 61]))
-                .collect(),
-        };
-        // Close to a whole number of milliseconds, forwards or backwards.
-        if count > 1 && random.one_in(2) {
-            let whole = random.below(1 << 40) as u64 * u64::from(rate) / 1_000;
-            let far = whole + random.below(3) as u64;
-            let (first, last) = random.pick(&[(0, far), (far, 0)]);
-            positions[0] = first;
-            positions[count - 1] = last;
-        }
-        if count > 0 && random.one_in(4) {
-            for _ in 0..1 + random.below(2) {
-                let above = LAST_POSITION + random.bits() / 2;
-                let choices = [LAST_POSITION + 1, u64::MAX, above, LAST_POSITION];
-                positions[random.below(count)] = random.pick(&choices);
-            }
-        }
-        if random.one_in(8) {
-            rate = unlisted_rate(random);
-        }
-        self.span(rate, &positions);
     }
 
     fn kinds(&mut self) {
@@ -1207,7 +1171,7 @@ impl Test {
     fn report(&self) {
         let reading = &[0, 10, 11, 12, 13, 14, 15, 16, 17, 18, 20][..];
         let sides: Vec<u32> = (0..=LAST_SIDE).collect();
-        let calls: [(_, &[u32]); 42] = [
+        let calls: [(_, &[u32]); 44] = [
             ("write, old form", &[0, 1, 2, 3, 4, 5, 6, 21]),
             ("write, wide form", &[0, 1, 2, 3, 4, 6, 21]),
             ("read_strict", reading),
@@ -1240,6 +1204,8 @@ impl Test {
             ("moving, place of 17", &[12, 16]),
             ("moving, 18 behind a side", &[0, 1]),
             ("span", &[0, 1, 3, 4]),
+            (spans::WHOLE_BACK, &RATES),
+            (spans::ROUNDED_BACK, &RATES),
             ("live_new", &[0]),
             ("live_add", &[0, 3, 6, 7]),
             ("cursor_new", &[0, 15]),
@@ -1289,6 +1255,7 @@ fn main() {
     test.document_cases();
     test.form_cases();
     test.move_cases();
+    test.span_cases();
     for _ in 0..ROUNDS {
         test.round();
     }

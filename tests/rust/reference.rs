@@ -560,8 +560,8 @@ fn milliseconds(rate: u32, positions: &[u64]) -> Result<i64, Refusal> {
     let (Some(&first), Some(&last)) = (positions.first(), positions.last()) else {
         return Ok(0);
     };
-    // Division of whole numbers rounds toward zero.
-    Ok(((i128::from(last) - i128::from(first)) * 1_000 / i128::from(rate)) as i64)
+    // By a number above 0, `div_euclid` rounds down.
+    Ok(((i128::from(last) - i128::from(first)) * 1_000).div_euclid(i128::from(rate)) as i64)
 }
 
 pub fn span(rate: u32, positions: &[u64]) -> Span {

@@ -1,13 +1,13 @@
--- Laws of a span: its milliseconds by the order of the first and the last position, and of no points or one; and the whole answer by the first of its
--- tests that applies.
+-- Laws of a span: what is divided, by the order of the first and the last position; the milliseconds of no points or one; and the whole answer by the
+-- first of its tests that applies.
 use mathlib.Core.List.{List, [], _∷_}
-use mathlib.Core.Path.{_≡_, refl, ap, _∙_}
-use Prim.Native.Nat.{ℕ, zero, suc, _-_, _*_, _/_, _≤_, _<_}
+use mathlib.Core.Path.{_≡_, ap, _∙_}
+use Prim.Native.Nat.{ℕ, suc, _-_, _*_, _/_, _≤_, _<_}
 use native.Mathlib.Nat.{zero-div}
 use native.Mathlib.Omega.{arith}
 use lib.IntN.{ℤ, pos, negℤ, _-ℤ_, _*ℤ_}
 use lib.ListN.{length}
-use Rattle.span.specs.Spans.{towardZero, milliseconds, spanTests, spanAnswer, spanned}
+use Rattle.span.specs.Spans.{roundedDown, milliseconds, spanTests, spanAnswer, spanned}
 use Rattle.integers.proofs.Integers.{diff-pos, diff-neg}
 use mathlib.Core.Bool.{true, false, not}
 use borrow.Author.Tests.{lt-ltb, le-ltb}
@@ -19,26 +19,20 @@ use Rattle.refusals.proofs.Tests.{first-end, first-skip, first-here}
 
 -- ---- milliseconds
 
-quot-neg : (x r : ℕ) → towardZero (negℤ (pos x)) r ≡ negℤ (pos (x / r))
-quot-neg zero r = rw zero-div refl
-quot-neg (suc x) r = refl
+-- what is divided, by the order of the two positions
+module _ (first last : ℕ) where
+  pub forward : first ≤ last → (pos last -ℤ pos first) *ℤ pos 1000 ≡ pos ((last - first) * 1000)
+  forward h = ap (λ (z : ℤ). z *ℤ pos 1000) (diff-pos last first h)
 
--- by the order of the two positions
-module _ (first last r : ℕ) where
-  pub forward : first ≤ last → towardZero ((pos last -ℤ pos first) *ℤ pos 1000) r ≡ pos ((last - first) * 1000 / r)
-  forward h = ap (λ (z : ℤ). towardZero (z *ℤ pos 1000) r) (diff-pos last first h)
-
-  pub backward : last < first → towardZero ((pos last -ℤ pos first) *ℤ pos 1000) r ≡ negℤ (pos ((first - last) * 1000 / r))
+  pub backward : last < first → (pos last -ℤ pos first) *ℤ pos 1000 ≡ negℤ (pos ((first - last) * 1000))
   backward h =
       let e : suc (first - suc last) ≡ first - last = omega arith in
-      ap (λ (z : ℤ). towardZero (z *ℤ pos 1000) r) (diff-neg last first h)
-      ∙ quot-neg (suc (first - suc last) * 1000) r
-      ∙ ap (λ (x : ℕ). negℤ (pos (x * 1000 / r))) e
+      ap (λ (z : ℤ). z *ℤ pos 1000) (diff-neg last first h) ∙ ap (λ (x : ℕ). negℤ (pos (x * 1000))) e
 
-same : (t r : ℕ) → towardZero ((pos t -ℤ pos t) *ℤ pos 1000) r ≡ pos 0
+same : (t r : ℕ) → roundedDown ((pos t -ℤ pos t) *ℤ pos 1000) r ≡ pos 0
 same t r =
     let e : (t - t) * 1000 ≡ 0 = omega arith in
-    forward t t r (omega arith) ∙ ap (λ (x : ℕ). pos (x / r)) e ∙ ap pos (zero-div r)
+    ap (λ (z : ℤ). roundedDown z r) (forward t t (omega arith)) ∙ ap (λ (x : ℕ). pos (x / r)) e ∙ ap pos (zero-div r)
 
 -- of no points or one it is 0
 pub milliseconds-short : (r : ℕ) (ts : List ℕ) → length ts ≤ 1 → milliseconds r ts ≡ pos 0

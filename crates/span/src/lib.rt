@@ -2,7 +2,7 @@
 ghost use mathlib.Core.Path.{_≡_};
 ghost use Prim.Native.Nat.{_+_, _*_, _/_, _^_, _≤_, _<_};
 ghost use lib.IntN.{pos, _-ℤ_, _*ℤ_};
-ghost use Rattle.span.specs.Spans.{towardZero, spanned};
+ghost use Rattle.span.specs.Spans.{roundedDown, spanned};
 
 // Number and place of the refusal, or 0 and 0 with the milliseconds.
 #[repr(C)]
@@ -22,17 +22,23 @@ fn scaled(d: u64, rate: u64) -> u64
     q * 1000 + r * 1000 / rate
 }
 
-// The milliseconds from the position first to the position last, rounded toward zero.
+// The milliseconds from the position first to the position last, rounded down.
 fn between(first: u64, last: u64, rate: u64) -> i64
     requires { ⌜ (first < 2 ^ 62) × (last < 2 ^ 62) × (1000 ≤ rate) × (rate ≤ 192000) ⌝ }
-    ensures { λ r. ⌜ r ≡ towardZero ((pos last -ℤ pos first) *ℤ pos 1000) rate ⌝ }
+    ensures { λ r. ⌜ r ≡ roundedDown ((pos last -ℤ pos first) *ℤ pos 1000) rate ⌝ }
 {
     if first <= last {
         let m = scaled(last - first, rate);
         return m as i64;
     }
-    let m = scaled(first - last, rate);
-    -(m as i64)
+    let d = first - last;
+    let m = scaled(d, rate);
+    let back = -(m as i64);
+    // back where the division is exact, and else one below
+    if d % rate * 1000 % rate == 0 {
+        return back;
+    }
+    back - 1
 }
 
 // The span of the positions at a rate: tests 1, 3 and 4 in this order, each over all positions.

@@ -36,11 +36,11 @@ listedText =
 abbrev pub sidedText : List ℕ
 sidedText = take 11 listedText ++ (115 ∷ 105 ∷ 100 ∷ 101 ∷ 32 ∷ 52 ∷ 10 ∷ drop 11 listedText)
 
--- the output of a run in the wide form, whose tape is rewound at the third point: `span -89478475`
+-- the output of a run in the wide form, whose tape is rewound at the third point: `span -89478476`
 abbrev pub pausedText : List ℕ
 pausedText =
     take 19 listedText
-    ++ (115 ∷ 112 ∷ 97 ∷ 110 ∷ 32 ∷ 45 ∷ 56 ∷ 57 ∷ 52 ∷ 55 ∷ 56 ∷ 52 ∷ 55 ∷ 53 ∷ 10
+    ++ (115 ∷ 112 ∷ 97 ∷ 110 ∷ 32 ∷ 45 ∷ 56 ∷ 57 ∷ 52 ∷ 55 ∷ 56 ∷ 52 ∷ 55 ∷ 54 ∷ 10
     ∷ 56 ∷ 53 ∷ 56 ∷ 57 ∷ 57 ∷ 51 ∷ 53 ∷ 53 ∷ 53 ∷ 50 ∷ (take 18 (drop 28 listedText)
     ++ (56 ∷ 53 ∷ 56 ∷ 57 ∷ 57 ∷ 51 ∷ 54 ∷ 53 ∷ 49 ∷ 50 ∷ (take 18 (drop 28 listedText)
     ++ (49 ∷ 57 ∷ 50 ∷ 48 ∷ take 18 (drop 28 listedText))))))
@@ -66,7 +66,7 @@ examples =
     ∷ example (spanLine (negsuc 42)) (115 ∷ 112 ∷ 97 ∷ 110 ∷ 32 ∷ 45 ∷ 52 ∷ 51 ∷ 10 ∷ [])
     ∷ example (listing 96000 0 (pos 20) (0 ∷ 960 ∷ 1920 ∷ []) (replicate 3 0x3FE0000000000000)) listedText
     ∷ example (listing 96000 4 (pos 20) (0 ∷ 960 ∷ 1920 ∷ []) (replicate 3 0x3FE0000000000000)) sidedText
-    ∷ example (listing 96000 0 (negsuc 89478474) (8589935552 ∷ 8589936512 ∷ 1920 ∷ []) (replicate 3 0x3FE0000000000000)) pausedText
+    ∷ example (listing 96000 0 (negsuc 89478475) (8589935552 ∷ 8589936512 ∷ 1920 ∷ []) (replicate 3 0x3FE0000000000000)) pausedText
     ∷ []
 
 -- each text, computed from the definitions, is the one that is given

@@ -1,0 +1,164 @@
+-- The statements of specs/Claims.
+use mathlib.Core.Bool.{Bool, true, false, not}
+use mathlib.Core.List.{List, [], _∷_, _++_}
+use mathlib.Core.Logic.{inl, inr}
+use mathlib.Core.Path.{_≡_, refl, sym, ap, _∙_, subst}
+use Prim.Native.Nat.{ℕ, suc, _-_, _*_, _/_, _%_, _^_, _≤_, _<_}
+use native.Mathlib.Nat.{div-add-mod', mul-mod-left, mul-le-mul-left}
+use native.Mathlib.Omega.{arith}
+use borrow.Author.Tests.{ltb-true, ltb-false, leb-true, leb-false}
+use lib.Dec.{ltb, leb}
+use lib.IntN.{ℤ, pos, negℤ, natAbs, _-ℤ_, _*ℤ_}
+use lib.ListN.{length, getD}
+use Rattle.lists.proofs.Lists.{first-at}
+use Rattle.integers.proofs.Integers.{abs-neg, abs-diff}
+use Rattle.limits.specs.Rates.{isRate}
+use Rattle.limits.specs.Points.{maxPoints, maxPosition, tooHigh, firstHigh}
+use Rattle.limits.proofs.Rates.{rate-low}
+use Rattle.limits.proofs.Points.{high-none}
+use Rattle.refusals.specs.declared.Refusal.{Refusal}
+use Rattle.refusals.specs.Tests.{firstOf}
+use Rattle.refusals.proofs.Tests.{first-here}
+use Rattle.span.specs.declared.SpanAnswer.{SpanAnswer}
+use Rattle.span.specs.Spans.{roundedDown, firstPosition, lastPosition, dividend, milliseconds, spanTests, spanAnswer, spanned}
+use Rattle.span.specs.Claims.{SpanAccepted, AcceptsOnly, spanOf, IsFloor, RoundsDown, ZeroShort, towardZero, answerWith, Exact, SameSpan, OneLess, SpanFits}
+use Rattle.span.proofs.Rounding.{toward-neg, down-exact, down-rest, down-abs, floor}
+use Rattle.span.proofs.Signed.{neg-less, neg-times, abs-times}
+use Rattle.span.proofs.Spans.{forward, backward, milliseconds-short, no-rate, many-points, high-point, no-refusal}
+
+-- ---- which spans there are
+
+none-high : (ts : List ℕ) → ((k : ℕ) → k < length ts → getD ts k 0 < 2 ^ 62) → length ts ≤ firstHigh ts
+none-high ts low = go (ltb (firstHigh ts) (length ts)) refl
+  where
+    go : (t : Bool) → ltb (firstHigh ts) (length ts) ≡ t → length ts ≤ firstHigh ts
+    go true e =
+        let h = ltb-true (firstHigh ts) (length ts) e in
+        absurd (omega (arith, low (firstHigh ts) h, ltb-true maxPosition (getD ts (firstHigh ts) 0) (first-at tooHigh 0 ts h)))
+    go false e = ltb-false (firstHigh ts) (length ts) e
+
+-- what holds of every refusal, and of the answer where there is none, holds of every answer
+by-answer : (P : SpanAnswer → Type 0) (r : ℕ) (ts : List ℕ)
+    → ((n p : ℕ) → 0 < n → P (record { number = n; place = p; milliseconds = pos 0 }))
+    → (SpanAccepted r ts → P (spanOf (milliseconds r ts)))
+    → P (spanned r ts)
+by-answer P r ts refusal good = go (isRate r) refl (ltb maxPoints (length ts)) refl (ltb (firstHigh ts) (length ts)) refl
+  where
+    go : (b : Bool) → isRate r ≡ b → (c : Bool) → ltb maxPoints (length ts) ≡ c → (d : Bool) → ltb (firstHigh ts) (length ts) ≡ d → P (spanned r ts)
+    go false e c f d g = subst P (sym (no-rate r ts e)) (refusal 1 0 (omega arith))
+    go true e true f d g = subst P (sym (many-points r ts e (ltb-true maxPoints (length ts) f))) (refusal 3 0 (omega arith))
+    go true e false f true g =
+        subst P (sym (high-point r ts e (ltb-false maxPoints (length ts) f) (ltb-true (firstHigh ts) (length ts) g))) (refusal 4 (firstHigh ts) (omega arith))
+    go true e false f false g =
+        let few = ltb-false maxPoints (length ts) f in
+        let low = ltb-false (firstHigh ts) (length ts) g in
+        subst P (sym (no-refusal r ts e few low)) (good (record { listed = e; few = few; low = high-none ts low }))
+
+pub accepts-only : AcceptsOnly
+accepts-only r ts = by-answer (λ (a : SpanAnswer). a .number ≡ 0 → SpanAccepted r ts) r ts (λ n p h e. absurd (omega arith)) (λ t e. t)
+
+-- ---- what they are
+
+module _ (r : ℕ) (ts : List ℕ) (t : SpanAccepted r ts) where
+  -- a rate is above 0
+  rate⁺ : 0 < r
+  rate⁺ = omega (arith, rate-low r (t .listed))
+
+  answer : spanned r ts ≡ spanOf (milliseconds r ts)
+  answer = no-refusal r ts (t .listed) (t .few) (none-high ts (t .low))
+
+last-is : (a b : ℕ) (mid : List ℕ) → lastPosition (a ∷ (mid ++ (b ∷ []))) ≡ b
+last-is a b [] = refl
+last-is a b (x ∷ mid) =
+    let n = length (mid ++ (b ∷ [])) in
+    let e : suc (suc n) - 1 ≡ suc (suc n - 1) = omega arith in
+    ap (λ (k : ℕ). getD (a ∷ x ∷ (mid ++ (b ∷ []))) k 0) e ∙ last-is x b mid
+
+pub rounds-down : RoundsDown
+rounds-down r a b mid t =
+    let ts = a ∷ (mid ++ (b ∷ [])) in
+    (milliseconds r ts, answer r ts t, subst (λ (l : ℕ). IsFloor (milliseconds r ts) ((pos l -ℤ pos a) *ℤ pos 1000) r) (last-is a b mid) (floor r (rate⁺ r ts t) (dividend ts)))
+
+pub zero-short : ZeroShort
+zero-short r ts t h = answer r ts t ∙ ap spanOf (milliseconds-short r ts h)
+
+-- ---- beside document 01's rounding
+
+module _ (r : ℕ) (ts : List ℕ) where
+  -- the samples from the last position on to the first
+  abbrev back : ℕ
+  back = firstPosition ts - lastPosition ts
+
+  same-forward : firstPosition ts ≤ lastPosition ts → milliseconds r ts ≡ towardZero (dividend ts) r
+  same-forward h = rw (forward (firstPosition ts) (lastPosition ts) h) refl
+
+  module _ (h : lastPosition ts < firstPosition ts) where
+    divided : dividend ts ≡ negℤ (pos (back * 1000))
+    divided = backward (firstPosition ts) (lastPosition ts) h
+
+    toward-back : towardZero (dividend ts) r ≡ negℤ (pos (back * 1000 / r))
+    toward-back = ap (λ (z : ℤ). towardZero z r) divided ∙ toward-neg (back * 1000) r
+
+    -- exact is that the remainder is 0
+    no-rest : Exact r ts → back * 1000 % r ≡ 0
+    no-rest (m, e) =
+        let same : natAbs m * r ≡ back * 1000 = sym (abs-times m r) ∙ ap natAbs (e ∙ divided) ∙ abs-neg (pos (back * 1000)) in
+        ap (λ (x : ℕ). x % r) (sym same) ∙ mul-mod-left (natAbs m) r
+
+    exact : back * 1000 % r ≡ 0 → Exact r ts
+    exact e =
+        let same : back * 1000 / r * r ≡ back * 1000 = omega (arith, div-add-mod' (back * 1000) r) in
+        (negℤ (pos (back * 1000 / r)), neg-times (back * 1000 / r) r ∙ ap (λ (x : ℕ). negℤ (pos x)) same ∙ sym divided)
+
+    module _ (r⁺ : 0 < r) where
+      same-exact : Exact r ts → milliseconds r ts ≡ towardZero (dividend ts) r
+      same-exact x =
+          ap (λ (z : ℤ). roundedDown z r) divided ∙ down-exact r r⁺ (back * 1000) (no-rest x) ∙ sym toward-back
+
+      less : (Exact r ts → ⊥) → milliseconds r ts ≡ towardZero (dividend ts) r -ℤ pos 1
+      less n =
+          ap (λ (z : ℤ). roundedDown z r) divided
+          ∙ down-rest r r⁺ (back * 1000) (λ e. n (exact e))
+          ∙ sym (neg-less (back * 1000 / r))
+          ∙ ap (λ (z : ℤ). z -ℤ pos 1) (sym toward-back)
+
+-- answers with the same tests are the same where the rate is good and the milliseconds are
+same-answer : (r : ℕ) (ts : List ℕ) (z : ℤ) → (0 < r → milliseconds r ts ≡ z) → spanned r ts ≡ answerWith r ts z
+unfolding spanned
+same-answer r ts z h = go (isRate r) refl
+  where
+    refusal : isRate r ≡ false → firstOf (spanTests r ts) ≡ record { number = 1; place = 0 }
+    refusal e = first-here _ _ (ap not e)
+
+    go : (b : Bool) → isRate r ≡ b → answerWith r ts (milliseconds r ts) ≡ answerWith r ts z
+    go true e = ap (answerWith r ts) (h (omega (arith, rate-low r e)))
+    go false e = ap (λ (f : Refusal). spanAnswer f (milliseconds r ts)) (refusal e) ∙ sym (ap (λ (f : Refusal). spanAnswer f z) (refusal e))
+
+pub same-span : SameSpan
+same-span r ts (inr h) = same-answer r ts _ (λ r⁺. same-forward r ts h)
+same-span r ts (inl x) = same-answer r ts _ (go (leb (firstPosition ts) (lastPosition ts)) refl)
+  where
+    go : (b : Bool) → leb (firstPosition ts) (lastPosition ts) ≡ b → 0 < r → milliseconds r ts ≡ towardZero (dividend ts) r
+    go true e r⁺ = same-forward r ts (leb-true (firstPosition ts) (lastPosition ts) e)
+    go false e r⁺ = same-exact r ts (leb-false (firstPosition ts) (lastPosition ts) e) r⁺ x
+
+pub one-less : OneLess
+one-less r ts n h = same-answer r ts _ (λ r⁺. less r ts h r⁺ n)
+
+-- ---- their size
+
+-- of two positions
+within : (first last r : ℕ) → first < 2 ^ 62 → last < 2 ^ 62 → 1000 ≤ r → natAbs (roundedDown ((pos last -ℤ pos first) *ℤ pos 1000) r) < 2 ^ 62
+within first last r f l h =
+    let d = natAbs (pos last -ℤ pos first) in
+    let far : d ≤ 2 ^ 62 - 1 = abs-diff last first (2 ^ 62 - 1) (omega arith) (omega arith) in
+    let most : natAbs ((pos last -ℤ pos first) *ℤ pos 1000) ≤ d * r = rw (abs-times (pos last -ℤ pos first) 1000) (mul-le-mul-left d h) in
+    omega (arith, down-abs r (omega arith) ((pos last -ℤ pos first) *ℤ pos 1000) d most)
+
+small : (r : ℕ) (ts : List ℕ) → SpanAccepted r ts → natAbs (milliseconds r ts) < 2 ^ 62
+small r [] t = within 0 0 r (omega arith) (omega arith) (rate-low r (t .listed))
+small r (x ∷ ts) t =
+    within (firstPosition (x ∷ ts)) (lastPosition (x ∷ ts)) r (t .low 0 (omega arith)) (t .low (length (x ∷ ts) - 1) (omega arith)) (rate-low r (t .listed))
+
+pub span-fits : SpanFits
+span-fits r ts = by-answer (λ (a : SpanAnswer). natAbs (a .milliseconds) < 2 ^ 62) r ts (λ n p h. omega arith) (small r ts)

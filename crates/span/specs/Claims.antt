@@ -1,0 +1,78 @@
+-- Document 02, No. 6: what a span is, whatever way it is computed, and where it is what document 01 had. Each is proved in proofs/Claims.
+--   SpanAccepted r ts  a rate of the list, at most 4,096 positions, and each at most 2^62 - 1
+--   AcceptsOnly        no other rate and positions are given a span
+--   spanOf z           the answer with the span z
+--   IsFloor m z r      m is the largest whole number that is not above z / r
+--   RoundsDown         these are: the largest whole number of milliseconds that is not above the exact quotient
+--   ZeroShort          and 0 of no points or one
+--   towardZero z r     z divided by r, rounded toward zero, which is document 01's rounding; the standard term is the truncated quotient
+--   answerWith r ts z  the answer of a span, with its tests, if the milliseconds were z
+--   Exact r ts         the rate divides the dividend, so that the division leaves no remainder
+--   SameSpan           there, or where the last position is not below the first, the answer is document 01's, refusals too
+--   OneLess            and everywhere else it has a millisecond less
+--   SpanFits           of any rate and any positions the span is of less than 2^62 milliseconds, so that 64 bits hold it with its sign
+use mathlib.Core.Bool.{true}
+use mathlib.Core.List.{List, [], _∷_, _++_}
+use mathlib.Core.Logic.{_⊎_}
+use mathlib.Core.Path.{_≡_}
+use Prim.Native.Nat.{ℕ, _^_, _≤_, _<_}
+use lib.IntN.{ℤ, pos, natAbs, _-ℤ_, _*ℤ_}
+use lib.ListN.{length, getD}
+use lib.Signed.{quotZ, _≤ℤ_}
+use Rattle.limits.specs.Rates.{isRate}
+use Rattle.refusals.specs.Tests.{firstOf}
+use Rattle.span.specs.declared.SpanAnswer.{SpanAnswer}
+use Rattle.span.specs.Spans.{firstPosition, lastPosition, dividend, spanTests, spanAnswer, spanned}
+
+-- ---- which spans there are
+
+pub record SpanAccepted (r : ℕ) (ts : List ℕ) : Type 0 where
+  pub listed : isRate r ≡ true
+  pub few : length ts ≤ 4096
+  pub low : (k : ℕ) → k < length ts → getD ts k 0 < 2 ^ 62
+
+abbrev pub AcceptsOnly : Type 0
+AcceptsOnly = (r : ℕ) (ts : List ℕ) → spanned r ts .number ≡ 0 → SpanAccepted r ts
+
+-- ---- what they are
+
+-- number 0 and place 0 with it
+abbrev pub spanOf : ℤ → SpanAnswer
+spanOf z = record { number = 0; place = 0; milliseconds = z }
+
+-- for r above 0: n is not above z / r where n times r is not above z
+abbrev pub IsFloor : ℤ → ℤ → ℕ → Type 0
+IsFloor m z r = ((m *ℤ pos r) ≤ℤ z) × ((n : ℤ) → (n *ℤ pos r) ≤ℤ z → n ≤ℤ m)
+
+-- from the first position a to the last, b, whatever stands between them
+abbrev pub RoundsDown : Type 0
+RoundsDown = (r a b : ℕ) (mid : List ℕ)
+    → let ts = a ∷ (mid ++ (b ∷ [])) in
+    SpanAccepted r ts → (m : ℤ) × (spanned r ts ≡ spanOf m) × IsFloor m ((pos b -ℤ pos a) *ℤ pos 1000) r
+
+abbrev pub ZeroShort : Type 0
+ZeroShort = (r : ℕ) (ts : List ℕ) → SpanAccepted r ts → length ts ≤ 1 → spanned r ts ≡ spanOf (pos 0)
+
+-- ---- beside document 01's rounding
+
+abbrev pub towardZero : ℤ → ℕ → ℤ
+towardZero z r = quotZ z (pos r)
+
+abbrev pub answerWith : ℕ → List ℕ → ℤ → SpanAnswer
+answerWith r ts z = spanAnswer (firstOf (spanTests r ts)) z
+
+abbrev pub Exact : ℕ → List ℕ → Type 0
+Exact r ts = (m : ℤ) × (m *ℤ pos r ≡ dividend ts)
+
+abbrev pub SameSpan : Type 0
+SameSpan = (r : ℕ) (ts : List ℕ) → Exact r ts ⊎ (firstPosition ts ≤ lastPosition ts) → spanned r ts ≡ answerWith r ts (towardZero (dividend ts) r)
+
+abbrev pub OneLess : Type 0
+OneLess = (r : ℕ) (ts : List ℕ) → (Exact r ts → ⊥) → lastPosition ts < firstPosition ts
+    → spanned r ts ≡ answerWith r ts (towardZero (dividend ts) r -ℤ pos 1)
+
+-- ---- their size
+
+-- of a refusal it is 0
+abbrev pub SpanFits : Type 0
+SpanFits = (r : ℕ) (ts : List ℕ) → natAbs (spanned r ts .milliseconds) < 2 ^ 62

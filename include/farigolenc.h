@@ -173,8 +173,8 @@ farigolenc_move_answer farigolenc_to_old(
 
 /* The time from the first position to the last, rounded down to the whole
  * millisecond below: at 48000 16 samples forwards are 0, and backwards -1; 48
- * backwards are -1, and 49 are -2. 0 for no position or one. Tests 1, 3 and 4, the
- * last over all positions. Before version 4.0 it was rounded toward zero. */
+ * backwards are -1, and 49 are -2. It is 0 for no position or one. Tests 1, 3 and
+ * 4, the last over all positions. Before version 4.0 it was rounded toward zero. */
 typedef struct {
     uint32_t number, place;
     int64_t milliseconds;

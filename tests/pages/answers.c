@@ -321,24 +321,6 @@ static void body_of_ratios(size_t count)
     }
 }
 
-static void span(uint32_t rate, char **words)
-{
-    farigolenc_span_answer answer;
-    size_t count;
-    for (count = 0; words[count] != NULL && strcmp(words[count], "none") != 0; count++) {
-        if (count == POINTS) {
-            exit(2);
-        }
-        positions[count] = decimal(words[count]);
-    }
-    answer = farigolenc_span(rate, positions, count);
-    if (answer.number != 0 && answer.milliseconds == 0) {
-        printf("refused %" PRIu32 " at %" PRIu32 "\n", answer.number, answer.place);
-    } else if (answer.number == 0 && answer.place == 0) {
-        printf("%" PRId64 "\n", answer.milliseconds);
-    }
-}
-
 static void reason(uint64_t index, char **words)
 {
     farigolenc_explain_answer why;
@@ -360,6 +342,24 @@ static void reason(uint64_t index, char **words)
         printf("exception, best sum %" PRIu32 "\n", why.sum);
     } else if (why.reason == FARIGOLENC_EMPTY_WINDOW) {
         printf("exception, window empty\n");
+    }
+}
+
+static void span(uint32_t rate, char **words)
+{
+    farigolenc_span_answer answer;
+    size_t count;
+    for (count = 0; words[count] != NULL && strcmp(words[count], "none") != 0; count++) {
+        if (count == POINTS) {
+            exit(2);
+        }
+        positions[count] = decimal(words[count]);
+    }
+    answer = farigolenc_span(rate, positions, count);
+    if (answer.number != 0 && answer.milliseconds == 0) {
+        printf("refused %" PRIu32 " at %" PRIu32 "\n", answer.number, answer.place);
+    } else if (answer.number == 0 && answer.place == 0) {
+        printf("%" PRId64 "\n", answer.milliseconds);
     }
 }
 

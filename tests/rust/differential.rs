@@ -1164,10 +1164,10 @@ impl Test {
     }
 
     /// Prints how often each call returned each number, reading and moving each side and the places
-    /// that a side shifts, reading each form, moving no bytes more, some and the most, and explain
-    /// each reason, places at the window's ends, and each sum; each must have come up. The place of
-    /// 18 depends on the positions too, so that 18 itself is counted, without a side (0) and with
-    /// one (1).
+    /// that a side shifts, reading each form, moving no bytes more, some and the most, spans back at
+    /// each rate, and explain each reason, places at the window's ends, and each sum; each must have
+    /// come up. The place of 18 depends on the positions too, so that 18 itself is counted, without
+    /// a side (0) and with one (1).
     fn report(&self) {
         let reading = &[0, 10, 11, 12, 13, 14, 15, 16, 17, 18, 20][..];
         let sides: Vec<u32> = (0..=LAST_SIDE).collect();

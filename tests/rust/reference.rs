@@ -1,6 +1,7 @@
 //! Document 01, and of document 02 the call explain (No. 1), the side of the disc (No. 2), the
-//! wide form (No. 3) and the moves (No. 5), written out plainly: every call with its whole answer
-//! and outputs. It is meant to be compared with the documents line by line, not to be fast.
+//! wide form (No. 3), the moves (No. 5) and the rounding of a span (No. 6), written out plainly:
+//! every call with its whole answer and outputs. It is meant to be compared with the documents line
+//! by line, not to be fast.
 
 use crate::answers::{
     Cursor, Explained, Kind, Live, Making, Moved, Reading, Span, Stepped, Written,

@@ -31,9 +31,10 @@ impl Test {
             for samples in 0..=second {
                 over += u64::from((over + 1) * second <= samples * 1_000);
                 begun += u64::from(begun * second < samples * 1_000);
-                let back = match over == begun {
-                    true => WHOLE_BACK,
-                    false => ROUNDED_BACK,
+                let back = if over == begun {
+                    WHOLE_BACK
+                } else {
+                    ROUNDED_BACK
                 };
                 let most = ((LAST_POSITION - samples) / second) as usize;
                 for seconds in [0, self.random.below(most + 1) as u64] {

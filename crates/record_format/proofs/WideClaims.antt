@@ -11,20 +11,19 @@ use borrow.Author.Tests.{ne-eqb, le-ltb, lt-ltb, leb-true, leb-false}
 use lib.Dec.{ltb, leb, eqb·suc-zero}
 use lib.ListN.{length, getD, drop, length-append}
 use lib.Seq.{getD-append-add}
-use Rattle.lists.specs.Below.{Below}
-use Rattle.lists.specs.Lists.{member, firstIndex}
+use Rattle.lists.specs.Lists.{member}
 use Rattle.bits.specs.Digits.{bytesOf}
 use Rattle.bits.proofs.Digits.{length-digits}
-use Rattle.limits.specs.Points.{maxPoints, maxPosition, tooHigh, firstHigh}
+use Rattle.limits.specs.Points.{maxPoints}
 use Rattle.limits.specs.Rates.{isRate}
 use Rattle.limits.specs.Sides.{maxSide}
+use Rattle.limits.proofs.Points.{none-high}
 use Rattle.refusals.specs.Tests.{Test, test, firstOf}
 use Rattle.refusals.proofs.Tests.{first-here, first-skip}
 use Rattle.position_format.specs.declared.Form.{Form}
 use Rattle.position_format.specs.declared.Form.the-variants.{Old, Wide}
 use Rattle.position_format.specs.Positions.{validPositions, readPositions}
 use Rattle.position_format.specs.Tables.{tableOf, pointsOf}
-use Rattle.position_format.proofs.Lists.{cons-none}
 use Rattle.position_format.proofs.Sizes.{points-few}
 use Rattle.position_format.proofs.Wide.{wide-valid}
 use Rattle.record_format.specs.Fields.{Field, fieldOf, headSize, fieldBytes, laid, tagAt, lengthAt, bodyAt, nextAt, fieldTests}
@@ -64,17 +63,11 @@ refuses-wide r d ts vs = go (isRate r) refl (leb d maxSide) refl
     go true e true q = rw (e, q, le-ltb maxSide d (leb-true d maxSide q))
     go true e false q = rw (e, q, lt-ltb maxSide d (leb-false d maxSide q))
 
--- positions below 2^62 are in range
-none-high : (ts : List ℕ) → Below (2 ^ 62) ts → firstHigh ts ≡ length ts
-unfolding Below firstIndex
-none-high [] h = refl
-none-high (t ∷ ts) h = cons-none tooHigh t ts (le-ltb maxPosition t (omega (arith, h .0))) (none-high ts (h .1))
-
 pub accepts-wide : AcceptsWide
 accepts-wide r d ts vs listed sided paired few low words = record {
   words = words;
   passes = fitting-accepted (run r d Wide ts vs)
-      (record { listed = listed; sided = sided; paired = paired; few = few; valid = wide-valid ts (omega (arith, none-high ts low)) });
+      (record { listed = listed; sided = sided; paired = paired; few = few; valid = wide-valid ts (none-high ts low) });
 }
 
 pub forms-apart : FormsApart

@@ -3,39 +3,31 @@ use mathlib.Core.Bool.{Bool, true, false, not}
 use mathlib.Core.List.{List, [], _∷_, _++_}
 use mathlib.Core.Logic.{inl, inr}
 use mathlib.Core.Path.{_≡_, refl, sym, ap, _∙_, subst}
-use Prim.Native.Nat.{ℕ, suc, _-_, _*_, _/_, _%_, _^_, _≤_, _<_}
+use Prim.Native.Nat.{ℕ, _-_, _*_, _/_, _%_, _^_, _≤_, _<_}
 use native.Mathlib.Nat.{div-add-mod', mul-mod-left, mul-le-mul-left}
 use native.Mathlib.Omega.{arith}
 use borrow.Author.Tests.{ltb-true, ltb-false, leb-true, leb-false}
 use lib.Dec.{ltb, leb}
 use lib.IntN.{ℤ, pos, negℤ, natAbs, _-ℤ_, _*ℤ_}
-use lib.ListN.{length, getD}
-use Rattle.lists.proofs.Lists.{first-at}
+use lib.ListN.{length, length-append}
+use lib.Seq.{getD-at}
+use Rattle.lists.proofs.Below.{below-at}
 use Rattle.integers.proofs.Integers.{abs-neg, abs-diff}
 use Rattle.limits.specs.Rates.{isRate}
-use Rattle.limits.specs.Points.{maxPoints, maxPosition, tooHigh, firstHigh}
+use Rattle.limits.specs.Points.{maxPoints, firstHigh}
 use Rattle.limits.proofs.Rates.{rate-low}
-use Rattle.limits.proofs.Points.{high-none}
+use Rattle.limits.proofs.Points.{none-high, high-below}
 use Rattle.refusals.specs.declared.Refusal.{Refusal}
 use Rattle.refusals.specs.Tests.{firstOf}
 use Rattle.refusals.proofs.Tests.{first-here}
 use Rattle.span.specs.declared.SpanAnswer.{SpanAnswer}
 use Rattle.span.specs.Spans.{roundedDown, firstPosition, lastPosition, dividend, milliseconds, spanTests, spanAnswer, spanned}
 use Rattle.span.specs.Claims.{SpanAccepted, AcceptsOnly, spanOf, IsFloor, RoundsDown, ZeroShort, towardZero, answerWith, Exact, SameSpan, OneLess, SpanFits}
-use Rattle.span.proofs.Rounding.{toward-neg, down-exact, down-rest, down-abs, floor}
+use Rattle.span.proofs.Rounding.{toward-neg, down-exact, down-inexact, down-abs, floor}
 use Rattle.span.proofs.Signed.{neg-less, neg-times, abs-times}
 use Rattle.span.proofs.Spans.{forward, backward, milliseconds-short, no-rate, many-points, high-point, no-refusal}
 
 -- ---- which spans there are
-
-none-high : (ts : List ℕ) → ((k : ℕ) → k < length ts → getD ts k 0 < 2 ^ 62) → length ts ≤ firstHigh ts
-none-high ts low = go (ltb (firstHigh ts) (length ts)) refl
-  where
-    go : (t : Bool) → ltb (firstHigh ts) (length ts) ≡ t → length ts ≤ firstHigh ts
-    go true e =
-        let h = ltb-true (firstHigh ts) (length ts) e in
-        absurd (omega (arith, low (firstHigh ts) h, ltb-true maxPosition (getD ts (firstHigh ts) 0) (first-at tooHigh 0 ts h)))
-    go false e = ltb-false (firstHigh ts) (length ts) e
 
 -- what holds of every refusal, and of the answer where there is none, holds of every answer
 by-answer : (P : SpanAnswer → Type 0) (r : ℕ) (ts : List ℕ)
@@ -52,7 +44,7 @@ by-answer P r ts refusal good = go (isRate r) refl (ltb maxPoints (length ts)) r
     go true e false f false g =
         let few = ltb-false maxPoints (length ts) f in
         let low = ltb-false (firstHigh ts) (length ts) g in
-        subst P (sym (no-refusal r ts e few low)) (good (record { listed = e; few = few; low = high-none ts low }))
+        subst P (sym (no-refusal r ts e few low)) (good (record { listed = e; few = few; low = high-below ts low }))
 
 pub accepts-only : AcceptsOnly
 accepts-only r ts = by-answer (λ (a : SpanAnswer). a .number ≡ 0 → SpanAccepted r ts) r ts (λ n p h e. absurd (omega arith)) (λ t e. t)
@@ -68,11 +60,7 @@ module _ (r : ℕ) (ts : List ℕ) (t : SpanAccepted r ts) where
   answer = no-refusal r ts (t .listed) (t .few) (none-high ts (t .low))
 
 last-is : (a b : ℕ) (mid : List ℕ) → lastPosition (a ∷ (mid ++ (b ∷ []))) ≡ b
-last-is a b [] = refl
-last-is a b (x ∷ mid) =
-    let n = length (mid ++ (b ∷ [])) in
-    let e : suc (suc n) - 1 ≡ suc (suc n - 1) = omega arith in
-    ap (λ (k : ℕ). getD (a ∷ x ∷ (mid ++ (b ∷ []))) k 0) e ∙ last-is x b mid
+last-is a b mid = getD-at (a ∷ mid) b [] 0 (length (a ∷ (mid ++ (b ∷ []))) - 1) (omega (arith, length-append mid (b ∷ [])))
 
 pub rounds-down : RoundsDown
 rounds-down r a b mid t =
@@ -100,8 +88,8 @@ module _ (r : ℕ) (ts : List ℕ) where
     toward-back = ap (λ (z : ℤ). towardZero z r) divided ∙ toward-neg (back * 1000) r
 
     -- exact is that the remainder is 0
-    no-rest : Exact r ts → back * 1000 % r ≡ 0
-    no-rest (m, e) =
+    no-remainder : Exact r ts → back * 1000 % r ≡ 0
+    no-remainder (m, e) =
         let same : natAbs m * r ≡ back * 1000 = sym (abs-times m r) ∙ ap natAbs (e ∙ divided) ∙ abs-neg (pos (back * 1000)) in
         ap (λ (x : ℕ). x % r) (sym same) ∙ mul-mod-left (natAbs m) r
 
@@ -113,12 +101,12 @@ module _ (r : ℕ) (ts : List ℕ) where
     module _ (r⁺ : 0 < r) where
       same-exact : Exact r ts → milliseconds r ts ≡ towardZero (dividend ts) r
       same-exact x =
-          ap (λ (z : ℤ). roundedDown z r) divided ∙ down-exact r r⁺ (back * 1000) (no-rest x) ∙ sym toward-back
+          ap (λ (z : ℤ). roundedDown z r) divided ∙ down-exact r r⁺ (back * 1000) (no-remainder x) ∙ sym toward-back
 
       less : (Exact r ts → ⊥) → milliseconds r ts ≡ towardZero (dividend ts) r -ℤ pos 1
       less n =
           ap (λ (z : ℤ). roundedDown z r) divided
-          ∙ down-rest r r⁺ (back * 1000) (λ e. n (exact e))
+          ∙ down-inexact r r⁺ (back * 1000) (λ e. n (exact e))
           ∙ sym (neg-less (back * 1000 / r))
           ∙ ap (λ (z : ℤ). z -ℤ pos 1) (sym toward-back)
 
@@ -158,7 +146,8 @@ within first last r f l h =
 small : (r : ℕ) (ts : List ℕ) → SpanAccepted r ts → natAbs (milliseconds r ts) < 2 ^ 62
 small r [] t = within 0 0 r (omega arith) (omega arith) (rate-low r (t .listed))
 small r (x ∷ ts) t =
-    within (firstPosition (x ∷ ts)) (lastPosition (x ∷ ts)) r (t .low 0 (omega arith)) (t .low (length (x ∷ ts) - 1) (omega arith)) (rate-low r (t .listed))
+    let low = below-at (2 ^ 62) (omega arith) (x ∷ ts) (t .low) in
+    within (firstPosition (x ∷ ts)) (lastPosition (x ∷ ts)) r (low 0) (low (length (x ∷ ts) - 1)) (rate-low r (t .listed))
 
 pub span-fits : SpanFits
 span-fits r ts = by-answer (λ (a : SpanAnswer). natAbs (a .milliseconds) < 2 ^ 62) r ts (λ n p h. omega arith) (small r ts)

@@ -18,9 +18,9 @@ module _ (d r : ℕ) (r≥ : 1000 ≤ r) where
   pub in-parts : d / r * 1000 + d % r * 1000 / r ≡ d * 1000 / r
   in-parts = sym (ap (λ (x : ℕ). x / r) whole-rest ∙ mul-add-div-right r⁺ (d / r * 1000) (d % r * 1000))
 
-  -- the whole multiples leave no rest
-  pub rest-is : d % r * 1000 % r ≡ d * 1000 % r
-  rest-is = sym (ap (λ (x : ℕ). x % r) whole-rest ∙ mul-add-mod-self-right (d / r * 1000) r (d % r * 1000))
+  -- the whole multiples leave no remainder
+  pub remainder-is : d % r * 1000 % r ≡ d * 1000 % r
+  remainder-is = sym (ap (λ (x : ℕ). x % r) whole-rest ∙ mul-add-mod-self-right (d / r * 1000) r (d % r * 1000))
 
   -- the bounds that keep each step within 64 bits
   pub rest-small : d % r < r

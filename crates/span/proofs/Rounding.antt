@@ -6,7 +6,7 @@ use native.Mathlib.Nat.{zero-div, zero-mod, div-add-mod', div-eq-of-lt-le, mod-l
 use native.Mathlib.Omega.{arith}
 use lib.Dec.{leb→le, le→leb}
 use lib.IntN.{ℤ, pos, negsuc, negℤ, natAbs, _*ℤ_}
-use lib.Signed.{_≤ℤ_}
+use lib.Signed.{_≤ℤ_, leZ-yes}
 use Rattle.span.specs.Spans.{roundedDown}
 use Rattle.span.specs.Claims.{IsFloor, towardZero}
 
@@ -14,13 +14,6 @@ use Rattle.span.specs.Claims.{IsFloor, towardZero}
 pub toward-neg : (x r : ℕ) → towardZero (negℤ (pos x)) r ≡ negℤ (pos (x / r))
 toward-neg zero r = rw zero-div refl
 toward-neg (suc x) r = refl
-
--- the order, by the sign
-le-pos : (a b : ℕ) → a ≤ b → pos a ≤ℤ pos b
-le-pos a b h = record { le = le→leb a b h }
-
-le-neg : (a b : ℕ) → b ≤ a → negsuc a ≤ℤ negsuc b
-le-neg a b h = record { le = le→leb b a h }
 
 module _ (r : ℕ) (r⁺ : 0 < r) where
   -- ---- below 0, by whether the division is exact
@@ -37,9 +30,9 @@ module _ (r : ℕ) (r⁺ : 0 < r) where
       go zero f = absurd (omega arith)
       go (suc q) f = ap negsuc (whole a q (omega arith))
 
-  pub down-rest : (x : ℕ) → (x % r ≡ 0 → ⊥) → roundedDown (negℤ (pos x)) r ≡ negsuc (x / r)
-  down-rest zero n = absurd (n (zero-mod r))
-  down-rest (suc a) n = ap negsuc (div-eq-of-lt-le r (omega (arith, div-add-mod' (suc a) r)) (omega (arith, div-add-mod' (suc a) r, mod-lt (suc a) r⁺)))
+  pub down-inexact : (x : ℕ) → (x % r ≡ 0 → ⊥) → roundedDown (negℤ (pos x)) r ≡ negsuc (x / r)
+  down-inexact zero n = absurd (n (zero-mod r))
+  down-inexact (suc a) n = ap negsuc (div-eq-of-lt-le r (omega (arith, div-add-mod' (suc a) r)) (omega (arith, div-add-mod' (suc a) r, mod-lt (suc a) r⁺)))
 
   -- ---- its size
 
@@ -58,12 +51,12 @@ module _ (r : ℕ) (r⁺ : 0 < r) where
       go (suc n) e = let f : n ≡ suc n - 1 = omega arith in ap negsuc f
 
   pub floor : (z : ℤ) → IsFloor (roundedDown z r) z r
-  floor (pos x) = (le-pos _ _ (div-mul-le-self x r), below)
+  floor (pos x) = (leZ-yes (le→leb (x / r * r) x (div-mul-le-self x r)), below)
     where
       below : (n : ℤ) → (n *ℤ pos r) ≤ℤ pos x → n ≤ℤ pos (x / r)
-      below (pos n) h = le-pos n (x / r) (le-div-iff-mul-le r⁺ .1 (leb→le (n * r) x (h .le)))
-      below (negsuc n) h = record { le = tt }
-  floor (negsuc a) = (rw (times (a / r)) (le-neg _ _ (omega (arith, past))), below)
+      below (pos n) h = leZ-yes (le→leb n (x / r) (le-div-iff-mul-le r⁺ .1 (leb→le (n * r) x (h .le))))
+      below (negsuc n) h = leZ-yes tt
+  floor (negsuc a) = (rw (times (a / r)) (leZ-yes (le→leb a (suc (a / r) * r - 1) (omega (arith, past)))), below)
     where
       past : a < suc (a / r) * r
       past = div-lt-iff-lt-mul r⁺ .0 (omega arith)
@@ -73,4 +66,4 @@ module _ (r : ℕ) (r⁺ : 0 < r) where
       below (negsuc n) h =
           let far : a ≤ suc n * r - 1 = leb→le a (suc n * r - 1) ((rw (times n) at h) .le) in
           let under : a / r < suc n = div-lt-iff-lt-mul r⁺ .1 (omega arith) in
-          le-neg n (a / r) (omega arith)
+          leZ-yes (le→leb (a / r) n (omega arith))

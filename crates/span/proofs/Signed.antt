@@ -1,4 +1,4 @@
--- Laws of negation: in integers, and as the machine computes it.
+-- Laws of negation and of products in integers, and of negation as the machine computes it.
 use mathlib.Core.Path.{_≡_, refl, ap, _∙_}
 use Prim.Native.Nat.{ℕ, zero, suc, _+_, _-_, _*_, _^_, _<_}
 use native.Mathlib.Nat.{zero-mul}

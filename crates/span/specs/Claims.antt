@@ -3,13 +3,14 @@
 --   AcceptsOnly        no other rate and positions are given a span
 --   spanOf z           the answer with the span z
 --   IsFloor m z r      m is the largest whole number that is not above z / r
---   RoundsDown         these are: the largest whole number of milliseconds that is not above the exact quotient
---   ZeroShort          and 0 of no points or one
+--   RoundsDown         of every accepted rate and positions, two or more, the span is the largest whole number of milliseconds that is not above the exact
+--                      quotient
+--   ZeroShort          of no points or one it is 0
 --   towardZero z r     z divided by r, rounded toward zero, which is document 01's rounding; the standard term is the truncated quotient
 --   answerWith r ts z  the answer of a span, with its tests, if the milliseconds were z
 --   Exact r ts         the rate divides the dividend, so that the division leaves no remainder
 --   SameSpan           there, or where the last position is not below the first, the answer is document 01's, refusals too
---   OneLess            and everywhere else it has a millisecond less
+--   OneLess            and everywhere else it has a millisecond less, or is the same refusal
 --   SpanFits           of any rate and any positions the span is of less than 2^62 milliseconds, so that 64 bits hold it with its sign
 use mathlib.Core.Bool.{true}
 use mathlib.Core.List.{List, [], _∷_, _++_}
@@ -17,8 +18,9 @@ use mathlib.Core.Logic.{_⊎_}
 use mathlib.Core.Path.{_≡_}
 use Prim.Native.Nat.{ℕ, _^_, _≤_, _<_}
 use lib.IntN.{ℤ, pos, natAbs, _-ℤ_, _*ℤ_}
-use lib.ListN.{length, getD}
+use lib.ListN.{length}
 use lib.Signed.{quotZ, _≤ℤ_}
+use Rattle.lists.specs.Below.{Below}
 use Rattle.limits.specs.Rates.{isRate}
 use Rattle.refusals.specs.Tests.{firstOf}
 use Rattle.span.specs.declared.SpanAnswer.{SpanAnswer}
@@ -29,7 +31,7 @@ use Rattle.span.specs.Spans.{firstPosition, lastPosition, dividend, span
 pub record SpanAccepted (r : ℕ) (ts : List ℕ) : Type 0 where
   pub listed : isRate r ≡ true
   pub few : length ts ≤ 4096
-  pub low : (k : ℕ) → k < length ts → getD ts k 0 < 2 ^ 62
+  pub low : Below (2 ^ 62) ts
 
 abbrev pub AcceptsOnly : Type 0
 AcceptsOnly = (r : ℕ) (ts : List ℕ) → spanned r ts .number ≡ 0 → SpanAccepted r ts

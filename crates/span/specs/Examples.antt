@@ -31,7 +31,7 @@ back r ts m = record { rate = r; positions = ts; answer = spanOf (negℤ (pos m)
 abbrev refuses : ℕ → List ℕ → ℕ → ℕ → Example
 refuses r ts n p = record { rate = r; positions = ts; answer = record { number = n; place = p; milliseconds = pos 0 } }
 
--- document 01's run; no positions, one, and equal ends, with others between them
+-- document 01's run; no positions, one, and equal ends; 49 samples forward and back, with positions between that lie outside; and as many as there can be
 abbrev plain : List Example
 plain =
     spans 96000 (0 ∷ 960 ∷ 1920 ∷ []) 20
@@ -45,7 +45,7 @@ plain =
     ∷ []
 
 -- back at each rate: a sample, the fewest samples that are whole milliseconds, and one more; at 44,100 and 48,000 samples around a millisecond, at 48,000 a
--- third of one and two seconds, at 176,400 two and a half milliseconds
+-- third of one and two seconds, at 176,400 two and a half milliseconds; and the longest way, at the lowest rate
 abbrev backward : List Example
 backward =
     back 44100 (1 ∷ 0 ∷ []) 1
@@ -76,7 +76,7 @@ backward =
     ∷ back 44100 (maxPosition ∷ 0 ∷ []) 104573379102661858
     ∷ []
 
--- forward at each rate, a sample before whole milliseconds; at 48,000 a third of one, one, and a sample more
+-- forward at each rate, a sample before whole milliseconds; at 48,000 a third of one, one, and a sample more, at 176,400 two and a half; and the longest way
 abbrev onward : List Example
 onward =
     spans 44100 (0 ∷ 440 ∷ []) 9
@@ -87,6 +87,7 @@ onward =
     ∷ spans 88200 (0 ∷ 440 ∷ []) 4
     ∷ spans 96000 (0 ∷ 95 ∷ []) 0
     ∷ spans 176400 (0 ∷ 441 ∷ []) 2
+    ∷ spans 176400 (0 ∷ 881 ∷ []) 4
     ∷ spans 192000 (0 ∷ 191 ∷ []) 0
     ∷ spans 44100 (0 ∷ maxPosition ∷ []) 104573379102661857
     ∷ []

@@ -1,4 +1,4 @@
--- `between` meets its contract: the way forward is the quotient itself, the way back its negation, less one where the division leaves a rest.
+-- `between` meets its contract: the way forward is the quotient itself, the way back its negation, less one where the division leaves a remainder.
 use mathlib.Core.Path.{_≡_, sym, ap, _∙_}
 use Prim.Native.Nat.{ℕ, _-_, _*_, _/_}
 use native.Mathlib.Omega.{arith}
@@ -7,8 +7,8 @@ use lib.IntN.{ℤ, pos, negsuc, negℤ, _-ℤ_, _*ℤ_}
 use mir.Syntax.{w64}
 use mir.ValLaws.{toZ-pos}
 use Rattle.span.specs.Spans.{roundedDown}
-use Rattle.span.proofs.Parts.{rest-is, rest-small}
-use Rattle.span.proofs.Rounding.{down-exact, down-rest}
+use Rattle.span.proofs.Parts.{remainder-is, rest-small}
+use Rattle.span.proofs.Rounding.{down-exact, down-inexact}
 use Rattle.span.proofs.Signed.{neg-fits, neg-back, less-fits, less-back}
 use Rattle.span.proofs.Spans.{forward, backward}
 use Rattle.span.proofs.between.Statement.{statement}
@@ -69,7 +69,7 @@ returns-2 c =
     let d = s .args .first - s .args .last in
     neg-back (k .scaled2 .result) (omega arith)
     ∙ ap (λ (x : ℕ). negℤ (pos x)) (quotient k)
-    ∙ sym (down-exact (s .args .rate) (omega arith) (d * 1000) (sym (rest-is d (s .args .rate) (s .pre .2)) ∙ c .if2 .taken))
+    ∙ sym (down-exact (s .args .rate) (omega arith) (d * 1000) (sym (remainder-is d (s .args .rate) (s .pre .2)) ∙ c .if2 .taken))
     ∙ divided k
 
 sub-result : tie.Need-sub-result
@@ -82,7 +82,7 @@ returns-3 c =
     let d = s .args .first - s .args .last in
     less-back (k .scaled2 .result) (omega arith)
     ∙ ap negsuc (quotient k)
-    ∙ sym (down-rest (s .args .rate) (omega arith) (d * 1000) (λ e. c .if2 .left (rest-is d (s .args .rate) (s .pre .2) ∙ e)))
+    ∙ sym (down-inexact (s .args .rate) (omega arith) (d * 1000) (λ e. c .if2 .left (remainder-is d (s .args .rate) (s .pre .2) ∙ e)))
     ∙ divided k
 
 pub between-spec : {M : Type 1} → statement M

@@ -53,6 +53,19 @@ static uint64_t decimal(const char *word)
     return strtoull(word, NULL, 10);
 }
 
+/* Numbers of a base, or `none`; answers how many. */
+static size_t take_numbers(char **words, int base, uint64_t *to)
+{
+    size_t taken;
+    for (taken = 0; *words != NULL && strcmp(*words, "none") != 0; words++) {
+        if (taken == POINTS) {
+            exit(2);
+        }
+        to[taken++] = strtoull(*words, NULL, base);
+    }
+    return taken;
+}
+
 static void number(uint64_t value, int size)
 {
     while (size-- > 0) {
@@ -248,17 +261,10 @@ static void step(uint32_t form, int64_t step)
     putchar('\n');
 }
 
-static void coded(uint32_t form, size_t count, char **words)
+static void coded(uint32_t form, char **words)
 {
-    farigolenc_write_answer written;
-    size_t i;
-    if (count > POINTS) {
-        exit(2);
-    }
-    for (i = 0; i < count; i++) {
-        positions[i] = decimal(words[i]);
-    }
-    written = farigolenc_write(48000, 0, form, positions, count, ratios, count, bytes, sizeof bytes);
+    const size_t count = take_numbers(words, 10, positions);
+    farigolenc_write_answer written = farigolenc_write(48000, 0, form, positions, count, ratios, count, bytes, sizeof bytes);
     if (written.number != 0) {
         print_refusal(written);
         return;
@@ -323,15 +329,8 @@ static void body_of_ratios(size_t count)
 
 static void reason(uint64_t index, char **words)
 {
-    farigolenc_explain_answer why;
-    size_t count;
-    for (count = 0; words[count] != NULL && strcmp(words[count], "none") != 0; count++) {
-        if (count == POINTS) {
-            exit(2);
-        }
-        ratios[count] = strtoull(words[count], NULL, 16);
-    }
-    why = farigolenc_explain(ratios, count, index);
+    const size_t count = take_numbers(words, 16, ratios);
+    farigolenc_explain_answer why = farigolenc_explain(ratios, count, index);
     if (why.number != 0 && why.reason == 0) {
         printf("refused %" PRIu32 " at %" PRIu32 "\n", why.number, why.place);
     } else if (why.reason == FARIGOLENC_REFERENCE) {
@@ -347,15 +346,8 @@ static void reason(uint64_t index, char **words)
 
 static void span(uint32_t rate, char **words)
 {
-    farigolenc_span_answer answer;
-    size_t count;
-    for (count = 0; words[count] != NULL && strcmp(words[count], "none") != 0; count++) {
-        if (count == POINTS) {
-            exit(2);
-        }
-        positions[count] = decimal(words[count]);
-    }
-    answer = farigolenc_span(rate, positions, count);
+    const size_t count = take_numbers(words, 10, positions);
+    farigolenc_span_answer answer = farigolenc_span(rate, positions, count);
     if (answer.number != 0 && answer.milliseconds == 0) {
         printf("refused %" PRIu32 " at %" PRIu32 "\n", answer.number, answer.place);
     } else if (answer.number == 0 && answer.place == 0) {
@@ -494,7 +486,7 @@ int main(int count, char **words)
     } else if (strcmp(mode, "step") == 0 && count == 4) {
         step((uint32_t)decimal(words[2]), strtoll(words[3], NULL, 10));
     } else if (strcmp(mode, "coded") == 0 && count > 3) {
-        coded((uint32_t)decimal(words[2]), (size_t)count - 3, words + 3);
+        coded((uint32_t)decimal(words[2]), words + 3);
     } else if (strcmp(mode, "positions") == 0 && count > 4) {
         body_length = take_bytes(words + 4, body);
         body_of_positions((uint32_t)decimal(words[2]), (size_t)decimal(words[3]));

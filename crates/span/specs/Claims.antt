@@ -28,11 +28,13 @@ use Rattle.span.specs.Spans.{firstPosition, lastPosition, dividend, span
 
 -- ---- which spans there are
 
+-- what no test of a span refuses
 pub record SpanAccepted (r : ℕ) (ts : List ℕ) : Type 0 where
   pub listed : isRate r ≡ true
   pub few : length ts ≤ 4096
   pub low : Below (2 ^ 62) ts
 
+-- that each of these is accepted is in RoundsDown and ZeroShort
 abbrev pub AcceptsOnly : Type 0
 AcceptsOnly = (r : ℕ) (ts : List ℕ) → spanned r ts .number ≡ 0 → SpanAccepted r ts
 
@@ -52,23 +54,29 @@ RoundsDown = (r a b : ℕ) (mid : List ℕ)
     → let ts = a ∷ (mid ++ (b ∷ [])) in
     SpanAccepted r ts → (m : ℤ) × (spanned r ts ≡ spanOf m) × IsFloor m ((pos b -ℤ pos a) *ℤ pos 1000) r
 
+-- where there is no last position beside the first
 abbrev pub ZeroShort : Type 0
 ZeroShort = (r : ℕ) (ts : List ℕ) → SpanAccepted r ts → length ts ≤ 1 → spanned r ts ≡ spanOf (pos 0)
 
 -- ---- beside document 01's rounding
 
+-- the sign has no part in it: -z is rounded to what z is, with the other sign
 abbrev pub towardZero : ℤ → ℕ → ℤ
 towardZero z r = quotZ z (pos r)
 
+-- with the quotient rounded toward zero it is document 01's answer, whole
 abbrev pub answerWith : ℕ → List ℕ → ℤ → SpanAnswer
 answerWith r ts z = spanAnswer (firstOf (spanTests r ts)) z
 
+-- for some whole number of milliseconds, of any sign
 abbrev pub Exact : ℕ → List ℕ → Type 0
 Exact r ts = (m : ℤ) × (m *ℤ pos r ≡ dividend ts)
 
+-- "where the division is exact, or the last position is not below the first, nothing changes"
 abbrev pub SameSpan : Type 0
 SameSpan = (r : ℕ) (ts : List ℕ) → Exact r ts ⊎ (firstPosition ts ≤ lastPosition ts) → spanned r ts ≡ answerWith r ts (towardZero (dividend ts) r)
 
+-- the two conditions are the opposites of those above
 abbrev pub OneLess : Type 0
 OneLess = (r : ℕ) (ts : List ℕ) → (Exact r ts → ⊥) → lastPosition ts < firstPosition ts
     → spanned r ts ≡ answerWith r ts (towardZero (dividend ts) r -ℤ pos 1)

@@ -107,6 +107,7 @@ refusals =
     ∷ refuses 48000 (49 ∷ (2 ^ 62) ∷ (2 ^ 62) ∷ 0 ∷ []) 4 1
     ∷ []
 
+-- all of them
 pub examples : List Example
 examples = plain ++ (backward ++ (onward ++ refusals))
 

@@ -24,10 +24,11 @@ use Rattle.span.specs.declared.SpanAnswer.{SpanAnswer}
 abbrev pub roundedDown : ℤ → ℕ → ℤ
 roundedDown z r = shrZ z r
 
--- of no points both are 0
+-- of no points this and the next are 0
 abbrev pub firstPosition : List ℕ → ℕ
 firstPosition ts = getD ts 0 0
 
+-- the one with the highest index, which need not be the largest
 abbrev pub lastPosition : List ℕ → ℕ
 lastPosition ts = getD ts (length ts - 1) 0
 
@@ -35,6 +36,7 @@ lastPosition ts = getD ts (length ts - 1) 0
 abbrev pub dividend : List ℕ → ℤ
 dividend ts = (pos (lastPosition ts) -ℤ pos (firstPosition ts)) *ℤ pos 1000
 
+-- positions and 1,000 times their difference are whole numbers, so this is the one place where something is rounded
 abbrev pub milliseconds : ℕ → List ℕ → ℤ
 milliseconds r ts = roundedDown (dividend ts) r
 

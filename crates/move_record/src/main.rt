@@ -84,9 +84,7 @@ fn put_moved_line(out: &mut [u8], used: u64, wrote: u64) -> usize
     requires { ⌜ lineLimit ≤ length (now out) ⌝ }
     ensures { λ r. ⌜ PlacedAt lineLimit (movedLine used wrote) 0 r (now (out .entry)) (now (out .exit)) ⌝ }
 {
-    let first = text::put_text(out, 0, b"moved ");
-    let second = text::put_decimal(out, first, used);
-    text::put_named(out, second, b" to ", wrote)
+    text::put_two(out, 0, b"moved ", used, b" to ", wrote)
 }
 
 // The line of an answer.

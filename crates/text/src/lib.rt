@@ -75,6 +75,24 @@ pub fn put_named(out: &mut [u8], at: usize, word: &[u8], n: u64) -> usize
     put_text(out, end, b"\n")
 }
 
+// A word and a number in base 10, another word and another number, and the line's end.
+pub fn put_two(
+    out: &mut [u8],
+    at: usize,
+    first: &[u8],
+    m: u64,
+    second: &[u8],
+    n: u64,
+) -> usize
+    requires { ⌜ at + (length (now first) + (20 + (length (now second) + 21))) ≤ length (now out) ⌝ }
+    ensures { λ r. ⌜ PlacedAt (length (now (first .entry)) + (20 + (length (now (second .entry)) + 21)))
+        (now (first .entry) ++ (decimal m ++ (now (second .entry) ++ (decimal n ++ newline)))) at r (now (out .entry)) (now (out .exit)) ⌝ }
+{
+    let number = put_text(out, at, first);
+    let word = put_decimal(out, number, m);
+    put_named(out, word, second, n)
+}
+
 // The line of the rate.
 fn put_rate(out: &mut [u8], at: usize, rate: u32) -> usize
     requires { ⌜ at + 26 ≤ length (now out) ⌝ }
@@ -128,9 +146,14 @@ pub fn put_refused(out: &mut [u8], at: usize, number: u32, place: u32) -> usize
     requires { ⌜ at + 53 ≤ length (now out) ⌝ }
     ensures { λ r. ⌜ PlacedAt 53 (refusedLine number place) at r (now (out .entry)) (now (out .exit)) ⌝ }
 {
-    let first = put_text(out, at, b"refused ");
-    let gap = put_decimal(out, first, number as u64);
-    put_named(out, gap, b" at ", place as u64)
+    put_two(
+        out,
+        at,
+        b"refused ",
+        number as u64,
+        b" at ",
+        place as u64,
+    )
 }
 
 // The lines of the points.

@@ -81,7 +81,7 @@ module _ {s : List ℕ} {r : ReadAnswer} {ts vs : List ℕ} (h : Read s r ts vs)
 -- ---- what a program reads of a record, and of all else
 
 -- the room is enough
-roomy : (n : ℕ) → n ≤ maxPoints → n ≤ length blank
+pub roomy : (n : ℕ) → n ≤ maxPoints → n ≤ length blank
 unfolding blank
 roomy n h = omega (arith, length-replicate {A = ℕ} maxPoints 0)
 
@@ -92,12 +92,15 @@ record-uncut r a rest =
     let e : inputLimit ≡ length (recordOf r) + (inputLimit - length (recordOf r)) = omega arith in
     ap (λ (n : ℕ). take n (recordOf r ++ rest)) e ∙ take-append-add (recordOf r) rest (inputLimit - length (recordOf r))
 
+-- strict reading with this room gives back the run
+pub reads-blank : (r : Run) → Accepted r → (rest : List ℕ) → readStrict 0 (recordOf r ++ rest) blank blank ≡ ownAnswer r blank blank
+reads-blank r a rest =
+    let few = fitting-few r (accepted-fits r (a .passes)) in
+    reads-back r a 0 rest blank blank .0 ∙ with-room r blank blank (roomy (length (r .positions)) few) (roomy (length (r .positions)) few)
+
 pub reads-record : (r : Run) → Accepted r → (rest : List ℕ) → readInput (recordOf r ++ rest) ≡ ownAnswer r blank blank
 reads-record r a rest =
-    let few = fitting-few r (accepted-fits r (a .passes)) in
-    ap (λ (l : List ℕ). readStrict 0 l blank blank) (record-uncut r a rest)
-    ∙ reads-back r a 0 (take (inputLimit - length (recordOf r)) rest) blank blank .0
-    ∙ with-room r blank blank (roomy (length (r .positions)) few) (roomy (length (r .positions)) few)
+    ap (λ (l : List ℕ). readStrict 0 l blank blank) (record-uncut r a rest) ∙ reads-blank r a (take (inputLimit - length (recordOf r)) rest)
 
 pub reads-no-other : (s : List ℕ) → Bytes s → ((r : Run) → Accepted r → Beginning (recordOf r) s → ⊥) → readInput s .answer .number ≡ 0 → ⊥
 reads-no-other s b never e =

@@ -210,7 +210,7 @@ tests-flat k e s m n = front-flat e s (roomTests s m n ++ (positionsTests s ++ r
 
 -- no test of the side, nor of the front, has the number of a success
 
-abbrev side-of : List ℕ → Bool → List Test
+abbrev pub side-of : List ℕ → Bool → List Test
 side-of s b = cond b (fieldTests s (sideTag ∷ []) (some sideSize) (sideAt s) ++ (test (not (isSide (sideIn s))) 20 (sideAt s) ∷ [])) []
 
 pub side-numbered : (s : List ℕ) → numbered (sideTests s) ≡ true

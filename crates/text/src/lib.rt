@@ -76,14 +76,7 @@ pub fn put_named(out: &mut [u8], at: usize, word: &[u8], n: u64) -> usize
 }
 
 // A word and a number in base 10, another word and another number, and the line's end.
-pub fn put_two(
-    out: &mut [u8],
-    at: usize,
-    first: &[u8],
-    m: u64,
-    second: &[u8],
-    n: u64,
-) -> usize
+pub fn put_two(out: &mut [u8], at: usize, first: &[u8], m: u64, second: &[u8], n: u64) -> usize
     requires { ⌜ at + (length (now first) + (20 + (length (now second) + 21))) ≤ length (now out) ⌝ }
     ensures { λ r. ⌜ PlacedAt (length (now (first .entry)) + (20 + (length (now (second .entry)) + 21)))
         (now (first .entry) ++ (decimal m ++ (now (second .entry) ++ (decimal n ++ newline)))) at r (now (out .entry)) (now (out .exit)) ⌝ }
@@ -146,14 +139,7 @@ pub fn put_refused(out: &mut [u8], at: usize, number: u32, place: u32) -> usize
     requires { ⌜ at + 53 ≤ length (now out) ⌝ }
     ensures { λ r. ⌜ PlacedAt 53 (refusedLine number place) at r (now (out .entry)) (now (out .exit)) ⌝ }
 {
-    put_two(
-        out,
-        at,
-        b"refused ",
-        number as u64,
-        b" at ",
-        place as u64,
-    )
+    put_two(out, at, b"refused ", number as u64, b" at ", place as u64)
 }
 
 // The lines of the points.

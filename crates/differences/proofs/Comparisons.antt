@@ -1,0 +1,216 @@
+-- Two strings of bytes compared: by what strict reading answered of each, of two records, and of all else.
+use mathlib.Core.Bool.{Bool, true, false, cond}
+use mathlib.Core.List.{List, [], _∷_, _++_}
+use mathlib.Core.Path.{_≡_, refl, sym, ap, ap₂, subst, _∙_}
+use Prim.Native.Nat.{ℕ, _≤_, min}
+use native.Mathlib.Omega.{arith}
+use borrow.Author.Tests.{eqb-true, eqb-false, eq-eqb, ne-eqb}
+use lib.Dec.{eqb}
+use lib.ListN.{length, take}
+use Rattle.limits.specs.Points.{maxPoints}
+use Rattle.position_format.specs.declared.Form as form
+use Rattle.record_format.specs.Claims.{Accepted, Beginning, Bytes, ownAnswer}
+use Rattle.record_format.specs.Reading.{Answer, readStrict}
+use Rattle.record_format.specs.Runs.{Run, run, positionsTag, recordOf}
+use Rattle.record_format.specs.declared.ReadAnswer.{ReadAnswer}
+use Rattle.record_format.proofs.Claims.{reads-only, trailing-bytes}
+use Rattle.record_format.proofs.Followed.{followed}
+use Rattle.record_format.proofs.Runs.{form-of}
+use Rattle.record_format.proofs.Writing.{accepted-fits}
+use Rattle.ratio_format.specs.Bodies.{strictRatios}
+use Rattle.inputs.specs.Inputs.{blank}
+use Rattle.inputs.proofs.Inputs.{over-front, roomy, reads-blank}
+use Rattle.differences.specs.declared.Property.the-variants.{Rate, Side, Count, Form}
+use Rattle.differences.specs.declared.OverallDifferences.{OverallDifferences}
+use Rattle.differences.specs.Differences.{overallDifference, moreDifference, listed, pointsTo, differences}
+use Rattle.differences.specs.Overall.{refusedOverall, overallRead, overallOf}
+use Rattle.differences.specs.Comparisons.{Comparison, runOf, refusedBy, compared, comparison}
+use Rattle.differences.specs.Claims.{Compares, ComparesOnly, EmptyExactly, RefusesFirst, RefusesSecond, ByCalls, ComparisonTrailing, ComparisonFollowed}
+use Rattle.differences.proofs.Claims.{same-run, none-own}
+use Rattle.differences.proofs.Overall.{overall-first, overall-second, overall-both}
+use Rattle.differences.proofs.Rooms.{any-room, not-expected, not-roomless}
+
+-- ---- by two answers
+
+module _ (a b : Answer) where
+  pub compared-first : (a .answer .number ≡ 0 → ⊥) → compared a b ≡ refusedBy (a .answer) 1
+  unfolding compared
+  compared-first n = rw (ne-eqb (a .answer .number) 0 n)
+
+  pub compared-second : a .answer .number ≡ 0 → (b .answer .number ≡ 0 → ⊥) → compared a b ≡ refusedBy (b .answer) 2
+  unfolding compared
+  compared-second ok n = rw (eq-eqb (a .answer .number) 0 ok, ne-eqb (b .answer .number) 0 n)
+
+  pub compared-both : a .answer .number ≡ 0 → b .answer .number ≡ 0 → compared a b ≡ record { number = 0; place = 0; which = 0; list = differences (runOf a) (runOf b) }
+  unfolding compared
+  compared-both ok fine = rw (eq-eqb (a .answer .number) 0 ok, eq-eqb (b .answer .number) 0 fine)
+
+  -- where neither was refused
+  pub compared-clear : compared a b .number ≡ 0 → (a .answer .number ≡ 0) × (b .answer .number ≡ 0)
+  compared-clear e = go (eqb (a .answer .number) 0) refl (eqb (b .answer .number) 0) refl
+    where
+      go : (t : Bool) → eqb (a .answer .number) 0 ≡ t → (u : Bool) → eqb (b .answer .number) 0 ≡ u → (a .answer .number ≡ 0) × (b .answer .number ≡ 0)
+      go true w true v = (eqb-true _ _ w, eqb-true _ _ v)
+      go true w false v = absurd (eqb-false _ _ v (sym (ap (λ (c : Comparison). c .number) (compared-second (eqb-true _ _ w) (eqb-false _ _ v))) ∙ e))
+      go false w u v = absurd (eqb-false _ _ w (sym (ap (λ (c : Comparison). c .number) (compared-first (eqb-false _ _ w))) ∙ e))
+
+-- ---- of two records
+
+-- the run of a record's own answer
+pub own-run : (r : Run) → Accepted r → runOf (ownAnswer r blank blank) ≡ r
+own-run r a =
+    let f = accepted-fits r (a .passes) in
+    let o = ownAnswer r blank blank in
+    let n = length (r .positions) in
+    ap (λ (x : form.Form). run (r .rate) (r .side) x (take n (o .positions)) (take n (o .ratios))) (form-of (r .form))
+    ∙ ap₂ (λ (x y : List ℕ). run (r .rate) (r .side) (r .form) x y)
+    (over-front (r .positions) blank (length (r .positions)) refl) (over-front (r .ratios) blank (length (r .positions)) (f .paired))
+
+pub compared-own : (r q : Run) → Accepted r → Accepted q
+    → compared (ownAnswer r blank blank) (ownAnswer q blank blank) ≡ record { number = 0; place = 0; which = 0; list = differences r q }
+compared-own r q a b =
+    compared-both (ownAnswer r blank blank) (ownAnswer q blank blank) refl refl
+    ∙ ap₂ (λ (x y : Run). record { number = 0; place = 0; which = 0; list = differences x y }) (own-run r a) (own-run q b)
+
+pub compares : Compares
+compares r q a b x y = ap₂ compared (reads-blank r a x) (reads-blank q b y) ∙ compared-own r q a b
+
+pub compares-only : ComparesOnly
+compares-only s t u v e =
+    let h = compared-clear (readStrict 0 s blank blank) (readStrict 0 t blank blank) e in
+    let r = reads-only 0 s blank blank u (h .0) in
+    let q = reads-only 0 t blank blank v (h .1) in
+    (r .0, q .0, r .1, q .1, r .2, q .2, ap₂ compared (r .3) (q .3) ∙ compared-own (r .0) (q .0) (r .1) (q .1))
+
+pub empty-exactly : EmptyExactly
+empty-exactly s t u v = (
+  λ e.
+      let c = compares-only s t u v (e .0) in
+      let r : Run = c .0 in
+      let same = same-run r (c .1) (c .2) (c .3) (sym (ap (λ (x : Comparison). x .list) (c .6)) ∙ e .1) in
+      (r, c .2, c .4, subst (λ (x : Run). Beginning (recordOf x) t) (sym same) (c .5)),
+  λ h.
+      let r : Run = h .0 in
+      let is : comparison s t ≡ record { number = 0; place = 0; which = 0; list = differences r r } =
+      ap₂ comparison (h .2 .1) (h .3 .1) ∙ compares r r (h .1) (h .1) (h .2 .0) (h .3 .0) in
+      (ap (λ (x : Comparison). x .number) is, ap (λ (x : Comparison). x .list) is ∙ none-own r (h .1)),
+)
+
+-- ---- of all else
+
+-- what begins with no record is refused, with whatever room
+module _ (s ts vs : List ℕ) (bytes : Bytes s) (m : maxPoints ≤ length ts) (n : maxPoints ≤ length vs) (never : (r : Run) → Accepted r → Beginning (recordOf r) s → ⊥) where
+  pub refused-some : readStrict 0 s ts vs .answer .number ≡ 0 → ⊥
+  refused-some e = let r = reads-only 0 s ts vs bytes e in never (r .0) (r .1) (r .2)
+
+  -- as with the room that a comparison has
+  refused-alike : readStrict 0 s blank blank .answer ≡ readStrict 0 s ts vs .answer
+  refused-alike = any-room s blank blank (roomy maxPoints (omega arith)) (roomy maxPoints (omega arith)) ts vs m n
+
+pub refuses-first : RefusesFirst
+refuses-first s t ts vs u m n never = (
+  refused-some s ts vs u m n never,
+  not-expected s ts vs m n,
+  not-roomless s ts vs m n,
+  compared-first (readStrict 0 s blank blank) (readStrict 0 t blank blank)
+      (refused-some s blank blank u (roomy maxPoints (omega arith)) (roomy maxPoints (omega arith)) never)
+      ∙ ap (λ (a : ReadAnswer). refusedBy a 1) (refused-alike s ts vs u m n never),
+)
+
+pub refuses-second : RefusesSecond
+refuses-second r a x t ts vs u m n never = (
+  refused-some t ts vs u m n never,
+  not-expected t ts vs m n,
+  not-roomless t ts vs m n,
+  compared-second (readStrict 0 (recordOf r ++ x) blank blank) (readStrict 0 t blank blank)
+      (ap (λ (b : Answer). b .answer .number) (reads-blank r a x))
+      (refused-some t blank blank u (roomy maxPoints (omega arith)) (roomy maxPoints (omega arith)) never)
+      ∙ ap (λ (b : ReadAnswer). refusedBy b 2) (refused-alike t ts vs u m n never),
+)
+
+-- ---- by what the calls answer
+
+-- what ByCalls says of the differences h that are of no index, of the comparison c, and of the answers a and b
+abbrev MadeUp : OverallDifferences → Comparison → Answer → Answer → Type 0
+MadeUp h c a b =
+    (h .number ≡ c .number) × (h .place ≡ c .place) × (h .which ≡ c .which)
+    × ((h .number ≡ 0 → ⊥) → h ≡ refusedOverall (c .number) (c .place) (c .which))
+    × (h .number ≡ 0
+    → c .list
+    ≡ listed (h .rate)
+    ++ (listed (h .side)
+    ++ (listed (h .count)
+    ++ (listed (h .form)
+    ++ (pointsTo (runOf a) (runOf b) (min (a .answer .count) (b .answer .count))
+    ++ listed (h .more))))))
+
+-- a refusal
+made-refused : (n p w : ℕ) → (n ≡ 0 → ⊥) → (a b : Answer) → MadeUp (refusedOverall n p w) (record { number = n; place = p; which = w; list = [] }) a b
+made-refused n p w d a b = (refl, refl, refl, λ _. refl, λ e. absurd (d e))
+
+-- two records
+made-own : (r q : Run) → Accepted r → Accepted q → let a = ownAnswer r blank blank in let b = ownAnswer q blank blank in
+    MadeUp (overallRead (a .answer) (b .answer)) (record { number = 0; place = 0; which = 0; list = differences r q }) a b
+unfolding differences
+made-own r q a b = (
+  refl,
+  refl,
+  refl,
+  λ d. absurd (d refl),
+  λ _.
+      ap₂
+      (λ (x y : Run). listed (overallDifference Rate (r .rate) (q .rate))
+      ++ (listed (overallDifference Side (r .side) (q .side))
+      ++ (listed (overallDifference Count (length (r .positions)) (length (q .positions)))
+      ++ (listed (overallDifference Form (positionsTag (r .form)) (positionsTag (q .form)))
+      ++ (pointsTo x y (min (length (r .positions)) (length (q .positions)))
+      ++ listed (moreDifference (length (r .positions)) (length (q .positions))))))))
+      (sym (own-run r a)) (sym (own-run q b)),
+)
+
+pub by-calls : ByCalls
+by-calls s t u v = go (eqb (a .answer .number) 0) refl (eqb (b .answer .number) 0) refl
+  where
+    a : Answer
+    a = readStrict 0 s blank blank
+
+    b : Answer
+    b = readStrict 0 t blank blank
+
+    go : (x : Bool) → eqb (a .answer .number) 0 ≡ x → (y : Bool) → eqb (b .answer .number) 0 ≡ y → MadeUp (overallOf (a .answer) (b .answer)) (compared a b) a b
+    go false w y z =
+        let d = eqb-false _ _ w in
+        subst (λ (h : OverallDifferences). MadeUp h (compared a b) a b) (overall-first (a .answer) (b .answer) d)
+        (subst (λ (c : Comparison). MadeUp (refusedOverall (a .answer .number) (a .answer .place) 1) c a b) (sym (compared-first a b d))
+        (made-refused (a .answer .number) (a .answer .place) 1 d a b))
+    go true w false z =
+        let ok = eqb-true _ _ w in
+        let d = eqb-false _ _ z in
+        subst (λ (h : OverallDifferences). MadeUp h (compared a b) a b) (overall-second (a .answer) (b .answer) ok d)
+        (subst (λ (c : Comparison). MadeUp (refusedOverall (b .answer .number) (b .answer .place) 2) c a b) (sym (compared-second a b ok d))
+        (made-refused (b .answer .number) (b .answer .place) 2 d a b))
+    go true w true z =
+        let r = reads-only 0 s blank blank u (eqb-true _ _ w) in
+        let q = reads-only 0 t blank blank v (eqb-true _ _ z) in
+        subst (λ (x : Answer). MadeUp (overallOf (x .answer) (b .answer)) (compared x b) x b) (sym (r .3))
+        (subst (λ (y : Answer). MadeUp (overallOf (ownAnswer (r .0) blank blank .answer) (y .answer)) (compared (ownAnswer (r .0) blank blank) y) (ownAnswer (r .0) blank blank) y) (sym (q .3))
+        (own (r .0) (q .0) (r .1) (q .1)))
+      where
+        own : (r q : Run) → Accepted r → Accepted q → let o = ownAnswer r blank blank in let p = ownAnswer q blank blank in MadeUp (overallOf (o .answer) (p .answer)) (compared o p) o p
+        own r q h k =
+            let o = ownAnswer r blank blank in
+            let p = ownAnswer q blank blank in
+            subst (λ (x : OverallDifferences). MadeUp x (compared o p) o p) (overall-both (o .answer) (p .answer) refl refl)
+            (subst (λ (c : Comparison). MadeUp (overallRead (o .answer) (p .answer)) c o p) (sym (compared-own r q h k)) (made-own r q h k))
+
+-- ---- bytes behind
+
+pub comparison-trailing : ComparisonTrailing
+comparison-trailing r a rest s =
+    let e = trailing-bytes r a 0 rest blank blank .0 in
+    (ap (λ (x : Answer). compared x (readStrict 0 s blank blank)) e, ap (compared (readStrict 0 s blank blank)) e)
+
+pub comparison-followed : ComparisonFollowed
+comparison-followed t rest s whole =
+    let e = followed strictRatios 0 t rest blank blank whole in
+    (ap (λ (x : Answer). compared x (readStrict 0 s blank blank)) e, ap (compared (readStrict 0 s blank blank)) e)

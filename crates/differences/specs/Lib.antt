@@ -1,0 +1,5 @@
+pub mod Differences
+pub mod Overall
+pub mod Comparisons
+pub mod Claims
+pub mod Examples

@@ -1,0 +1,36 @@
+-- Document 02, No. 7: the differences that are of no index, by what strict reading answered of two records.
+--   refusedOverall n p w   a refusal: its number, its place, and which record it was, 1 or 2; no difference beside it
+--   overallRead a b        the differences where neither was refused
+--   overallOf a b          the refusal of the first record, else that of the second, else the differences
+use mathlib.Core.Bool.{cond}
+use Prim.Native.Nat.{ℕ}
+use lib.Dec.{eqb}
+use Rattle.record_format.specs.declared.ReadAnswer.{ReadAnswer}
+use Rattle.differences.specs.declared.Property.the-variants.{Rate, Side, Count, Form}
+use Rattle.differences.specs.declared.Difference.the-variants.{Equal}
+use Rattle.differences.specs.declared.OverallDifferences.{OverallDifferences}
+use Rattle.differences.specs.Differences.{overallDifference, moreDifference}
+
+-- of a refusal
+abbrev pub refusedOverall : ℕ → ℕ → ℕ → OverallDifferences
+refusedOverall n p w = record { number = n; place = p; which = w; rate = Equal; side = Equal; count = Equal; form = Equal; more = Equal }
+
+-- of two records that were read
+abbrev pub overallRead : ReadAnswer → ReadAnswer → OverallDifferences
+overallRead a b = record {
+  number = 0;
+  place = 0;
+  which = 0;
+  rate = overallDifference Rate (a .rate) (b .rate);
+  side = overallDifference Side (a .side) (b .side);
+  count = overallDifference Count (a .count) (b .count);
+  form = overallDifference Form (a .form) (b .form);
+  more = moreDifference (a .count) (b .count);
+}
+
+-- the first record first
+unfoldable pub overallOf : ReadAnswer → ReadAnswer → OverallDifferences
+overallOf a b =
+    cond (eqb (a .number) 0)
+    (cond (eqb (b .number) 0) (overallRead a b) (refusedOverall (b .number) (b .place) 2))
+    (refusedOverall (a .number) (a .place) 1)

@@ -1,0 +1,162 @@
+// What differs between two records (document 02, No. 7), by what strict reading answered of each: all but the points in one call, and the points
+// one index at a time, so that no call needs room for the differences.
+ghost use mathlib.Core.Path.{_≡_};
+ghost use Rattle.differences.specs.Differences.{valuesAt, overallDifference, moreDifference, positionAt, ratioAt};
+ghost use Rattle.differences.specs.Overall.{refusedOverall, overallOf};
+use kind::Kind;
+use kind::kind_of;
+use record_format::ReadAnswer;
+
+// What a record has besides its points.
+pub enum Property {
+    Rate,
+    Side,
+    Count,
+    Form,
+}
+
+// One difference: none; a property with its value in the first record and in the second, where a form's value is its tag; the position at an index,
+// with both; the ratio at an index, with the bits and the kind of both; or how many points only the longer run has.
+pub enum Difference {
+    Equal,
+    Overall(Property, u32, u32),
+    Position(u64, u64, u64),
+    Ratio {
+        index: u64,
+        first: u64,
+        first_kind: Kind,
+        second: u64,
+        second_kind: Kind,
+    },
+    More(u32),
+}
+
+// Two values that are not the same, or else nothing.
+pub enum Values {
+    Same,
+    Other(u64, u64),
+}
+
+// The differences that are of no index, or the refusal: its number, its place, and which record was refused, 1 or 2.
+pub struct OverallDifferences {
+    pub number: u32,
+    pub place: u32,
+    pub which: u32,
+    pub rate: Difference,
+    pub side: Difference,
+    pub count: Difference,
+    pub form: Difference,
+    pub more: Difference,
+}
+
+// A refusal: no difference beside it.
+fn refused_overall(number: u32, place: u32, which: u32) -> OverallDifferences
+    ensures { λ r. ⌜ r ≡ refusedOverall number place which ⌝ }
+{
+    OverallDifferences {
+        number,
+        place,
+        which,
+        rate: Difference::Equal,
+        side: Difference::Equal,
+        count: Difference::Equal,
+        form: Difference::Equal,
+        more: Difference::Equal,
+    }
+}
+
+// The difference in a property, by its value in each record.
+fn overall_difference(property: Property, first: u32, second: u32) -> Difference
+    ensures { λ r. ⌜ r ≡ overallDifference property first second ⌝ }
+{
+    if first == second {
+        return Difference::Equal;
+    }
+    Difference::Overall(property, first, second)
+}
+
+// The points that only the longer run has, by both counts.
+fn more_difference(first: u32, second: u32) -> Difference
+    ensures { λ r. ⌜ r ≡ moreDifference first second ⌝ }
+{
+    if first == second {
+        return Difference::Equal;
+    }
+    if first < second {
+        return Difference::More(second - first);
+    }
+    Difference::More(first - second)
+}
+
+// The differences in the properties, by what strict reading answered of each record, and the points that only the longer run has. A record that
+// was refused is answered by its refusal, the first before the second.
+pub fn overall_of(first: ReadAnswer, second: ReadAnswer) -> OverallDifferences
+    ensures { λ r. ⌜ r ≡ overallOf first second ⌝ }
+{
+    let first_number = first.number;
+    if first_number != 0 {
+        return refused_overall(first_number, first.place, 1);
+    }
+    let second_number = second.number;
+    if second_number != 0 {
+        return refused_overall(second_number, second.place, 2);
+    }
+    OverallDifferences {
+        number: 0,
+        place: 0,
+        which: 0,
+        rate: overall_difference(Property::Rate, first.rate, second.rate),
+        side: overall_difference(Property::Side, first.side, second.side),
+        count: overall_difference(Property::Count, first.count, second.count),
+        form: overall_difference(Property::Form, first.form, second.form),
+        more: more_difference(first.count, second.count),
+    }
+}
+
+// The values at an index, where both lists have one there and they are not the same.
+fn values_at(first: &[u64], second: &[u64], index: u64) -> Values
+    ensures { λ r. ⌜ r ≡ valuesAt (now (first .entry)) (now (second .entry)) index ⌝ }
+{
+    if first.len() as u64 <= index {
+        return Values::Same;
+    }
+    if second.len() as u64 <= index {
+        return Values::Same;
+    }
+    let i = index as usize;
+    let a = first[i];
+    let b = second[i];
+    if a == b {
+        return Values::Same;
+    }
+    Values::Other(a, b)
+}
+
+// The difference between two runs' positions at an index; none at an index that not both have. Each slice is a run's positions and no more: of what a
+// reading was lent, the first `count` numbers.
+pub fn position_at(first: &[u64], second: &[u64], index: u64) -> Difference
+    ensures { λ r. ⌜ r ≡ positionAt (now (first .entry)) (now (second .entry)) index ⌝ }
+{
+    let values = values_at(first, second, index);
+    match values {
+        Values::Same => Difference::Equal,
+        Values::Other(a, b) => Difference::Position(index, a, b),
+    }
+}
+
+// The same of two runs' ratios, by the kinds and the bits of both.
+pub fn ratio_at(first: &[u64], second: &[u64], index: u64) -> Difference
+    ensures { λ r. ⌜ r ≡ ratioAt (now (first .entry)) (now (second .entry)) index ⌝ }
+{
+    let values = values_at(first, second, index);
+    match values {
+        Values::Same => Difference::Equal,
+        Values::Other(a, b) => Difference::Ratio {
+            index,
+            first: a,
+            first_kind: kind_of(a),
+            second: b,
+            second_kind: kind_of(b),
+        },
+    }
+}

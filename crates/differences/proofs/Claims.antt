@@ -19,19 +19,13 @@ use Rattle.record_format.proofs.Writing.{accepted-fits}
 use Rattle.differences.specs.declared.Property.{Property}
 use Rattle.differences.specs.declared.Property.the-variants as property
 use Rattle.differences.specs.declared.Difference.{Difference}
-use Rattle.differences.specs.declared.Difference.the-variants.{Equal, Overall, Position, Ratio, More}
+use Rattle.differences.specs.declared.Difference.the-variants.{Equal, InProperty, Position, Ratio, More}
 use Rattle.differences.specs.declared.Values.{Values}
 use Rattle.differences.specs.declared.Values.the-variants.{Same, Other}
-use Rattle.differences.specs.Differences.{overallDifference, moreDifference, valuesAt, positionBy, ratioBy, positionAt, ratioAt, listed, pointsTo, differences}
-use Rattle.differences.specs.Claims.{Among, valueOf, Differs, ListsExactly, EmptyWhenSame, NoneBeyond}
+use Rattle.differences.specs.Differences.{propertyDifference, moreDifference, valuesAt, positionBy, ratioBy, positionAt, ratioAt, listed, pointsTo, differences}
+use Rattle.differences.specs.Claims.{Among, valueOf, Differs, ListsExactly, EmptyWhenSame}
 use Rattle.differences.proofs.Among.{among-left, among-right, among-either, among-none}
-use Rattle.differences.proofs.Differences.{overall-other, more-other, values-beyond, values-same, values-other}
-
-pub none-beyond : NoneBeyond
-unfolding positionAt ratioAt
-none-beyond xs ys i h =
-    let e = sym (values-beyond xs ys i h) in
-    (ap (positionBy i) e, ap (ratioBy i) e)
+use Rattle.differences.proofs.Differences.{property-other, more-other, values-beyond, values-same, values-other}
 
 -- ---- the values at an index
 
@@ -61,11 +55,11 @@ values-unlike xs ys i x y e = go (ltb i (length xs)) refl (ltb i (length ys)) re
 -- ---- a difference that is listed is one
 
 module _ (r q : Run) (d : Difference) where
-  from-overall : (p : Property) → Among d (listed (overallDifference p (valueOf p r) (valueOf p q))) → Differs r q d
+  from-property : (p : Property) → Among d (listed (propertyDifference p (valueOf p r) (valueOf p q))) → Differs r q d
   unfolding Among
-  from-overall p h = go (eqb (valueOf p r) (valueOf p q)) refl h
+  from-property p h = go (eqb (valueOf p r) (valueOf p q)) refl h
     where
-      go : (t : Bool) → eqb (valueOf p r) (valueOf p q) ≡ t → Among d (listed (cond t Equal (Overall p (valueOf p r) (valueOf p q)))) → Differs r q d
+      go : (t : Bool) → eqb (valueOf p r) (valueOf p q) ≡ t → Among d (listed (cond t Equal (InProperty p (valueOf p r) (valueOf p q)))) → Differs r q d
       go true w k = absurd k
       go false w (inl e) = subst (Differs r q) (sym e) (refl, refl, eqb-false _ _ w)
       go false w (inr k) = absurd k
@@ -126,15 +120,15 @@ module _ (r q : Run) (d : Difference) where
     from-list : Among d (differences r q) → Differs r q d
     unfolding differences
     from-list l =
-        ⊎-elim (from-overall property.Rate)
-        (λ l. ⊎-elim (from-overall property.Side)
-        (λ l. ⊎-elim (from-overall property.Count)
-        (λ l. ⊎-elim (from-overall property.Form)
+        ⊎-elim (from-property property.Rate)
+        (λ l. ⊎-elim (from-property property.Side)
+        (λ l. ⊎-elim (from-property property.Count)
+        (λ l. ⊎-elim (from-property property.Form)
         (λ l. ⊎-elim (from-points (min m n) (omega arith)) from-more (among-either d (pointsTo r q (min m n)) _ l))
-        (among-either d (listed (overallDifference property.Form (positionsTag (r .form)) (positionsTag (q .form)))) _ l))
-        (among-either d (listed (overallDifference property.Count m n)) _ l))
-        (among-either d (listed (overallDifference property.Side (r .side) (q .side))) _ l))
-        (among-either d (listed (overallDifference property.Rate (r .rate) (q .rate))) _ l)
+        (among-either d (listed (propertyDifference property.Form (positionsTag (r .form)) (positionsTag (q .form)))) _ l))
+        (among-either d (listed (propertyDifference property.Count m n)) _ l))
+        (among-either d (listed (propertyDifference property.Side (r .side) (q .side))) _ l))
+        (among-either d (listed (propertyDifference property.Rate (r .rate) (q .rate))) _ l)
 
 -- ---- and every difference is listed
 
@@ -144,21 +138,21 @@ listed-own d e h k = subst (λ (x : Difference). Among d (listed x)) h k
 
 module _ (r q : Run) where
   -- one of a property stands in its place
-  in-overall : (d : Difference) (p : Property) → Among d (listed (overallDifference p (valueOf p r) (valueOf p q))) → Among d (differences r q)
+  in-property : (d : Difference) (p : Property) → Among d (listed (propertyDifference p (valueOf p r) (valueOf p q))) → Among d (differences r q)
   unfolding differences
-  in-overall d property.Rate h = among-left d (listed (overallDifference property.Rate (r .rate) (q .rate))) _ h
-  in-overall d property.Side h =
-      among-right d (listed (overallDifference property.Rate (r .rate) (q .rate))) _
-      (among-left d (listed (overallDifference property.Side (r .side) (q .side))) _ h)
-  in-overall d property.Count h =
-      among-right d (listed (overallDifference property.Rate (r .rate) (q .rate))) _
-      (among-right d (listed (overallDifference property.Side (r .side) (q .side))) _
-      (among-left d (listed (overallDifference property.Count (length (r .positions)) (length (q .positions)))) _ h))
-  in-overall d property.Form h =
-      among-right d (listed (overallDifference property.Rate (r .rate) (q .rate))) _
-      (among-right d (listed (overallDifference property.Side (r .side) (q .side))) _
-      (among-right d (listed (overallDifference property.Count (length (r .positions)) (length (q .positions)))) _
-      (among-left d (listed (overallDifference property.Form (positionsTag (r .form)) (positionsTag (q .form)))) _ h)))
+  in-property d property.Rate h = among-left d (listed (propertyDifference property.Rate (r .rate) (q .rate))) _ h
+  in-property d property.Side h =
+      among-right d (listed (propertyDifference property.Rate (r .rate) (q .rate))) _
+      (among-left d (listed (propertyDifference property.Side (r .side) (q .side))) _ h)
+  in-property d property.Count h =
+      among-right d (listed (propertyDifference property.Rate (r .rate) (q .rate))) _
+      (among-right d (listed (propertyDifference property.Side (r .side) (q .side))) _
+      (among-left d (listed (propertyDifference property.Count (length (r .positions)) (length (q .positions)))) _ h))
+  in-property d property.Form h =
+      among-right d (listed (propertyDifference property.Rate (r .rate) (q .rate))) _
+      (among-right d (listed (propertyDifference property.Side (r .side) (q .side))) _
+      (among-right d (listed (propertyDifference property.Count (length (r .positions)) (length (q .positions)))) _
+      (among-left d (listed (propertyDifference property.Form (positionsTag (r .form)) (positionsTag (q .form)))) _ h)))
 
   -- the points and the rest stand behind them
   in-points : (d : Difference)
@@ -166,16 +160,16 @@ module _ (r q : Run) where
       → Among d (differences r q)
   unfolding differences
   in-points d h =
-      among-right d (listed (overallDifference property.Rate (r .rate) (q .rate))) _
-      (among-right d (listed (overallDifference property.Side (r .side) (q .side))) _
-      (among-right d (listed (overallDifference property.Count (length (r .positions)) (length (q .positions)))) _
-      (among-right d (listed (overallDifference property.Form (positionsTag (r .form)) (positionsTag (q .form)))) _ h)))
+      among-right d (listed (propertyDifference property.Rate (r .rate) (q .rate))) _
+      (among-right d (listed (propertyDifference property.Side (r .side) (q .side))) _
+      (among-right d (listed (propertyDifference property.Count (length (r .positions)) (length (q .positions)))) _
+      (among-right d (listed (propertyDifference property.Form (positionsTag (r .form)) (positionsTag (q .form)))) _ h)))
 
   -- those at the index i, among those at the indices below k
-  at-index : (d : Difference) (i k : ℕ) → i < k → Among d (listed (positionAt (r .positions) (q .positions) i) ++ listed (ratioAt (r .ratios) (q .ratios) i)) → Among d (pointsTo r q k)
+  at-point : (d : Difference) (i k : ℕ) → i < k → Among d (listed (positionAt (r .positions) (q .positions) i) ++ listed (ratioAt (r .ratios) (q .ratios) i)) → Among d (pointsTo r q k)
   unfolding pointsTo
-  at-index d i zero h l = absurd (omega arith)
-  at-index d i (suc k) h l = go (eqb i k) refl (λ below. at-index d i k below l)
+  at-point d i zero h l = absurd (omega arith)
+  at-point d i (suc k) h l = go (eqb i k) refl (λ below. at-point d i k below l)
     where
       go : (t : Bool) → eqb i k ≡ t → (i < k → Among d (pointsTo r q k))
           → Among d (pointsTo r q k ++ (listed (positionAt (r .positions) (q .positions) k) ++ listed (ratioAt (r .ratios) (q .ratios) k)))
@@ -188,16 +182,16 @@ module _ (r q : Run) where
       → Among d (listed (positionAt (r .positions) (q .positions) i) ++ listed (ratioAt (r .ratios) (q .ratios) i)) → Among d (differences r q)
   in-index d i h k l =
       in-points d (among-left d (pointsTo r q (min (length (r .positions)) (length (q .positions)))) _
-      (at-index d i (min (length (r .positions)) (length (q .positions))) (omega arith) l))
+      (at-point d i (min (length (r .positions)) (length (q .positions))) (omega arith) l))
 
   module _ (a : Accepted r) (b : Accepted q) where
     into-list : (d : Difference) → Differs r q d → Among d (differences r q)
     unfolding Among positionAt ratioAt
     into-list Equal h = absurd h
-    into-list (Overall p x y) h =
-        in-overall (Overall p x y) p
-        (listed-own (Overall p x y) _
-        (ap₂ (λ (u v : ℕ). Overall p u v) (h .0) (h .1) ∙ overall-other p (valueOf p r) (valueOf p q) (λ e. h .2 (h .0 ∙ e ∙ sym (h .1))))
+    into-list (InProperty p x y) h =
+        in-property (InProperty p x y) p
+        (listed-own (InProperty p x y) _
+        (ap₂ (λ (u v : ℕ). InProperty p u v) (h .0) (h .1) ∙ property-other p (valueOf p r) (valueOf p q) (λ e. h .2 (h .0 ∙ e ∙ sym (h .1))))
         (inl refl))
     into-list (Position i x y) h =
         in-index (Position i x y) i (h .0 .0) (h .0 .1)
@@ -237,7 +231,7 @@ none-listed (d ∷ l) h = absurd (h d (inl refl))
 -- a run does not differ from itself
 not-itself : (r : Run) (d : Difference) → Differs r r d → ⊥
 not-itself r Equal h = h
-not-itself r (Overall p x y) h = h .2 (h .0 ∙ sym (h .1))
+not-itself r (InProperty p x y) h = h .2 (h .0 ∙ sym (h .1))
 not-itself r (Position i x y) h = h .3 (h .1 ∙ sym (h .2))
 not-itself r (Ratio i x k y l) h = h .3 (h .1 ∙ sym (h .2))
 not-itself r (More n) h = h .0 (⊎-elim {C = n ≡ 0} (λ e. omega arith) (λ e. omega arith) (h .1))
@@ -258,7 +252,7 @@ module _ (r q : Run) (a : Accepted r) (b : Accepted q) (none : differences r q �
   not-listed d h = among-none d (differences r q) none (into-list r q a b d h)
 
   same-value : (p : Property) → valueOf p r ≡ valueOf p q
-  same-value p = told-same (valueOf p r) (valueOf p q) (λ n. not-listed (Overall p (valueOf p r) (valueOf p q)) (refl, refl, n))
+  same-value p = told-same (valueOf p r) (valueOf p q) (λ n. not-listed (InProperty p (valueOf p r) (valueOf p q)) (refl, refl, n))
 
   same-positions : r .positions ≡ q .positions
   same-positions =

@@ -22,12 +22,12 @@ use Rattle.inputs.specs.Inputs.{blank}
 use Rattle.inputs.proofs.Inputs.{over-front, roomy, reads-blank}
 use Rattle.differences.specs.declared.Property.the-variants.{Rate, Side, Count, Form}
 use Rattle.differences.specs.declared.OverallDifferences.{OverallDifferences}
-use Rattle.differences.specs.Differences.{overallDifference, moreDifference, listed, pointsTo, differences}
+use Rattle.differences.specs.Differences.{propertyDifference, moreDifference, listed, pointsTo, differences}
 use Rattle.differences.specs.Overall.{refusedOverall, overallRead, overallOf}
 use Rattle.differences.specs.Comparisons.{Comparison, runOf, refusedBy, compared, comparison}
-use Rattle.differences.specs.Claims.{Compares, ComparesOnly, EmptyExactly, RefusesFirst, RefusesSecond, ByCalls, ComparisonTrailing, ComparisonFollowed}
+use Rattle.differences.specs.Claims.{Compares, ComparesOnly, EmptyExactly, RefusesFirst, RefusesSecond, MakeUp, ByCalls, ComparisonTrailing, ComparisonFollowed}
 use Rattle.differences.proofs.Claims.{same-run, none-own}
-use Rattle.differences.proofs.Overall.{overall-first, overall-second, overall-both}
+use Rattle.differences.proofs.Overall.{first-clear, overall-first, overall-second, overall-both}
 use Rattle.differences.proofs.Rooms.{any-room, not-expected, not-roomless}
 
 -- ---- by two answers
@@ -47,30 +47,28 @@ module _ (a b : Answer) where
 
   -- where neither was refused
   pub compared-clear : compared a b .number ≡ 0 → (a .answer .number ≡ 0) × (b .answer .number ≡ 0)
-  compared-clear e = go (eqb (a .answer .number) 0) refl (eqb (b .answer .number) 0) refl
-    where
-      go : (t : Bool) → eqb (a .answer .number) 0 ≡ t → (u : Bool) → eqb (b .answer .number) 0 ≡ u → (a .answer .number ≡ 0) × (b .answer .number ≡ 0)
-      go true w true v = (eqb-true _ _ w, eqb-true _ _ v)
-      go true w false v = absurd (eqb-false _ _ v (sym (ap (λ (c : Comparison). c .number) (compared-second (eqb-true _ _ w) (eqb-false _ _ v))) ∙ e))
-      go false w u v = absurd (eqb-false _ _ w (sym (ap (λ (c : Comparison). c .number) (compared-first (eqb-false _ _ w))) ∙ e))
+  unfolding compared
+  compared-clear e =
+      first-clear (λ (c : Comparison). c .number) (a .answer .number) (b .answer .number)
+      (record { number = 0; place = 0; which = 0; list = differences (runOf a) (runOf b) }) (refusedBy (b .answer) 2) (refusedBy (a .answer) 1) refl refl e
 
 -- ---- of two records
 
--- the run of a record's own answer
-pub own-run : (r : Run) → Accepted r → runOf (ownAnswer r blank blank) ≡ r
-own-run r a =
+-- the run of a record's own answer, whatever the outputs held
+pub own-run : (r : Run) → Accepted r → (ts vs : List ℕ) → runOf (ownAnswer r ts vs) ≡ r
+own-run r a ts vs =
     let f = accepted-fits r (a .passes) in
-    let o = ownAnswer r blank blank in
+    let o = ownAnswer r ts vs in
     let n = length (r .positions) in
     ap (λ (x : form.Form). run (r .rate) (r .side) x (take n (o .positions)) (take n (o .ratios))) (form-of (r .form))
     ∙ ap₂ (λ (x y : List ℕ). run (r .rate) (r .side) (r .form) x y)
-    (over-front (r .positions) blank (length (r .positions)) refl) (over-front (r .ratios) blank (length (r .positions)) (f .paired))
+    (over-front (r .positions) ts (length (r .positions)) refl) (over-front (r .ratios) vs (length (r .positions)) (f .paired))
 
 pub compared-own : (r q : Run) → Accepted r → Accepted q
     → compared (ownAnswer r blank blank) (ownAnswer q blank blank) ≡ record { number = 0; place = 0; which = 0; list = differences r q }
 compared-own r q a b =
     compared-both (ownAnswer r blank blank) (ownAnswer q blank blank) refl refl
-    ∙ ap₂ (λ (x y : Run). record { number = 0; place = 0; which = 0; list = differences x y }) (own-run r a) (own-run q b)
+    ∙ ap₂ (λ (x y : Run). record { number = 0; place = 0; which = 0; list = differences x y }) (own-run r a blank blank) (own-run q b blank blank)
 
 pub compares : Compares
 compares r q a b x y = ap₂ compared (reads-blank r a x) (reads-blank q b y) ∙ compared-own r q a b
@@ -130,78 +128,83 @@ refuses-second r a x t ts vs u m n never = (
 
 -- ---- by what the calls answer
 
--- what ByCalls says of the differences h that are of no index, of the comparison c, and of the answers a and b
-abbrev MadeUp : OverallDifferences → Comparison → Answer → Answer → Type 0
-MadeUp h c a b =
-    (h .number ≡ c .number) × (h .place ≡ c .place) × (h .which ≡ c .which)
-    × ((h .number ≡ 0 → ⊥) → h ≡ refusedOverall (c .number) (c .place) (c .which))
-    × (h .number ≡ 0
-    → c .list
-    ≡ listed (h .rate)
-    ++ (listed (h .side)
-    ++ (listed (h .count)
-    ++ (listed (h .form)
-    ++ (pointsTo (runOf a) (runOf b) (min (a .answer .count) (b .answer .count))
-    ++ listed (h .more))))))
-
 -- a refusal
-made-refused : (n p w : ℕ) → (n ≡ 0 → ⊥) → (a b : Answer) → MadeUp (refusedOverall n p w) (record { number = n; place = p; which = w; list = [] }) a b
-made-refused n p w d a b = (refl, refl, refl, λ _. refl, λ e. absurd (d e))
+made-refused : (a b : Answer) {h : OverallDifferences} {c : Comparison} (x : ReadAnswer) (w : ℕ) → (x .number ≡ 0 → ⊥)
+    → h ≡ refusedOverall (x .number) (x .place) w → c ≡ refusedBy x w → MakeUp a b h c
+made-refused a b x w d e k = rw (e, k) (refl, refl, refl, λ _. refl, λ z. absurd (d z))
 
 -- two records
-made-own : (r q : Run) → Accepted r → Accepted q → let a = ownAnswer r blank blank in let b = ownAnswer q blank blank in
-    MadeUp (overallRead (a .answer) (b .answer)) (record { number = 0; place = 0; which = 0; list = differences r q }) a b
+made-own : (r q : Run) → Accepted r → Accepted q → (ts vs us ws : List ℕ)
+    → let a = ownAnswer r ts vs in
+    let b = ownAnswer q us ws in MakeUp a b (overallRead (a .answer) (b .answer)) (record { number = 0; place = 0; which = 0; list = differences r q })
 unfolding differences
-made-own r q a b = (
+made-own r q a b ts vs us ws = (
   refl,
   refl,
   refl,
   λ d. absurd (d refl),
   λ _.
       ap₂
-      (λ (x y : Run). listed (overallDifference Rate (r .rate) (q .rate))
-      ++ (listed (overallDifference Side (r .side) (q .side))
-      ++ (listed (overallDifference Count (length (r .positions)) (length (q .positions)))
-      ++ (listed (overallDifference Form (positionsTag (r .form)) (positionsTag (q .form)))
+      (λ (x y : Run). listed (propertyDifference Rate (r .rate) (q .rate))
+      ++ (listed (propertyDifference Side (r .side) (q .side))
+      ++ (listed (propertyDifference Count (length (r .positions)) (length (q .positions)))
+      ++ (listed (propertyDifference Form (positionsTag (r .form)) (positionsTag (q .form)))
       ++ (pointsTo x y (min (length (r .positions)) (length (q .positions)))
       ++ listed (moreDifference (length (r .positions)) (length (q .positions))))))))
-      (sym (own-run r a)) (sym (own-run q b)),
+      (sym (own-run r a ts vs)) (sym (own-run q b us ws)),
 )
 
 pub by-calls : ByCalls
-by-calls s t u v = go (eqb (a .answer .number) 0) refl (eqb (b .answer .number) 0) refl
+by-calls s t ts vs us ws u v m n k l = go (eqb (a .answer .number) 0) refl (eqb (b .answer .number) 0) refl
   where
     a : Answer
-    a = readStrict 0 s blank blank
+    a = readStrict 0 s ts vs
 
     b : Answer
-    b = readStrict 0 t blank blank
+    b = readStrict 0 t us ws
 
-    go : (x : Bool) → eqb (a .answer .number) 0 ≡ x → (y : Bool) → eqb (b .answer .number) 0 ≡ y → MadeUp (overallOf (a .answer) (b .answer)) (compared a b) a b
+    -- with the room that a comparison has
+    c : Answer
+    c = readStrict 0 s blank blank
+
+    d : Answer
+    d = readStrict 0 t blank blank
+
+    first-alike : c .answer ≡ a .answer
+    first-alike = any-room s blank blank (roomy maxPoints (omega arith)) (roomy maxPoints (omega arith)) ts vs m n
+
+    second-alike : d .answer ≡ b .answer
+    second-alike = any-room t blank blank (roomy maxPoints (omega arith)) (roomy maxPoints (omega arith)) us ws k l
+
+    go : (x : Bool) → eqb (a .answer .number) 0 ≡ x → (y : Bool) → eqb (b .answer .number) 0 ≡ y → MakeUp a b (overallOf (a .answer) (b .answer)) (compared c d)
     go false w y z =
-        let d = eqb-false _ _ w in
-        subst (λ (h : OverallDifferences). MadeUp h (compared a b) a b) (overall-first (a .answer) (b .answer) d)
-        (subst (λ (c : Comparison). MadeUp (refusedOverall (a .answer .number) (a .answer .place) 1) c a b) (sym (compared-first a b d))
-        (made-refused (a .answer .number) (a .answer .place) 1 d a b))
+        let no = eqb-false _ _ w in
+        made-refused a b (a .answer) 1 no (sym (overall-first (a .answer) (b .answer) no))
+        (compared-first c d (λ e. no (sym (ap (λ (r : ReadAnswer). r .number) first-alike) ∙ e)) ∙ ap (λ (r : ReadAnswer). refusedBy r 1) first-alike)
     go true w false z =
         let ok = eqb-true _ _ w in
-        let d = eqb-false _ _ z in
-        subst (λ (h : OverallDifferences). MadeUp h (compared a b) a b) (overall-second (a .answer) (b .answer) ok d)
-        (subst (λ (c : Comparison). MadeUp (refusedOverall (b .answer .number) (b .answer .place) 2) c a b) (sym (compared-second a b ok d))
-        (made-refused (b .answer .number) (b .answer .place) 2 d a b))
+        let no = eqb-false _ _ z in
+        made-refused a b (b .answer) 2 no (sym (overall-second (a .answer) (b .answer) ok no))
+        (compared-second c d (ap (λ (r : ReadAnswer). r .number) first-alike ∙ ok) (λ e. no (sym (ap (λ (r : ReadAnswer). r .number) second-alike) ∙ e))
+        ∙ ap (λ (r : ReadAnswer). refusedBy r 2) second-alike)
     go true w true z =
-        let r = reads-only 0 s blank blank u (eqb-true _ _ w) in
-        let q = reads-only 0 t blank blank v (eqb-true _ _ z) in
-        subst (λ (x : Answer). MadeUp (overallOf (x .answer) (b .answer)) (compared x b) x b) (sym (r .3))
-        (subst (λ (y : Answer). MadeUp (overallOf (ownAnswer (r .0) blank blank .answer) (y .answer)) (compared (ownAnswer (r .0) blank blank) y) (ownAnswer (r .0) blank blank) y) (sym (q .3))
-        (own (r .0) (q .0) (r .1) (q .1)))
+        let ok = eqb-true _ _ w in
+        let fine = eqb-true _ _ z in
+        let r = reads-only 0 s ts vs u ok in
+        let q = reads-only 0 t us ws v fine in
+        let is = ap₂ comparison (r .2 .1) (q .2 .1) ∙ compares (r .0) (q .0) (r .1) (q .1) (r .2 .0) (q .2 .0) in
+        subst (λ (x : Answer). MakeUp x b (overallOf (x .answer) (b .answer)) (compared c d)) (sym (r .3))
+        (subst (λ (y : Answer). let o = ownAnswer (r .0) ts vs in MakeUp o y (overallOf (o .answer) (y .answer)) (compared c d)) (sym (q .3))
+        (own (r .0) (q .0) (r .1) (q .1) is))
       where
-        own : (r q : Run) → Accepted r → Accepted q → let o = ownAnswer r blank blank in let p = ownAnswer q blank blank in MadeUp (overallOf (o .answer) (p .answer)) (compared o p) o p
-        own r q h k =
-            let o = ownAnswer r blank blank in
-            let p = ownAnswer q blank blank in
-            subst (λ (x : OverallDifferences). MadeUp x (compared o p) o p) (overall-both (o .answer) (p .answer) refl refl)
-            (subst (λ (c : Comparison). MadeUp (overallRead (o .answer) (p .answer)) c o p) (sym (compared-own r q h k)) (made-own r q h k))
+        own : (r q : Run) → Accepted r → Accepted q → compared c d ≡ record { number = 0; place = 0; which = 0; list = differences r q }
+            → let o = ownAnswer r ts vs in
+            let p = ownAnswer q us ws in MakeUp o p (overallOf (o .answer) (p .answer)) (compared c d)
+        own r q x y is =
+            let o = ownAnswer r ts vs in
+            let p = ownAnswer q us ws in
+            subst (λ (h : OverallDifferences). MakeUp o p h (compared c d)) (overall-both (o .answer) (p .answer) refl refl)
+            (subst (λ (e : Comparison). MakeUp o p (overallRead (o .answer) (p .answer)) e) (sym is) (made-own r q x y ts vs us ws))
 
 -- ---- bytes behind
 

@@ -9,18 +9,18 @@ use lib.Dec.{eqb, ltb}
 use lib.ListN.{length, getD}
 use Rattle.lists.specs.Compare.{both}
 use Rattle.differences.specs.declared.Property.{Property}
-use Rattle.differences.specs.declared.Difference.the-variants.{Equal, Overall, More}
+use Rattle.differences.specs.declared.Difference.the-variants.{Equal, InProperty, More}
 use Rattle.differences.specs.declared.Values.the-variants.{Same, Other}
-use Rattle.differences.specs.Differences.{overallDifference, moreDifference, valuesAt}
+use Rattle.differences.specs.Differences.{propertyDifference, moreDifference, valuesAt}
 
 -- ---- of no index
 
 module _ (p : Property) (a b : ℕ) where
-  pub overall-same : a ≡ b → Equal ≡ overallDifference p a b
-  overall-same e = sym (ap (λ (t : Bool). cond t Equal (Overall p a b)) (eq-eqb a b e))
+  pub property-same : a ≡ b → Equal ≡ propertyDifference p a b
+  property-same e = sym (ap (λ (t : Bool). cond t Equal (InProperty p a b)) (eq-eqb a b e))
 
-  pub overall-other : (a ≡ b → ⊥) → Overall p a b ≡ overallDifference p a b
-  overall-other d = sym (ap (λ (t : Bool). cond t Equal (Overall p a b)) (ne-eqb a b d))
+  pub property-other : (a ≡ b → ⊥) → InProperty p a b ≡ propertyDifference p a b
+  property-other d = sym (ap (λ (t : Bool). cond t Equal (InProperty p a b)) (ne-eqb a b d))
 
 module _ (m n : ℕ) where
   pub more-same : m ≡ n → Equal ≡ moreDifference m n

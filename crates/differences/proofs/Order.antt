@@ -11,10 +11,10 @@ use Rattle.record_format.proofs.Writing.{accepted-fits, fitting-few}
 use Rattle.differences.specs.declared.Property.{Property}
 use Rattle.differences.specs.declared.Property.the-variants.{Rate, Side, Count, Form}
 use Rattle.differences.specs.declared.Difference.{Difference}
-use Rattle.differences.specs.declared.Difference.the-variants.{Equal, Overall, More}
+use Rattle.differences.specs.declared.Difference.the-variants.{Equal, InProperty, More}
 use Rattle.differences.specs.declared.Values.{Values}
 use Rattle.differences.specs.declared.Values.the-variants.{Same, Other}
-use Rattle.differences.specs.Differences.{overallDifference, moreDifference, valuesAt, positionBy, ratioBy, positionAt, ratioAt, listed, pointsTo, differences}
+use Rattle.differences.specs.Differences.{propertyDifference, moreDifference, valuesAt, positionBy, ratioBy, positionAt, ratioAt, listed, pointsTo, differences}
 use Rattle.differences.specs.Claims.{rank, Rising, InOrder}
 
 -- ranks that rise from lo on, all of them below hi
@@ -46,11 +46,11 @@ spread-rising lo hi (d ∷ (e ∷ l)) s = (s .1 .0, spread-rising (suc (rank d))
 
 -- ---- the pieces
 
-spread-overall : (p : Property) (a b : ℕ) → Spread (rank (Overall p a b)) (suc (rank (Overall p a b))) (listed (overallDifference p a b))
+spread-property : (p : Property) (a b : ℕ) → Spread (rank (InProperty p a b)) (suc (rank (InProperty p a b))) (listed (propertyDifference p a b))
 unfolding Spread
-spread-overall p a b = go (eqb a b)
+spread-property p a b = go (eqb a b)
   where
-    go : (t : Bool) → Spread (rank (Overall p a b)) (suc (rank (Overall p a b))) (listed (cond t Equal (Overall p a b)))
+    go : (t : Bool) → Spread (rank (InProperty p a b)) (suc (rank (InProperty p a b))) (listed (cond t Equal (InProperty p a b)))
     go true = omega arith
     go false = (le-refl _, le-refl _)
 
@@ -89,10 +89,10 @@ in-order r q a b =
     let n = length (q .positions) in
     let few = fitting-few r (accepted-fits r (a .passes)) in
     spread-rising 0 (5 + 2 * 4096) _
-    (spread-append 0 1 _ (listed (overallDifference Rate (r .rate) (q .rate))) _ (spread-overall Rate (r .rate) (q .rate))
-    (spread-append 1 2 _ (listed (overallDifference Side (r .side) (q .side))) _ (spread-overall Side (r .side) (q .side))
-    (spread-append 2 3 _ (listed (overallDifference Count m n)) _ (spread-overall Count m n)
-    (spread-append 3 4 _ (listed (overallDifference Form (positionsTag (r .form)) (positionsTag (q .form)))) _
-    (spread-overall Form (positionsTag (r .form)) (positionsTag (q .form)))
+    (spread-append 0 1 _ (listed (propertyDifference Rate (r .rate) (q .rate))) _ (spread-property Rate (r .rate) (q .rate))
+    (spread-append 1 2 _ (listed (propertyDifference Side (r .side) (q .side))) _ (spread-property Side (r .side) (q .side))
+    (spread-append 2 3 _ (listed (propertyDifference Count m n)) _ (spread-property Count m n)
+    (spread-append 3 4 _ (listed (propertyDifference Form (positionsTag (r .form)) (positionsTag (q .form)))) _
+    (spread-property Form (positionsTag (r .form)) (positionsTag (q .form)))
     (spread-append 4 (4 + 2 * min m n) _ (pointsTo r q (min m n)) _ (spread-points r q (min m n))
     (spread-more m n (4 + 2 * min m n) (omega (arith, few))))))))

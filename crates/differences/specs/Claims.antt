@@ -1,4 +1,5 @@
--- Document 02, No. 7, as statements. Those of two runs are proved in proofs/Claims, those of two strings of bytes in proofs/Comparisons.
+-- Document 02, No. 7, as statements. Those of two runs are proved in proofs/Claims and, InOrder, in proofs/Order; those of the calls in proofs/Calls;
+-- those of two strings of bytes in proofs/Comparisons.
 --   Among x l         x is an element of the list l
 --   valueOf p r       the value of the property p of the run r
 --   HasBoth r q i     both runs have a point of index i
@@ -9,15 +10,19 @@
 --   ListsExactly      nothing equal is listed, and nothing that differs is left out: d is in the list exactly when the runs differ in it
 --   InOrder           the list is in this order, and so nothing is listed twice
 --   EmptyWhenSame     the list is empty exactly when the two records are the same bytes
+-- Of the calls, for all that they can be given:
+--   AtIndex           at an index that both lists have there is a difference exactly where the numbers are not the same, and which it is
 --   NoneBeyond        at an index that not both lists have there is no difference
+--   Tells p x y d     d is the difference in the property p between the values x and y
+--   OverallExactly    what `overallOf` answers: a refusal with no difference beside it, or the differences that are of no index, each in its place
 -- Of two strings of bytes:
 --   Compares          where they begin with the records of accepted runs the answer is their runs' differences, whatever follows either
 --   ComparesOnly      only such strings have an answer other than a refusal
 --   EmptyExactly      nothing is refused and the list is empty exactly when both begin with the same record
 --   RefusesFirst, RefusesSecond   all else is refused as strict reading refuses it with any room for 4,096 points and no rate expected, the first record
 --                     first, with which it was; never by 14, and never by 16
---   ByCalls           what the calls answer makes up the comparison: its refusal is that of `overallOf`, and its list the differences of that and those
---                     at each index
+--   MakeUp, ByCalls   what the calls answer makes up the comparison, whatever room for 4,096 points the readings were lent: its refusal is that of
+--                     `overallOf`, and its list the differences of that and those at each index
 --   ComparisonTrailing   whatever follows a record changes no answer, also where the other record is refused; ComparisonFollowed: nor does what follows
 --                     any whole fields. Both are parts of demand 3
 use mathlib.Core.List.{List, [], _∷_, _++_}
@@ -27,16 +32,17 @@ use Prim.Native.Nat.{ℕ, _+_, _*_, _≤_, _<_, min}
 use lib.ListN.{length, getD}
 use Rattle.kind.specs.Kinds.{kindOf}
 use Rattle.record_format.specs.Claims.{Accepted, Beginning, Bytes}
-use Rattle.record_format.specs.Reading.{endAt, readStrict}
+use Rattle.record_format.specs.Reading.{Answer, endAt, readStrict}
 use Rattle.record_format.specs.Runs.{Run, positionsTag, recordOf}
-use Rattle.inputs.specs.Inputs.{blank}
+use Rattle.record_format.specs.declared.ReadAnswer.{ReadAnswer}
 use Rattle.differences.specs.declared.Property.{Property}
 use Rattle.differences.specs.declared.Property.the-variants.{Rate, Side, Count, Form}
 use Rattle.differences.specs.declared.Difference.{Difference}
-use Rattle.differences.specs.declared.Difference.the-variants.{Equal, Overall, Position, Ratio, More}
+use Rattle.differences.specs.declared.Difference.the-variants.{Equal, InProperty, Position, Ratio, More}
+use Rattle.differences.specs.declared.OverallDifferences.{OverallDifferences}
 use Rattle.differences.specs.Differences.{positionAt, ratioAt, listed, pointsTo, differences}
-use Rattle.differences.specs.Overall.{refusedOverall, overallOf}
-use Rattle.differences.specs.Comparisons.{runOf, comparison}
+use Rattle.differences.specs.Overall.{overallOf}
+use Rattle.differences.specs.Comparisons.{Comparison, runOf, comparison}
 
 -- ---- what a difference says
 
@@ -59,7 +65,7 @@ HasBoth r q i = (i < length (r .positions)) × (i < length (q .positions))
 -- the first run's value and the second's, which are not the same; of a ratio its kind beside its bits; of the points that only the longer run has their number, which is not 0
 abbrev pub Differs : Run → Run → Difference → Type 0
 Differs r q Equal = ⊥
-Differs r q (Overall p a b) = (a ≡ valueOf p r) × (b ≡ valueOf p q) × (a ≡ b → ⊥)
+Differs r q (InProperty p a b) = (a ≡ valueOf p r) × (b ≡ valueOf p q) × (a ≡ b → ⊥)
 Differs r q (Position i t u) = HasBoth r q i × (t ≡ getD (r .positions) i 0) × (u ≡ getD (q .positions) i 0) × (t ≡ u → ⊥)
 Differs r q (Ratio i v k w l) =
     HasBoth r q i × (v ≡ getD (r .ratios) i 0) × (w ≡ getD (q .ratios) i 0) × (v ≡ w → ⊥) × (k ≡ kindOf v) × (l ≡ kindOf w)
@@ -71,10 +77,10 @@ Differs r q (More n) =
 -- no run has more than 4,096 points, so that the points that only the longer run has come last
 abbrev pub rank : Difference → ℕ
 rank Equal = 0
-rank (Overall Rate a b) = 0
-rank (Overall Side a b) = 1
-rank (Overall Count a b) = 2
-rank (Overall Form a b) = 3
+rank (InProperty Rate a b) = 0
+rank (InProperty Side a b) = 1
+rank (InProperty Count a b) = 2
+rank (InProperty Form a b) = 3
 rank (Position i t u) = 4 + 2 * i
 rank (Ratio i v k w l) = 5 + 2 * i
 rank (More n) = 4 + 2 * 4096
@@ -99,9 +105,40 @@ InOrder = (r q : Run) → Accepted r → Accepted q → Rising (differences r q)
 abbrev pub EmptyWhenSame : Type 0
 EmptyWhenSame = (r q : Run) → Accepted r → Accepted q → (differences r q ≡ []) ↔ (recordOf r ≡ recordOf q)
 
--- of any two lists
+-- ---- the calls
+
+-- of any two lists, as positions and as ratios
+abbrev pub AtIndex : Type 0
+AtIndex = (xs ys : List ℕ) (i : ℕ) → i < length xs → i < length ys
+    → let x = getD xs i 0 in
+    let y = getD ys i 0 in
+    (x ≡ y → (positionAt xs ys i ≡ Equal) × (ratioAt xs ys i ≡ Equal))
+    × ((x ≡ y → ⊥) → (positionAt xs ys i ≡ Position i x y) × (ratioAt xs ys i ≡ Ratio i x (kindOf x) y (kindOf y)))
+
+-- and past the end of either
 abbrev pub NoneBeyond : Type 0
 NoneBeyond = (xs ys : List ℕ) (i : ℕ) → (length xs ≤ i) ⊎ (length ys ≤ i) → (positionAt xs ys i ≡ Equal) × (ratioAt xs ys i ≡ Equal)
+
+-- by both values
+abbrev pub Tells : Property → ℕ → ℕ → Difference → Type 0
+Tells p x y d = (x ≡ y → d ≡ Equal) × ((x ≡ y → ⊥) → d ≡ InProperty p x y)
+
+-- of any two answers, the first record's refusal first; of the points that only the longer run has their number
+abbrev pub OverallExactly : Type 0
+OverallExactly = (a b : ReadAnswer)
+    → let h = overallOf a b in
+    ((a .number ≡ 0 → ⊥)
+    → h ≡ record { number = a .number; place = a .place; which = 1; rate = Equal; side = Equal; count = Equal; form = Equal; more = Equal })
+    × (a .number ≡ 0 → (b .number ≡ 0 → ⊥)
+    → h ≡ record { number = b .number; place = b .place; which = 2; rate = Equal; side = Equal; count = Equal; form = Equal; more = Equal })
+    × (a .number ≡ 0 → b .number ≡ 0
+    → (h .number ≡ 0) × (h .place ≡ 0) × (h .which ≡ 0)
+    × Tells Rate (a .rate) (b .rate) (h .rate)
+    × Tells Side (a .side) (b .side) (h .side)
+    × Tells Count (a .count) (b .count) (h .count)
+    × Tells Form (a .form) (b .form) (h .form)
+    × (a .count ≡ b .count → h .more ≡ Equal)
+    × ((n : ℕ) → (n ≡ 0 → ⊥) → (a .count ≡ b .count + n) ⊎ (b .count ≡ a .count + n) → h .more ≡ More n))
 
 -- ---- the answer to two strings of bytes
 
@@ -135,15 +172,11 @@ RefusesSecond = (r : Run) → Accepted r → (x t ts vs : List ℕ) → Bytes t 
     → let a = readStrict 0 t ts vs .answer in
     (a .number ≡ 0 → ⊥) × (a .number ≡ 14 → ⊥) × (a .number ≡ 16 → ⊥) × (comparison (recordOf r ++ x) t ≡ record { number = a .number; place = a .place; which = 2; list = [] })
 
--- of the answers a and b of two readings; a refusal has no difference beside it
-abbrev pub ByCalls : Type 0
-ByCalls = (s t : List ℕ) → Bytes s → Bytes t
-    → let a = readStrict 0 s blank blank in
-    let b = readStrict 0 t blank blank in
-    let h = overallOf (a .answer) (b .answer) in
-    let c = comparison s t in
+-- the answers a and b of two readings, with the differences h that are of no index, make up the comparison c
+abbrev pub MakeUp : Answer → Answer → OverallDifferences → Comparison → Type 0
+MakeUp a b h c =
     (h .number ≡ c .number) × (h .place ≡ c .place) × (h .which ≡ c .which)
-    × ((h .number ≡ 0 → ⊥) → h ≡ refusedOverall (c .number) (c .place) (c .which))
+    × ((h .number ≡ 0 → ⊥) → c .list ≡ [])
     × (h .number ≡ 0
     → c .list
     ≡ listed (h .rate)
@@ -152,6 +185,13 @@ ByCalls = (s t : List ℕ) → Bytes s → Bytes t
     ++ (listed (h .form)
     ++ (pointsTo (runOf a) (runOf b) (min (a .answer .count) (b .answer .count))
     ++ listed (h .more))))))
+
+-- of any two strings of bytes
+abbrev pub ByCalls : Type 0
+ByCalls = (s t ts vs us ws : List ℕ) → Bytes s → Bytes t
+    → 4096 ≤ length ts → 4096 ≤ length vs → 4096 ≤ length us → 4096 ≤ length ws
+    → let a = readStrict 0 s ts vs in
+    let b = readStrict 0 t us ws in MakeUp a b (overallOf (a .answer) (b .answer)) (comparison s t)
 
 -- demand 3: bytes behind either record
 abbrev pub ComparisonTrailing : Type 0

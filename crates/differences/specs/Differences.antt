@@ -1,5 +1,5 @@
 -- Document 02, No. 7: what differs between two runs, one difference after the other. The standard term is a diff.
---   overallDifference p a b  the difference in the property p, whose values are a and b
+--   propertyDifference p a b   the difference in the property p, whose values are a and b
 --   moreDifference m n       how many points only the longer of two runs has, by their numbers of points
 --   valuesAt xs ys i         the values at the index i, where both lists have one there and they are not the same
 --   positionBy i z, ratioBy i z   the difference that the values z at the index i make, as positions and as ratios
@@ -21,15 +21,15 @@ use Rattle.record_format.specs.Runs.{Run, positionsTag}
 use Rattle.differences.specs.declared.Property.{Property}
 use Rattle.differences.specs.declared.Property.the-variants.{Rate, Side, Count, Form}
 use Rattle.differences.specs.declared.Difference.{Difference}
-use Rattle.differences.specs.declared.Difference.the-variants.{Equal, Overall, Position, Ratio, More}
+use Rattle.differences.specs.declared.Difference.the-variants.{Equal, InProperty, Position, Ratio, More}
 use Rattle.differences.specs.declared.Values.{Values}
 use Rattle.differences.specs.declared.Values.the-variants.{Same, Other}
 
 -- ---- of no index
 
 -- both values, where they are not the same
-abbrev pub overallDifference : Property → ℕ → ℕ → Difference
-overallDifference f a b = cond (eqb a b) Equal (Overall f a b)
+abbrev pub propertyDifference : Property → ℕ → ℕ → Difference
+propertyDifference p a b = cond (eqb a b) Equal (InProperty p a b)
 
 -- the larger number less the smaller one; the other of the two subtractions gives 0
 abbrev pub moreDifference : ℕ → ℕ → Difference
@@ -67,7 +67,7 @@ ratioAt vs ws i = ratioBy i (valuesAt vs ws i)
 -- nothing equal is listed
 abbrev pub listed : Difference → List Difference
 listed Equal = []
-listed (Overall f a b) = Overall f a b ∷ []
+listed (InProperty p a b) = InProperty p a b ∷ []
 listed (Position i t u) = Position i t u ∷ []
 listed (Ratio i v k w l) = Ratio i v k w l ∷ []
 listed (More n) = More n ∷ []
@@ -83,9 +83,9 @@ unfoldable pub differences : Run → Run → List Difference
 differences r q =
     let m = length (r .positions) in
     let n = length (q .positions) in
-    listed (overallDifference Rate (r .rate) (q .rate))
-    ++ (listed (overallDifference Side (r .side) (q .side))
-    ++ (listed (overallDifference Count m n)
-    ++ (listed (overallDifference Form (positionsTag (r .form)) (positionsTag (q .form)))
+    listed (propertyDifference Rate (r .rate) (q .rate))
+    ++ (listed (propertyDifference Side (r .side) (q .side))
+    ++ (listed (propertyDifference Count m n)
+    ++ (listed (propertyDifference Form (positionsTag (r .form)) (positionsTag (q .form)))
     ++ (pointsTo r q (min m n)
     ++ listed (moreDifference m n)))))

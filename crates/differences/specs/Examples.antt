@@ -2,7 +2,7 @@
 --   Example, example   two runs, and their differences as they should be
 --   half, positiveZero, negativeZero   the kinds of 0.5, 0 and -0
 --   otherRun           a run that differs from document 01's listed run in every way, and has two points more
---   specialRun, oppositeRun, emptyRun, shortRun   other runs of the rows
+--   specialRun, oppositeRun, emptyRun, shortRun, negativeRun, smallestRun   other runs of the rows
 --   examples           the rows; examples-hold: each is as it is given
 use mathlib.Core.Bool.{true, false}
 use mathlib.Core.List.{List, [], _∷_, map}
@@ -17,7 +17,7 @@ use Rattle.record_format.specs.Moves.{inForm}
 use Rattle.record_format.specs.Runs.{Run, run}
 use Rattle.differences.specs.declared.Property.the-variants.{Rate, Side, Count, Form}
 use Rattle.differences.specs.declared.Difference.{Difference}
-use Rattle.differences.specs.declared.Difference.the-variants.{Overall, Position, Ratio, More}
+use Rattle.differences.specs.declared.Difference.the-variants.{InProperty, Position, Ratio, More}
 use Rattle.differences.specs.Differences.{positionAt, ratioAt, pointsTo, differences}
 
 -- an example: two runs, and what differs
@@ -62,30 +62,38 @@ emptyRun = run 96000 0 form.Old [] []
 abbrev shortRun : Run
 shortRun = run 96000 0 form.Old (5 ∷ []) (0x3FE0000000000000 ∷ [])
 
--- the same run twice, not-a-numbers among its ratios; a side and none, both ways; both forms of one run; every way at once, both ways; zeros, not-a-numbers
--- and infinities, of which each differs; and no points beside one
+-- one point, whose ratio is a negative not-a-number, and one with the smallest number above 0
+abbrev negativeRun : Run
+negativeRun = run 96000 0 form.Old (5 ∷ []) (0xFFF8000000000001 ∷ [])
+
+-- as above
+abbrev smallestRun : Run
+smallestRun = run 96000 0 form.Old (5 ∷ []) (1 ∷ [])
+
+-- the same run twice, and one with a not-a-number and an infinity; a side and none, both ways; both forms of one run; every way at once, both ways; zeros,
+-- not-a-numbers and infinities, of which each differs; a negative not-a-number and the smallest number; no points beside one, and no points twice
 pub examples : List Example
 examples =
     example listedRun listedRun []
     ∷ example specialRun specialRun []
-    ∷ example listedRun sidedRun (Overall Side 0 4 ∷ [])
-    ∷ example sidedRun listedRun (Overall Side 4 0 ∷ [])
-    ∷ example listedRun (inForm form.Wide listedRun) (Overall Form 3 5 ∷ [])
+    ∷ example listedRun sidedRun (InProperty Side 0 4 ∷ [])
+    ∷ example sidedRun listedRun (InProperty Side 4 0 ∷ [])
+    ∷ example listedRun (inForm form.Wide listedRun) (InProperty Form 3 5 ∷ [])
     ∷ example listedRun otherRun
-    (Overall Rate 96000 88200
-    ∷ Overall Side 0 4
-    ∷ Overall Count 3 5
-    ∷ Overall Form 3 5
+    (InProperty Rate 96000 88200
+    ∷ InProperty Side 0 4
+    ∷ InProperty Count 3 5
+    ∷ InProperty Form 3 5
     ∷ Position 1 960 961
     ∷ Ratio 1 0x3FE0000000000000 half 0x7FF8000000000000 (Nan 0x7FF8000000000000)
     ∷ Ratio 2 0x3FE0000000000000 half 0x8000000000000000 negativeZero
     ∷ More 2
     ∷ [])
     ∷ example otherRun listedRun
-    (Overall Rate 88200 96000
-    ∷ Overall Side 4 0
-    ∷ Overall Count 5 3
-    ∷ Overall Form 5 3
+    (InProperty Rate 88200 96000
+    ∷ InProperty Side 4 0
+    ∷ InProperty Count 5 3
+    ∷ InProperty Form 5 3
     ∷ Position 1 961 960
     ∷ Ratio 1 0x7FF8000000000000 (Nan 0x7FF8000000000000) 0x3FE0000000000000 half
     ∷ Ratio 2 0x8000000000000000 negativeZero 0x3FE0000000000000 half
@@ -98,7 +106,8 @@ examples =
     ∷ Position 2 7 8
     ∷ Ratio 2 0x7FF0000000000000 (Infinity false) 0xFFF0000000000000 (Infinity true)
     ∷ [])
-    ∷ example emptyRun shortRun (Overall Count 0 1 ∷ More 1 ∷ [])
+    ∷ example negativeRun smallestRun (Ratio 0 0xFFF8000000000001 (Nan 0xFFF8000000000001) 1 (Number (fin false 1 (negsuc 1073))) ∷ [])
+    ∷ example emptyRun shortRun (InProperty Count 0 1 ∷ More 1 ∷ [])
     ∷ example emptyRun emptyRun []
     ∷ []
 

@@ -9,7 +9,7 @@ use Rattle.record_format.specs.declared.ReadAnswer.{ReadAnswer}
 use Rattle.differences.specs.declared.Property.the-variants.{Rate, Side, Count, Form}
 use Rattle.differences.specs.declared.Difference.the-variants.{Equal}
 use Rattle.differences.specs.declared.OverallDifferences.{OverallDifferences}
-use Rattle.differences.specs.Differences.{overallDifference, moreDifference}
+use Rattle.differences.specs.Differences.{propertyDifference, moreDifference}
 
 -- of a refusal
 abbrev pub refusedOverall : ℕ → ℕ → ℕ → OverallDifferences
@@ -21,10 +21,10 @@ overallRead a b = record {
   number = 0;
   place = 0;
   which = 0;
-  rate = overallDifference Rate (a .rate) (b .rate);
-  side = overallDifference Side (a .side) (b .side);
-  count = overallDifference Count (a .count) (b .count);
-  form = overallDifference Form (a .form) (b .form);
+  rate = propertyDifference Rate (a .rate) (b .rate);
+  side = propertyDifference Side (a .side) (b .side);
+  count = propertyDifference Count (a .count) (b .count);
+  form = propertyDifference Form (a .form) (b .form);
   more = moreDifference (a .count) (b .count);
 }
 

@@ -1,7 +1,7 @@
 // What differs between two records (document 02, No. 7), by what strict reading answered of each: all but the points in one call, and the points
 // one index at a time, so that no call needs room for the differences.
 ghost use mathlib.Core.Path.{_≡_};
-ghost use Rattle.differences.specs.Differences.{valuesAt, overallDifference, moreDifference, positionAt, ratioAt};
+ghost use Rattle.differences.specs.Differences.{valuesAt, propertyDifference, moreDifference, positionAt, ratioAt};
 ghost use Rattle.differences.specs.Overall.{refusedOverall, overallOf};
 use kind::Kind;
 use kind::kind_of;
@@ -19,7 +19,7 @@ pub enum Property {
 // with both; the ratio at an index, with the bits and the kind of both; or how many points only the longer run has.
 pub enum Difference {
     Equal,
-    Overall(Property, u32, u32),
+    InProperty(Property, u32, u32),
     Position(u64, u64, u64),
     Ratio {
         index: u64,
@@ -66,13 +66,13 @@ fn refused_overall(number: u32, place: u32, which: u32) -> OverallDifferences
 }
 
 // The difference in a property, by its value in each record.
-fn overall_difference(property: Property, first: u32, second: u32) -> Difference
-    ensures { λ r. ⌜ r ≡ overallDifference property first second ⌝ }
+fn property_difference(property: Property, first: u32, second: u32) -> Difference
+    ensures { λ r. ⌜ r ≡ propertyDifference property first second ⌝ }
 {
     if first == second {
         return Difference::Equal;
     }
-    Difference::Overall(property, first, second)
+    Difference::InProperty(property, first, second)
 }
 
 // The points that only the longer run has, by both counts.
@@ -105,10 +105,10 @@ pub fn overall_of(first: ReadAnswer, second: ReadAnswer) -> OverallDifferences
         number: 0,
         place: 0,
         which: 0,
-        rate: overall_difference(Property::Rate, first.rate, second.rate),
-        side: overall_difference(Property::Side, first.side, second.side),
-        count: overall_difference(Property::Count, first.count, second.count),
-        form: overall_difference(Property::Form, first.form, second.form),
+        rate: property_difference(Property::Rate, first.rate, second.rate),
+        side: property_difference(Property::Side, first.side, second.side),
+        count: property_difference(Property::Count, first.count, second.count),
+        form: property_difference(Property::Form, first.form, second.form),
         more: more_difference(first.count, second.count),
     }
 }

@@ -49,7 +49,7 @@ pub over-front : (xs o : List ℕ) (n : ℕ) → length xs ≡ n → take n (ove
 over-front xs o n e = take-at xs (drop (length xs) o) n e
 
 module _ {s : List ℕ} {r : ReadAnswer} {ts vs : List ℕ} (h : Read s r ts vs) where
-  read-all : answerOf r ts vs ≡ readStrict 0 s blank blank
+  pub read-all : answerOf r ts vs ≡ readStrict 0 s blank blank
   read-all =
       ap (λ (x : ReadAnswer). answerOf x ts vs) (h .numbers)
       ∙ ap (λ (l : List ℕ). answerOf (readStrict 0 s blank blank .answer) l vs) (h .positions)
@@ -102,12 +102,15 @@ pub reads-record : (r : Run) → Accepted r → (rest : List ℕ) → readInput 
 reads-record r a rest =
     ap (λ (l : List ℕ). readStrict 0 l blank blank) (record-uncut r a rest) ∙ reads-blank r a (take (inputLimit - length (recordOf r)) rest)
 
+-- what the bytes that a program reads begin with the whole input begins with
+pub begins-whole : (a s : List ℕ) → Beginning a (take inputLimit s) → Beginning a s
+begins-whole a s h =
+    (h .0 ++ drop inputLimit s, sym (take-append-drop inputLimit s) ∙ ap (λ (x : List ℕ). x ++ drop inputLimit s) (h .1) ∙ append-assoc a (h .0) (drop inputLimit s))
+
 pub reads-no-other : (s : List ℕ) → Bytes s → ((r : Run) → Accepted r → Beginning (recordOf r) s → ⊥) → readInput s .answer .number ≡ 0 → ⊥
 reads-no-other s b never e =
-    let l = take inputLimit s in
-    let r = reads-only 0 l blank blank (below-take 256 inputLimit s b) e in
-    never (r .0) (r .1)
-    (r .2 .0 ++ drop inputLimit s, sym (take-append-drop inputLimit s) ∙ ap (λ (x : List ℕ). x ++ drop inputLimit s) (r .2 .1) ∙ append-assoc (recordOf (r .0)) (r .2 .0) (drop inputLimit s))
+    let r = reads-only 0 (take inputLimit s) blank blank (below-take 256 inputLimit s b) e in
+    never (r .0) (r .1) (begins-whole (recordOf (r .0)) s (r .2))
 
 -- ---- how far
 

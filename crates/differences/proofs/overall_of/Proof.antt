@@ -21,17 +21,17 @@ returns-2 c =
     let a = c .before .before .before .args in
     c .refused-overall2 .ensures ∙ overall-second (a .first) (a .second) (c .before .before .if1 .left) (c .before .if2 .taken)
 
-overall-difference-requires : tie.Need-overall-difference-requires
-overall-difference-requires c κs = search needs
+property-difference-requires : tie.Need-property-difference-requires
+property-difference-requires c κs = search needs
 
-overall-difference-requires-2 : tie.Need-overall-difference-requires-2
-overall-difference-requires-2 c κs = search needs
+property-difference-requires-2 : tie.Need-property-difference-requires-2
+property-difference-requires-2 c κs = search needs
 
-overall-difference-requires-3 : tie.Need-overall-difference-requires-3
-overall-difference-requires-3 c κs = search needs
+property-difference-requires-3 : tie.Need-property-difference-requires-3
+property-difference-requires-3 c κs = search needs
 
-overall-difference-requires-4 : tie.Need-overall-difference-requires-4
-overall-difference-requires-4 c κs = search needs
+property-difference-requires-4 : tie.Need-property-difference-requires-4
+property-difference-requires-4 c κs = search needs
 
 more-difference-requires : tie.Need-more-difference-requires
 more-difference-requires c κs = search needs
@@ -42,8 +42,8 @@ returns-3 c =
     let rate = form .before .before .before in
     let sound = rate .before in
     let a = sound .before .before .args in
-    overall-made (a .first) (a .second) (rate .overall-difference .ensures) (form .before .before .overall-difference2 .ensures)
-    (form .before .overall-difference3 .ensures) (form .overall-difference4 .ensures) (c .more-difference .ensures) (sound .before .if1 .left) (sound .if2 .left)
+    overall-made (a .first) (a .second) (rate .property-difference .ensures) (form .before .before .property-difference2 .ensures)
+    (form .before .property-difference3 .ensures) (form .property-difference4 .ensures) (c .more-difference .ensures) (sound .before .if1 .left) (sound .if2 .left)
 
 pub overall-of-spec : {M : Type 1} → statement M
 overall-of-spec =
@@ -53,9 +53,9 @@ overall-of-spec =
     returns
     refused-overall-requires-2
     returns-2
-    overall-difference-requires
-    overall-difference-requires-2
-    overall-difference-requires-3
-    overall-difference-requires-4
+    property-difference-requires
+    property-difference-requires-2
+    property-difference-requires-3
+    property-difference-requires-4
     more-difference-requires
     returns-3)

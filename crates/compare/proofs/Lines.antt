@@ -1,0 +1,41 @@
+-- Laws of the text of a list of differences: of a list joined from two, of what is listed of one difference, and of the points.
+use mathlib.Core.List.{List, [], _∷_, _++_, append-assoc, append-nil}
+use mathlib.Core.Path.{_≡_, refl, sym, ap, ap₂, _∙_}
+use Prim.Native.Nat.{ℕ, zero, suc}
+use Rattle.record_format.specs.Runs.{Run}
+use Rattle.differences.specs.declared.Difference.{Difference}
+use Rattle.differences.specs.declared.Difference.the-variants.{Equal, InProperty, Position, Ratio, More}
+use Rattle.differences.specs.Differences.{positionAt, ratioAt, listed, pointsTo}
+use Rattle.compare.specs.Lines.{lineOf, textOf}
+use Rattle.compare.specs.Pieces.{pointsText}
+use Rattle.compare.specs.Claims.{TextByLines}
+
+pub text-append : (l m : List Difference) → textOf (l ++ m) ≡ textOf l ++ textOf m
+unfolding textOf
+text-append [] m = refl
+text-append (d ∷ l) m = ap (λ (x : List ℕ). lineOf d ++ x) (text-append l m) ∙ sym (append-assoc (lineOf d) (textOf l) (textOf m))
+
+pub text-by-lines : TextByLines
+unfolding textOf
+text-by-lines = (refl, λ d. append-nil (lineOf d), text-append)
+
+pub text-listed : (d : Difference) → textOf (listed d) ≡ lineOf d
+unfolding textOf
+text-listed Equal = refl
+text-listed (InProperty p a b) = append-nil _
+text-listed (Position i t u) = append-nil _
+text-listed (Ratio i v k w l) = append-nil _
+text-listed (More n) = append-nil _
+
+-- what is listed of one difference, and then a list
+pub text-then : (d : Difference) (l : List Difference) → textOf (listed d ++ l) ≡ lineOf d ++ textOf l
+text-then d l = text-append (listed d) l ∙ ap (λ (x : List ℕ). x ++ textOf l) (text-listed d)
+
+pub text-points : (r q : Run) (n : ℕ) → textOf (pointsTo r q n) ≡ pointsText (r .positions) (r .ratios) (q .positions) (q .ratios) n
+unfolding textOf pointsTo pointsText
+text-points r q zero = refl
+text-points r q (suc n) =
+    let p = positionAt (r .positions) (q .positions) n in
+    let v = ratioAt (r .ratios) (q .ratios) n in
+    text-append (pointsTo r q n) (listed p ++ listed v)
+    ∙ ap₂ (λ (x y : List ℕ). x ++ y) (text-points r q n) (text-then p (listed v) ∙ ap (λ (x : List ℕ). lineOf p ++ x) (text-listed v))

@@ -1,0 +1,30 @@
+-- Laws of the text in pieces: the lines of the points, index by index, put one after the other.
+use mathlib.Core.List.{List, _++_}
+use mathlib.Core.Path.{_≡_, sym, ap}
+use Prim.Native.Nat.{ℕ, _+_, _*_, _≤_}
+use native.Mathlib.Numerals.{add-one}
+use native.Mathlib.Omega.{arith}
+use lib.ListN.{length}
+use Rattle.text.specs.PlacedAt.{PlacedAt}
+use Rattle.text.proofs.PlacedAt.{put-none, put-as, put-put}
+use Rattle.compare.specs.Pieces.{pointText, pointsText}
+use Rattle.compare.specs.Printed.{lineLimit}
+
+module _ (ts vs us ws : List ℕ) where
+  -- the lines of the indices below i were put there
+  abbrev pub Points : ℕ → ℕ → ℕ → List ℕ → List ℕ → Type 0
+  Points i at e o p = PlacedAt (lineLimit * 2 * i) (pointsText ts vs us ws i) at e o p
+
+  pub points-none : (at : ℕ) (o : List ℕ) → Points 0 at at o o
+  unfolding pointsText
+  points-none at o = put-none at o
+
+  points-next : (i : ℕ) → pointsText ts vs us ws i ++ pointText ts vs us ws i ≡ pointsText ts vs us ws (i + 1)
+  unfolding pointsText
+  points-next i = sym (ap (pointsText ts vs us ws) (add-one i))
+
+  pub points-more : (i : ℕ) {at e f : ℕ} {o p q : List ℕ} → at + lineLimit * 2 * i ≤ length o
+      → Points i at e o p → PlacedAt (lineLimit * 2) (pointText ts vs us ws i) e f p q → Points (i + 1) at f o q
+  points-more i room h g =
+      let l = put-put room h g in
+      put-as (omega (arith, ap length (points-next i), l .most)) (points-next i) l

@@ -72,7 +72,7 @@
  * must be looked at and compiled again; the minor grows by one when something is
  * added. Records have no version. */
 #define FARIGOLENC_VERSION_MAJOR 4
-#define FARIGOLENC_VERSION_MINOR 0
+#define FARIGOLENC_VERSION_MINOR 1
 
 #include <stddef.h>
 #include <stdint.h>
@@ -287,6 +287,75 @@ typedef struct {
 
 farigolenc_explain_answer farigolenc_explain(
     const uint64_t *ratios, size_t ratios_length,
+    uint64_t index);
+
+/* What differs between two records, the first and the second:
+ *
+ *   1. Read each by farigolenc_read_strict, with no rate expected and with outputs of
+ *      its own that have room for FARIGOLENC_POINTS numbers.
+ *   2. Give both answers to farigolenc_compare_overall.
+ *   3. Where that refuses nothing, ask farigolenc_compare_positions and then
+ *      farigolenc_compare_ratios at each index below both counts, from 0 up.
+ *
+ * Everything that differs is answered once, and nothing that is equal. Two records of
+ * the same bytes have no difference, whatever follows either; any others have one.
+ *
+ *   what                            `first` and `second`
+ *   FARIGOLENC_NO_DIFFERENCE        0
+ *   FARIGOLENC_DIFFERENT_RATE       rates
+ *   FARIGOLENC_DIFFERENT_SIDE       sides, 0 for none
+ *   FARIGOLENC_DIFFERENT_COUNT      numbers of points
+ *   FARIGOLENC_DIFFERENT_FORM       forms, FARIGOLENC_OLD or FARIGOLENC_WIDE
+ *   FARIGOLENC_DIFFERENT_POSITION   positions at `index`
+ *   FARIGOLENC_DIFFERENT_RATIO      ratios at `index`, 64 bits each
+ *   FARIGOLENC_MORE_POINTS          how many points only the longer run has, and 0
+ *
+ * The kinds are what farigolenc_kind answers of each ratio. A member that a difference
+ * does not have is 0, in a kind every member, so that `what` alone tells. */
+#define FARIGOLENC_NO_DIFFERENCE 0
+#define FARIGOLENC_DIFFERENT_RATE 1
+#define FARIGOLENC_DIFFERENT_SIDE 2
+#define FARIGOLENC_DIFFERENT_COUNT 3
+#define FARIGOLENC_DIFFERENT_FORM 4
+#define FARIGOLENC_DIFFERENT_POSITION 5
+#define FARIGOLENC_DIFFERENT_RATIO 6
+#define FARIGOLENC_MORE_POINTS 7
+
+typedef struct {
+    uint32_t what;
+    uint64_t index; /* of a position or a ratio */
+    uint64_t first, second;
+    farigolenc_kind_answer first_kind, second_kind; /* of ratios */
+} farigolenc_difference_answer;
+
+/* The differences that are of no index, by what strict reading answered of each
+ * record. Where a reading was refused this refuses with the same number and place, the
+ * first record before the second; `which` says which it was, and every difference is
+ * 0. After step 1 that is neither 14 nor 16. Tests nothing else: an answer that no
+ * reading gave is taken as it stands. The bytes used have no part in it. */
+typedef struct {
+    uint32_t number, place;
+    uint32_t which; /* the record that was refused, 1 or 2; else 0 */
+    farigolenc_difference_answer rate, side, count, form;
+    farigolenc_difference_answer more; /* points that only the longer run has */
+} farigolenc_overall_answer;
+
+farigolenc_overall_answer farigolenc_compare_overall(
+    farigolenc_read_answer first,
+    farigolenc_read_answer second);
+
+/* The difference between two runs' positions, or ratios, at `index`. Lent are those
+ * that were read, the first `count` numbers of each output and no more: past them an
+ * output holds what it held before. At an index that not both have there is no
+ * difference. Never refuses. */
+farigolenc_difference_answer farigolenc_compare_positions(
+    const uint64_t *first, size_t first_length,
+    const uint64_t *second, size_t second_length,
+    uint64_t index);
+
+farigolenc_difference_answer farigolenc_compare_ratios(
+    const uint64_t *first, size_t first_length,
+    const uint64_t *second, size_t second_length,
     uint64_t index);
 
 #ifdef __cplusplus

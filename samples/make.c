@@ -1,5 +1,6 @@
 /* Writes the sample records: a steady take, a drifting one, the drifting one cut
- * short, one of a side of the disc, and one in the wide form with a long pause.
+ * short, one of a side of the disc, that one taken again, and one in the wide form
+ * with a long pause.
  * Usage: make DIRECTORY */
 #include "farigolenc.h"
 
@@ -11,6 +12,7 @@
 #define CUT 100
 #define SIDED 12
 #define SIDE 4
+#define RETAKEN 14
 #define PAUSED 16
 #define PAUSED_SIDE 2
 #define NIGHT (UINT64_C(9) * 3600 * 96000)
@@ -40,7 +42,7 @@ int main(int count, char **words)
 {
     uint64_t positions[DRIFTING], ratios[DRIFTING];
     uint8_t out[FARIGOLENC_RECORD];
-    farigolenc_write_answer steady, drifting, sided, paused;
+    farigolenc_write_answer steady, drifting, sided, retaken, paused;
     int i;
 
     if (count != 2) {
@@ -80,6 +82,20 @@ int main(int count, char **words)
     sided = farigolenc_write(44100, SIDE, FARIGOLENC_OLD, positions, SIDED, ratios, SIDED, out,
                              sizeof out);
     if (sided.number != 0 || store(words[1], "sided", out, sided.length)) {
+        return 1;
+    }
+
+    /* The same taken again, two points longer: one position is a sample late, and one ratio is a
+     * not-a-number. */
+    for (i = SIDED; i < RETAKEN; i++) {
+        positions[i] = (uint64_t)i * 441;
+        ratios[i] = bits(1.0);
+    }
+    positions[5] += 1;
+    ratios[3] = UINT64_C(0x7FF8000000000000);
+    retaken = farigolenc_write(44100, SIDE, FARIGOLENC_OLD, positions, RETAKEN, ratios, RETAKEN,
+                               out, sizeof out);
+    if (retaken.number != 0 || store(words[1], "retaken", out, retaken.length)) {
         return 1;
     }
 

@@ -10,8 +10,13 @@ ghost use Rattle.record_format.specs.Writing.{writeAnswer, writeOutput};
 ghost use Rattle.record_format.specs.Reading.{readStrict, readOpen};
 ghost use Rattle.record_format.specs.Moves.{moveOf};
 ghost use Rattle.reasons.specs.Reasons.{explained};
+ghost use Rattle.differences.specs.Differences.{positionAt, ratioAt};
+ghost use Rattle.differences.specs.Overall.{overallOf};
 ghost use Rattle.farigolenc.specs.Kinds.{kindNumbers};
 ghost use Rattle.farigolenc.specs.Reasons.{reasonNumbers};
+ghost use Rattle.farigolenc.specs.Differences.{noKind, propertyNumber, plainNumbers, differenceNumbers, overallNumbers};
+use differences::Difference;
+use differences::Property;
 use kind::Kind;
 use live::adding::add;
 use live::stepping::Begun;
@@ -36,12 +41,10 @@ pub struct KindAnswer {
     pub bits: u64,
 }
 
-// What kind of double a ratio is.
-#[no_mangle]
-pub extern "C" fn farigolenc_kind(ratio: u64) -> KindAnswer
-    ensures { λ r. ⌜ r ≡ kindNumbers (kindOf ratio) ⌝ }
+// The numbers of a kind.
+fn kind_numbers(k: Kind) -> KindAnswer
+    ensures { λ r. ⌜ r ≡ kindNumbers k ⌝ }
 {
-    let k = kind::kind_of(ratio);
     match k {
         Kind::Number(value) => KindAnswer {
             kind: 0,
@@ -62,6 +65,15 @@ pub extern "C" fn farigolenc_kind(ratio: u64) -> KindAnswer
             bits,
         },
     }
+}
+
+// What kind of double a ratio is.
+#[no_mangle]
+pub extern "C" fn farigolenc_kind(ratio: u64) -> KindAnswer
+    ensures { λ r. ⌜ r ≡ kindNumbers (kindOf ratio) ⌝ }
+{
+    let k = kind::kind_of(ratio);
+    kind_numbers(k)
 }
 
 // The span of the positions at a rate.
@@ -202,6 +214,148 @@ pub extern "C" fn farigolenc_explain(ratios: &[u64], index: u64) -> ExplainAnswe
             sum: 0,
         },
     }
+}
+
+// A difference of two records: what differs, 1 the rate, 2 the side, 3 the count, 4 the form, 5 the position and 6 the ratio at an index, 7 how
+// many points only the longer run has, 0 nothing; the index; the first record's value and the second's, or for 7 the number of points; of ratios
+// both kinds.
+#[repr(C)]
+pub struct DifferenceAnswer {
+    pub what: u32,
+    pub index: u64,
+    pub first: u64,
+    pub second: u64,
+    pub first_kind: KindAnswer,
+    pub second_kind: KindAnswer,
+}
+
+// The differences that are of no index (rate, side, count, form, and how many points only the longer run has), or the refusal: its number, its
+// place, and which record it was, 1 or 2.
+#[repr(C)]
+pub struct OverallAnswer {
+    pub number: u32,
+    pub place: u32,
+    pub which: u32,
+    pub rate: DifferenceAnswer,
+    pub side: DifferenceAnswer,
+    pub count: DifferenceAnswer,
+    pub form: DifferenceAnswer,
+    pub more: DifferenceAnswer,
+}
+
+// No kind: all numbers are 0.
+fn no_kind() -> KindAnswer
+    ensures { λ r. ⌜ r ≡ noKind ⌝ }
+{
+    KindAnswer {
+        kind: 0,
+        negative: 0,
+        value: 0.0,
+        bits: 0,
+    }
+}
+
+// A difference without kinds.
+fn plain_numbers(what: u32, index: u64, first: u64, second: u64) -> DifferenceAnswer
+    ensures { λ r. ⌜ r ≡ plainNumbers what index first second ⌝ }
+{
+    DifferenceAnswer {
+        what,
+        index,
+        first,
+        second,
+        first_kind: no_kind(),
+        second_kind: no_kind(),
+    }
+}
+
+// The number of a property.
+fn property_number(property: Property) -> u32
+    ensures { λ r. ⌜ r ≡ propertyNumber property ⌝ }
+{
+    match property {
+        Property::Rate => 1,
+        Property::Side => 2,
+        Property::Count => 3,
+        Property::Form => 4,
+    }
+}
+
+// The numbers of a difference.
+fn difference_numbers(difference: Difference) -> DifferenceAnswer
+    ensures { λ r. ⌜ r ≡ differenceNumbers difference ⌝ }
+{
+    match difference {
+        Difference::Equal => plain_numbers(0, 0, 0, 0),
+        Difference::InProperty(property, first, second) => {
+            plain_numbers(property_number(property), 0, first as u64, second as u64)
+        }
+        Difference::Position(index, first, second) => plain_numbers(5, index, first, second),
+        Difference::Ratio {
+            index,
+            first,
+            first_kind,
+            second,
+            second_kind,
+        } => DifferenceAnswer {
+            what: 6,
+            index,
+            first,
+            second,
+            first_kind: kind_numbers(first_kind),
+            second_kind: kind_numbers(second_kind),
+        },
+        Difference::More(n) => plain_numbers(7, 0, n as u64, 0),
+    }
+}
+
+// The differences of two records that are of no index, by what strict reading, with no rate expected and room for every run, answered of each. Any
+// other answers are taken as they stand.
+#[no_mangle]
+pub extern "C" fn farigolenc_compare_overall(first: ReadAnswer, second: ReadAnswer) -> OverallAnswer
+    ensures { λ r. ⌜ r ≡ overallNumbers (overallOf first second) ⌝ }
+{
+    let h = differences::overall_of(first, second);
+    let rate = h.rate;
+    let side = h.side;
+    let count = h.count;
+    let form = h.form;
+    let more = h.more;
+    OverallAnswer {
+        number: h.number,
+        place: h.place,
+        which: h.which,
+        rate: difference_numbers(rate),
+        side: difference_numbers(side),
+        count: difference_numbers(count),
+        form: difference_numbers(form),
+        more: difference_numbers(more),
+    }
+}
+
+// The difference between two runs' positions at an index; none at an index that not both have. Each slice is a run's positions and no more: of what a
+// reading was lent, the first `count` numbers.
+#[no_mangle]
+pub extern "C" fn farigolenc_compare_positions(
+    first: &[u64],
+    second: &[u64],
+    index: u64,
+) -> DifferenceAnswer
+    ensures { λ r. ⌜ r ≡ differenceNumbers (positionAt (now (first .entry)) (now (second .entry)) index) ⌝ }
+{
+    difference_numbers(differences::position_at(first, second, index))
+}
+
+// The same of two runs' ratios, by the kinds and the bits of both.
+#[no_mangle]
+pub extern "C" fn farigolenc_compare_ratios(
+    first: &[u64],
+    second: &[u64],
+    index: u64,
+) -> DifferenceAnswer
+    ensures { λ r. ⌜ r ≡ differenceNumbers (ratioAt (now (first .entry)) (now (second .entry)) index) ⌝ }
+{
+    difference_numbers(differences::ratio_at(first, second, index))
 }
 
 // Where a live coding starts.

@@ -34,14 +34,13 @@ use Rattle.record_format.specs.Runs.{Run, run, positionsTag, formOf, rat
 use Rattle.record_format.specs.Writing.{runTests, accepts}
 use Rattle.record_format.specs.Reading.{Answer, refusalAnswer, recordAnswer, answerBy, readTests, readWith, readStrict, readOpen, formIn, listOf, otherRate}
 use Rattle.record_format.specs.Moves.{Move, moveOf}
-use Rattle.record_format.specs.Claims.{Accepted, AllAccepted, joined, ownTests, ownAnswer, runAnswer, ReadsBack, ReadsOnly, AcceptsExactly, OpenAgrees, Writes, ReadsWhole, ReadsFront, PrefixFree, ListsApart, TrailingBytes, Shortest, NineEach, Demand3}
+use Rattle.record_format.specs.Claims.{Accepted, AllAccepted, joined, ownTests, ownAnswer, runAnswer, ReadsBack, ReadsOnly, AcceptsExactly, OpenAgrees, Writes, ReadsWhole, ReadsFront, PrefixFree, ListsApart, TrailingBytes, Shortest, NineEach}
 use Rattle.record_format.proofs.Fields.{fieldIn, closed, laid-same}
 use Rattle.record_format.proofs.Reading.{room-enough, answer-clear, answer-good}
 use Rattle.record_format.proofs.Runs.{same-run, form-of, rateField, pointFields, flatFields, record-flat, countIndex, positionsIndex, ratiosIndex, fields-small}
 use Rattle.record_format.proofs.Sides.{sides-same}
 use Rattle.record_format.proofs.ReadsBack.{read-record}
 use Rattle.record_format.proofs.ReadsOnly.{front-stands, accepted-begins}
-use Rattle.record_format.proofs.Followed.{followed, move-followed}
 use Rattle.record_format.proofs.Moves.{own-move, own-form}
 use Rattle.record_format.proofs.Writing.{Fitting, accepted-fits, fitting-accepted, fitting-few, accepts-clear, clear-accepts, run-refused, run-no-room, run-written}
 
@@ -280,6 +279,3 @@ shortest-of-all vs s words bytes e = shortest windowSize [] (length vs) s vs byt
 
 pub nine-each : NineEach
 nine-each vs = nine-bytes windowSize [] vs
-
-pub demand3 : Demand3
-demand3 = (prefix-free, lists-apart, trailing-bytes, followed, move-followed, shortest-of-all, nine-each)

@@ -22,7 +22,7 @@
 --   ListsApart          joined records, in which forms may mix, tell their lists: a uniquely decodable code
 --   TrailingBytes       whatever follows a record changes no reading and no move; Followed, MoveFollowed: nor does what follows any whole fields
 --   Shortest, NineEach  no string of the same ratios is shorter than ours, which takes at most nine bytes a ratio
---   Demand3             demand 3, whole: the conjunction of its parts
+-- Demand 3, whole, is their conjunction with what later calls add: farigolenc/specs/Demand3.
 use mathlib.Core.Bool.{true, false, cond}
 use mathlib.Core.List.{List, [], _∷_, _++_}
 use mathlib.Core.Logic.{_⊎_, _↔_}
@@ -183,7 +183,3 @@ Shortest = (vs s : List ℕ) → Below (2 ^ 64) vs → Bytes s → openRatios (l
 -- demand 3: ours takes at most nine bytes for each ratio
 abbrev pub NineEach : Type 0
 NineEach = (vs : List ℕ) → length (codedRatios vs) ≤ 9 * length vs
-
--- demand 3, undivided
-abbrev pub Demand3 : Type 0
-Demand3 = PrefixFree × ListsApart × TrailingBytes × Followed × MoveFollowed × Shortest × NineEach

@@ -1,55 +1,18 @@
-use mathlib.Core.Bool.{Bool, true, false, cond}
-use mathlib.Core.Path.{_≡_, refl, sym, ap, _∙_}
-use Prim.Native.Nat.{ℕ}
-use mir.Val.{boolByte}
+-- `farigolenc_kind` meets its contract: the numbers of the ratio's kind.
+use mathlib.Core.Path.{ap, _∙_}
 use borrow.Author.Needs.{needs}
-use Rattle.farigolenc.specs.Kinds.{positiveZero, kindNumbers}
+use Rattle.farigolenc.specs.Kinds.{kindNumbers}
 use Rattle.farigolenc.proofs.farigolenc_kind.Statement.{statement}
 use Rattle.farigolenc.proofs.farigolenc_kind.Tie as tie
-use Rattle.farigolenc.proofs.farigolenc_kind.Reads as reads
-use Rattle.farigolenc.proofs.farigolenc_kind.Lts as lts
-use Rattle.kind.proofs.kind_of.Reads as kind-of-reads
-
--- a flag as a number
-as-number : (b : Bool) → boolByte b ≡ cond b 1 0
-as-number true = refl
-as-number false = refl
 
 kind-of-requires : tie.Need-kind-of-requires
 kind-of-requires c κs = search needs
 
-enum-known-k : tie.Need-enum-known-k
-enum-known-k c = search needs
-
-enum-known-k-2 : tie.Need-enum-known-k-2
-enum-known-k-2 c = search needs
-
-cast-t7 : tie.Need-cast-t7
-cast-t7 c = search needs
-
-enum-known-k-3 : tie.Need-enum-known-k-3
-enum-known-k-3 c = search needs
+kind-numbers-requires : tie.Need-kind-numbers-requires
+kind-numbers-requires c κs = search needs
 
 returns : tie.Need-returns
-returns c = ap kindNumbers (sym (c .before .k .given .1) ∙ c .before .before .before .kind-of .ensures)
-
-returns-2 : tie.Need-returns-2
-returns-2 c =
-    ap (λ (n : ℕ). record { kind = 1; negative = n; value = positiveZero; bits = 0 }) (as-number (c .before .k2 .given .0 .0))
-    ∙ ap kindNumbers (sym (c .before .k2 .given .1) ∙ c .before .before .before .kind-of .ensures)
-
-returns-3 : tie.Need-returns-3
-returns-3 c = ap kindNumbers (sym (c .before .k3 .given .1) ∙ c .before .before .before .kind-of .ensures)
+returns c = c .kind-numbers .ensures ∙ ap kindNumbers (c .before .kind-of .ensures)
 
 pub farigolenc-kind-spec : {M : Type 1} → statement M
-farigolenc-kind-spec =
-    tie.close
-    (tie.spec
-    kind-of-requires
-    enum-known-k
-    enum-known-k-2
-    cast-t7
-    enum-known-k-3
-    returns
-    returns-2
-    returns-3)
+farigolenc-kind-spec = tie.close (tie.spec kind-of-requires kind-numbers-requires returns)

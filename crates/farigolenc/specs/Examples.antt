@@ -1,0 +1,87 @@
+-- Document 02, No. 7: differences and their numbers, as one table, proved from the definitions by one statement.
+--   Example, example    a difference, and its numbers as they should be
+--   kindIs, differs     numbers of a kind and of a difference, each of them written out
+--   noNumbers           all of them 0
+--   examples            the rows; examples-hold: each is as it is given
+--   refused-hold        the numbers of a refusal of the second record: no difference beside it
+use mathlib.Core.Bool.{true, false}
+use mathlib.Core.List.{List, [], _∷_, map}
+use mathlib.Core.Path.{_≡_, refl}
+use Prim.Native.Nat.{ℕ}
+use lib.Ieee.{Float, fin, ofBits, ofFields}
+use lib.IntN.{pos, negsuc}
+use Rattle.kind.specs.Kinds.{kindOf}
+use Rattle.differences.specs.declared.Property.the-variants.{Rate, Side, Count, Form}
+use Rattle.differences.specs.declared.Difference.{Difference}
+use Rattle.differences.specs.declared.Difference.the-variants.{Equal, InProperty, Position, Ratio, More}
+use Rattle.differences.specs.Overall.{overallOf}
+use Rattle.record_format.specs.declared.ReadAnswer.{ReadAnswer}
+use Rattle.farigolenc.specs.declared.KindAnswer.{KindAnswer}
+use Rattle.farigolenc.specs.declared.DifferenceAnswer.{DifferenceAnswer}
+use Rattle.farigolenc.specs.declared.OverallAnswer.{OverallAnswer}
+use Rattle.farigolenc.specs.Differences.{differenceNumbers, overallNumbers}
+
+-- an example: a difference, and its numbers
+pub record Example : Type 0 where
+  pub difference : Difference
+  pub expected : DifferenceAnswer
+
+-- such an example
+abbrev example : Difference → DifferenceAnswer → Example
+example d n = record { difference = d; expected = n }
+
+-- 0 as a float
+abbrev zero : Float
+zero = fin false 0 (pos 0)
+
+-- the kind, whether it is a negative infinity, the value and the bits
+abbrev kindIs : ℕ → ℕ → Float → ℕ → KindAnswer
+kindIs k s v b = record { kind = k; negative = s; value = v; bits = b }
+
+-- what differs, the index, both values and both kinds
+abbrev differs : ℕ → ℕ → ℕ → ℕ → KindAnswer → KindAnswer → DifferenceAnswer
+differs w i a b k l = record { what = w; index = i; first = a; second = b; «first_kind» = k; «second_kind» = l }
+
+-- no kind
+abbrev none : KindAnswer
+none = kindIs 0 0 zero 0
+
+-- no difference
+abbrev noNumbers : DifferenceAnswer
+noNumbers = differs 0 0 0 0 none none
+
+-- each property; a position; ratios of each kind on each side, infinities of both signs among them; the points that only the longer run has; and none
+pub examples : List Example
+examples =
+    example (InProperty Rate 96000 88200) (differs 1 0 96000 88200 none none)
+    ∷ example (InProperty Side 0 4) (differs 2 0 0 4 none none)
+    ∷ example (InProperty Count 3 5) (differs 3 0 3 5 none none)
+    ∷ example (InProperty Form 3 5) (differs 4 0 3 5 none none)
+    ∷ example (Position 7 960 961) (differs 5 7 960 961 none none)
+    ∷ example (Ratio 7 0x3FE0000000000000 (kindOf 0x3FE0000000000000) 0x7FF8000000000000 (kindOf 0x7FF8000000000000))
+    (differs 6 7 0x3FE0000000000000 0x7FF8000000000000 (kindIs 0 0 (fin false 1 (negsuc 0)) 0) (kindIs 2 0 zero 0x7FF8000000000000))
+    ∷ example (Ratio 8 0xFFF0000000000000 (kindOf 0xFFF0000000000000) 0x7FF0000000000000 (kindOf 0x7FF0000000000000))
+    (differs 6 8 0xFFF0000000000000 0x7FF0000000000000 (kindIs 1 1 zero 0) (kindIs 1 0 zero 0))
+    ∷ example (Ratio 9 0xFFF8000000000001 (kindOf 0xFFF8000000000001) 0x8000000000000000 (kindOf 0x8000000000000000))
+    (differs 6 9 0xFFF8000000000001 0x8000000000000000 (kindIs 2 0 zero 0xFFF8000000000001) (kindIs 0 0 (fin true 0 (pos 0)) 0))
+    ∷ example (More 2) (differs 7 0 2 0 none none)
+    ∷ example Equal noNumbers
+    ∷ []
+
+-- the numbers, computed from the definitions, are those that are given
+pub examples-hold : map (λ e. differenceNumbers (e .difference)) examples ≡ map (λ e. e .expected) examples
+unfolding examples ofBits ofFields
+examples-hold = refl
+
+-- a record that was read beside one that was refused by 10 at 7
+abbrev read : ReadAnswer
+read = record { number = 0; place = 0; rate = 96000; side = 4; count = 3; form = 3; used = 50 }
+
+-- as above
+abbrev refused : ReadAnswer
+refused = record { number = 10; place = 7; rate = 0; side = 0; count = 0; form = 0; used = 0 }
+
+pub refused-hold : overallNumbers (overallOf read refused)
+    ≡ record { number = 10; place = 7; which = 2; rate = noNumbers; side = noNumbers; count = noNumbers; form = noNumbers; more = noNumbers }
+unfolding ofBits ofFields overallOf
+refused-hold = refl

@@ -14,6 +14,8 @@
    ratios COUNT BYTE..             the ratios of this body of the ratios' field, read strictly and openly, a line each
    reason INDEX RATIO..            why the ratio of this index has its form, or the refusal
    span RATE POSITION..            the milliseconds of the span, or the refusal
+   comparing BYTE.. and BYTE..     what differs between the records that these inputs begin with, a line each, or `nothing`, or the refusal
+   differences                     the numbers of the differences, as the header has them
    live FILL SEEN                  the number that an addition to this state gives
    reader FILL SEEN COUNT OFFSET LENGTH   the number that a step of this reader gives, over so many bytes 00
    widths                          sign and bits of the integers, in the order of the page
@@ -389,6 +391,8 @@ static farigolenc_span_answer (*const span_call)(lent_rate, const lent_point *, 
 static farigolenc_write_answer (*const add_call)(farigolenc_live *, lent_point, uint8_t *, size_t) = farigolenc_live_add;
 static farigolenc_cursor_answer (*const making_call)(lent_count) = farigolenc_cursor_new;
 static farigolenc_explain_answer (*const explain_call)(const lent_point *, size_t, lent_index) = farigolenc_explain;
+static farigolenc_difference_answer (*const compare_calls[2])(const lent_point *, size_t, const lent_point *, size_t, lent_index) = {
+    farigolenc_compare_positions, farigolenc_compare_ratios};
 
 /* Sign and bits of one integer. */
 #define WIDTH(integer) ((integer) = -1, printf("%s\t%d\n", (integer) > 0 ? "unsigned" : "signed", (int)(8 * sizeof(integer))))
@@ -413,7 +417,9 @@ static void widths(void)
     farigolenc_step_answer stepped;
     farigolenc_live state;
     farigolenc_cursor cursor;
-    if (!write_call || !read_calls[0] || !read_calls[1] || !move_calls[0] || !move_calls[1] || !span_call || !add_call || !making_call || !explain_call) {
+    farigolenc_overall_answer overall;
+    farigolenc_difference_answer d;
+    if (!compare_calls[0] || !compare_calls[1] || !write_call || !read_calls[0] || !read_calls[1] || !move_calls[0] || !move_calls[1] || !span_call || !add_call || !making_call || !explain_call) {
         exit(2);
     }
     SAME(rate, side);
@@ -433,6 +439,8 @@ static void widths(void)
     SAME(read.number, stepped.place);
     SAME(read.number, why.number);
     SAME(read.number, why.place);
+    SAME(read.number, overall.number);
+    SAME(read.number, overall.place);
     WIDTH(read.number);
     SAME(read.rate, read.side);
     SAME(read.rate, read.count);
@@ -457,6 +465,94 @@ static void widths(void)
     SAME(why.reason, why.trailing);
     SAME(why.reason, why.sum);
     WIDTH(why.reason);
+    SAME(overall.which, d.what);
+    WIDTH(overall.which);
+    SAME(index, d.index);
+    SAME(index, d.first);
+    SAME(index, d.second);
+    WIDTH(d.index);
+}
+
+static const struct {
+    uint32_t what;
+    const char *word;
+} differences[] = {
+    {FARIGOLENC_NO_DIFFERENCE, "nothing"},
+    {FARIGOLENC_DIFFERENT_RATE, "rate"},
+    {FARIGOLENC_DIFFERENT_SIDE, "side"},
+    {FARIGOLENC_DIFFERENT_COUNT, "count"},
+    {FARIGOLENC_DIFFERENT_FORM, "form"},
+    {FARIGOLENC_DIFFERENT_POSITION, "position"},
+    {FARIGOLENC_DIFFERENT_RATIO, "ratio"},
+    {FARIGOLENC_MORE_POINTS, "more"},
+};
+
+/* The word and the bits of a ratio, by its kind. */
+static void kind_and_bits(farigolenc_kind_answer kind, uint64_t ratio)
+{
+    static const char *const kinds[] = {[FARIGOLENC_NUMBER] = "number", [FARIGOLENC_INFINITY] = "infinity", [FARIGOLENC_NAN] = "nan"};
+    printf(" %s %016" PRIx64, kinds[kind.kind], ratio);
+}
+
+/* The line of a difference, if it is one; answers how many. */
+static int difference(farigolenc_difference_answer d)
+{
+    if (d.what == FARIGOLENC_NO_DIFFERENCE) {
+        return 0;
+    }
+    printf("%s", differences[d.what].word);
+    if (d.what == FARIGOLENC_DIFFERENT_POSITION || d.what == FARIGOLENC_DIFFERENT_RATIO) {
+        printf(" %" PRIu64, d.index);
+    }
+    if (d.what == FARIGOLENC_DIFFERENT_RATIO) {
+        kind_and_bits(d.first_kind, d.first);
+        kind_and_bits(d.second_kind, d.second);
+    } else {
+        printf(" %" PRIu64, d.first);
+        if (d.what != FARIGOLENC_MORE_POINTS) {
+            printf(" %" PRIu64, d.second);
+        }
+    }
+    printf("\n");
+    return 1;
+}
+
+static void comparing(char **words)
+{
+    static uint64_t others[2][POINTS];
+    farigolenc_read_answer first, second;
+    farigolenc_overall_answer overall;
+    uint64_t i;
+    int lines;
+    char **end = words;
+    while (*end != NULL && strcmp(*end, "and") != 0) {
+        end++;
+    }
+    if (*end == NULL) {
+        exit(2);
+    }
+    *end = NULL;
+    length = take_bytes(words, bytes);
+    first = farigolenc_read_strict(0, bytes, length, positions, POINTS, ratios, POINTS);
+    length = take_bytes(end + 1, bytes);
+    second = farigolenc_read_strict(0, bytes, length, others[0], POINTS, others[1], POINTS);
+    overall = farigolenc_compare_overall(first, second);
+    if (overall.number != 0) {
+        printf("refused %" PRIu32 " at %" PRIu32 " in %" PRIu32 "\n", overall.number, overall.place, overall.which);
+        return;
+    }
+    lines = difference(overall.rate);
+    lines += difference(overall.side);
+    lines += difference(overall.count);
+    lines += difference(overall.form);
+    for (i = 0; i < first.count || i < second.count; i++) {
+        lines += difference(farigolenc_compare_positions(positions, first.count, others[0], second.count, i));
+        lines += difference(farigolenc_compare_ratios(ratios, first.count, others[1], second.count, i));
+    }
+    lines += difference(overall.more);
+    if (lines == 0) {
+        printf("nothing\n");
+    }
 }
 
 int main(int count, char **words)
@@ -499,6 +595,12 @@ int main(int count, char **words)
         reason(decimal(words[2]), words + 3);
     } else if (strcmp(mode, "span") == 0 && count > 3) {
         span((uint32_t)decimal(words[2]), words + 3);
+    } else if (strcmp(mode, "comparing") == 0) {
+        comparing(words + 2);
+    } else if (strcmp(mode, "differences") == 0) {
+        for (size_t i = 0; i < sizeof differences / sizeof *differences; i++) {
+            printf("%" PRIu32 "\t%s\n", differences[i].what, differences[i].word);
+        }
     } else if (strcmp(mode, "live") == 0 && count == 4) {
         live(words + 2);
     } else if (strcmp(mode, "reader") == 0 && count == 7) {

@@ -41,12 +41,12 @@ module _ (a b : Answer) where
   unfolding compared
   compared-second ok n = rw (eq-eqb (a .answer .number) 0 ok, ne-eqb (b .answer .number) 0 n)
 
-  pub compared-both : a .answer .number ≡ 0 → b .answer .number ≡ 0 → compared a b ≡ record { number = 0; place = 0; which = 0; list = differences (runOf a) (runOf b) }
+  compared-both : a .answer .number ≡ 0 → b .answer .number ≡ 0 → compared a b ≡ record { number = 0; place = 0; which = 0; list = differences (runOf a) (runOf b) }
   unfolding compared
   compared-both ok fine = rw (eq-eqb (a .answer .number) 0 ok, eq-eqb (b .answer .number) 0 fine)
 
   -- where neither was refused
-  pub compared-clear : compared a b .number ≡ 0 → (a .answer .number ≡ 0) × (b .answer .number ≡ 0)
+  compared-clear : compared a b .number ≡ 0 → (a .answer .number ≡ 0) × (b .answer .number ≡ 0)
   unfolding compared
   compared-clear e =
       first-clear (λ (c : Comparison). c .number) (a .answer .number) (b .answer .number)
@@ -55,7 +55,7 @@ module _ (a b : Answer) where
 -- ---- of two records
 
 -- the run of a record's own answer, whatever the outputs held
-pub own-run : (r : Run) → Accepted r → (ts vs : List ℕ) → runOf (ownAnswer r ts vs) ≡ r
+own-run : (r : Run) → Accepted r → (ts vs : List ℕ) → runOf (ownAnswer r ts vs) ≡ r
 own-run r a ts vs =
     let f = accepted-fits r (a .passes) in
     let o = ownAnswer r ts vs in
@@ -64,7 +64,7 @@ own-run r a ts vs =
     ∙ ap₂ (λ (x y : List ℕ). run (r .rate) (r .side) (r .form) x y)
     (over-front (r .positions) ts (length (r .positions)) refl) (over-front (r .ratios) vs (length (r .positions)) (f .paired))
 
-pub compared-own : (r q : Run) → Accepted r → Accepted q
+compared-own : (r q : Run) → Accepted r → Accepted q
     → compared (ownAnswer r blank blank) (ownAnswer q blank blank) ≡ record { number = 0; place = 0; which = 0; list = differences r q }
 compared-own r q a b =
     compared-both (ownAnswer r blank blank) (ownAnswer q blank blank) refl refl
@@ -98,7 +98,7 @@ empty-exactly s t u v = (
 
 -- what begins with no record is refused, with whatever room
 module _ (s ts vs : List ℕ) (bytes : Bytes s) (m : maxPoints ≤ length ts) (n : maxPoints ≤ length vs) (never : (r : Run) → Accepted r → Beginning (recordOf r) s → ⊥) where
-  pub refused-some : readStrict 0 s ts vs .answer .number ≡ 0 → ⊥
+  refused-some : readStrict 0 s ts vs .answer .number ≡ 0 → ⊥
   refused-some e = let r = reads-only 0 s ts vs bytes e in never (r .0) (r .1) (r .2)
 
   -- as with the room that a comparison has

@@ -81,6 +81,7 @@ read = record { number = 0; place = 0; rate = 96000; side = 4; count = 3; form =
 abbrev refused : ReadAnswer
 refused = record { number = 10; place = 7; rate = 0; side = 0; count = 0; form = 0; used = 0 }
 
+-- no difference beside it
 pub refused-hold : overallNumbers (overallOf read refused)
     ≡ record { number = 10; place = 7; which = 2; rate = noNumbers; side = noNumbers; count = noNumbers; form = noNumbers; more = noNumbers }
 unfolding ofBits ofFields overallOf

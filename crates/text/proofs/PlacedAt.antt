@@ -39,6 +39,10 @@ put-more l h = record { most = le-trans (h .most) l; next = h .next; after = h .
 pub put-as : {m n : ℕ} {a b : List ℕ} {at e : ℕ} {o p : List ℕ} → length b ≤ n → a ≡ b → PlacedAt m a at e o p → PlacedAt n b at e o p
 put-as l e h = record { most = l; next = rw e at (h .next); after = rw e at (h .after) }
 
+-- the text f of a value x that is known to be y
+pub put-known : {A : Type 0} {m n : ℕ} (f : A → List ℕ) {x y : A} {at e : ℕ} {o p : List ℕ} → m ≤ n → x ≡ y → PlacedAt m (f y) at e o p → PlacedAt n (f x) at e o p
+put-known f l e h = put-more l (put-same (sym (ap f e)) h)
+
 -- a text, and then the next one after it
 pub put-put : {m n : ℕ} {a b : List ℕ} {at e f : ℕ} {o p q : List ℕ} → at + m ≤ length o → PlacedAt m a at e o p → PlacedAt n b e f p q → PlacedAt (m + n) (a ++ b) at f o q
 put-put {m} {n} {a} {b} {at} {e} {f} {o} {p} {q} room h g = record {

@@ -1,7 +1,6 @@
 -- `put_difference` meets its contract: the line of each case.
-use mathlib.Core.Path.{sym, ap}
 use native.Mathlib.Omega.{arith}
-use Rattle.text.proofs.PlacedAt.{put-none, put-same, put-more}
+use Rattle.text.proofs.PlacedAt.{put-none, put-known}
 use Rattle.compare.specs.Lines.{positionLine, moreLine, lineOf}
 use borrow.Author.Needs.{needs}
 use Rattle.compare.proofs.put_difference.Statement.{statement}
@@ -52,7 +51,7 @@ put-named-requires c κs = search needs
 returns : tie.Need-returns
 returns c =
     let a = c .before .before .before .args in
-    put-same (sym (ap lineOf (c .enum-told .given .1))) (put-more (omega arith) (put-none (a .at) (a .out .now)))
+    put-known lineOf (omega arith) (c .enum-told .given .1) (put-none (a .at) (a .out .now))
 
 same-length : tie.Need-same-length
 same-length c = search needs
@@ -61,7 +60,7 @@ returns-2 : tie.Need-returns-2
 returns-2 c =
     let put = c .before .before in
     let told = put .before .before .before in
-    put-same (sym (ap lineOf (told .difference .given .1))) (put .put-property .ensures)
+    put-known lineOf (omega arith) (told .difference .given .1) (put .put-property .ensures)
 
 same-length-2 : tie.Need-same-length-2
 same-length-2 c = search needs
@@ -72,7 +71,7 @@ returns-3 c =
     let put = c .before .before in
     let lent = put .before .before .before .before in
     let told = lent .before .before in
-    put-more (omega arith) (put-same (sym (ap lineOf (told .difference2 .given .1))) (put .put-three .ensures))
+    put-known lineOf (omega arith) (told .difference2 .given .1) (put .put-three .ensures)
 
 same-length-3 : tie.Need-same-length-3
 same-length-3 c = search needs
@@ -81,7 +80,7 @@ returns-4 : tie.Need-returns-4
 returns-4 c =
     let put = c .before .before in
     let told = put .before .before .before in
-    put-same (sym (ap lineOf (told .difference3 .given .1))) (put .put-ratio .ensures)
+    put-known lineOf (omega arith) (told .difference3 .given .1) (put .put-ratio .ensures)
 
 same-length-4 : tie.Need-same-length-4
 same-length-4 c = search needs
@@ -91,7 +90,7 @@ unfolding moreLine
 returns-5 c =
     let put = c .before .before in
     let told = put .before .before .before .before in
-    put-more (omega arith) (put-same (sym (ap lineOf (told .difference4 .given .1))) (put .put-named .ensures))
+    put-known lineOf (omega arith) (told .difference4 .given .1) (put .put-named .ensures)
 
 pub put-difference-spec : {M : Type 1} → statement M
 put-difference-spec =

@@ -1,7 +1,6 @@
 -- `put_kind` meets its contract: the word of each case.
-use mathlib.Core.Path.{sym, ap}
 use native.Mathlib.Omega.{arith}
-use Rattle.text.proofs.PlacedAt.{put-same, put-more}
+use Rattle.text.proofs.PlacedAt.{put-known}
 use Rattle.compare.specs.Lines.{kindWord}
 use borrow.Author.Needs.{needs}
 use Rattle.compare.proofs.put_kind.Statement.{statement}
@@ -41,7 +40,7 @@ returns : tie.Need-returns
 returns c =
     let put = c .before .before in
     let told = put .before .before .before in
-    put-more (omega arith) (put-same (sym (ap kindWord (told .enum-told .given .1))) (put .put-text .ensures))
+    put-known kindWord (omega arith) (told .enum-told .given .1) (put .put-text .ensures)
 
 same-length-2 : tie.Need-same-length-2
 same-length-2 c = search needs
@@ -50,7 +49,7 @@ returns-2 : tie.Need-returns-2
 returns-2 c =
     let put = c .before .before in
     let told = put .before .before .before in
-    put-more (omega arith) (put-same (sym (ap kindWord (told .enum-told2 .given .1))) (put .put-text2 .ensures))
+    put-known kindWord (omega arith) (told .enum-told2 .given .1) (put .put-text2 .ensures)
 
 same-length-3 : tie.Need-same-length-3
 same-length-3 c = search needs
@@ -59,7 +58,7 @@ returns-3 : tie.Need-returns-3
 returns-3 c =
     let put = c .before .before in
     let told = put .before .before .before in
-    put-more (omega arith) (put-same (sym (ap kindWord (told .enum-told3 .given .1))) (put .put-text3 .ensures))
+    put-known kindWord (omega arith) (told .enum-told3 .given .1) (put .put-text3 .ensures)
 
 pub put-kind-spec : {M : Type 1} → statement M
 put-kind-spec =

@@ -1,12 +1,17 @@
 -- `put_property` meets its contract: the word of each case, and both values.
-use mathlib.Core.Path.{sym, ap}
+use mathlib.Core.List.{List}
+use Prim.Native.Nat.{ℕ}
 use native.Mathlib.Omega.{arith}
 use Rattle.differences.specs.declared.Property.{Property}
-use Rattle.text.proofs.PlacedAt.{put-same, put-more}
+use Rattle.text.proofs.PlacedAt.{put-known}
 use Rattle.compare.specs.Lines.{propertyLine}
 use borrow.Author.Needs.{needs}
 use Rattle.compare.proofs.put_property.Statement.{statement}
 use Rattle.compare.proofs.put_property.Tie as tie
+
+-- the line of a property with these values
+abbrev line : ℕ → ℕ → Property → List ℕ
+line x y p = propertyLine p x y
 
 enum-told : tie.Need-enum-told
 enum-told c = search needs
@@ -65,7 +70,7 @@ returns c =
     let put = c .before .before in
     let told = put .before .before .before .before in
     let a = told .before .before .before .args in
-    put-more (omega arith) (put-same (sym (ap (λ (p : Property). propertyLine p (a .first) (a .second)) (told .enum-told .given .1))) (put .put-two .ensures))
+    put-known (line (a .first) (a .second)) (omega arith) (told .enum-told .given .1) (put .put-two .ensures)
 
 same-length-2 : tie.Need-same-length-2
 same-length-2 c = search needs
@@ -76,7 +81,7 @@ returns-2 c =
     let put = c .before .before in
     let told = put .before .before .before .before in
     let a = told .before .before .before .args in
-    put-more (omega arith) (put-same (sym (ap (λ (p : Property). propertyLine p (a .first) (a .second)) (told .enum-told2 .given .1))) (put .put-two2 .ensures))
+    put-known (line (a .first) (a .second)) (omega arith) (told .enum-told2 .given .1) (put .put-two2 .ensures)
 
 same-length-3 : tie.Need-same-length-3
 same-length-3 c = search needs
@@ -87,7 +92,7 @@ returns-3 c =
     let put = c .before .before in
     let told = put .before .before .before .before in
     let a = told .before .before .before .args in
-    put-more (omega arith) (put-same (sym (ap (λ (p : Property). propertyLine p (a .first) (a .second)) (told .enum-told3 .given .1))) (put .put-two3 .ensures))
+    put-known (line (a .first) (a .second)) (omega arith) (told .enum-told3 .given .1) (put .put-two3 .ensures)
 
 same-length-4 : tie.Need-same-length-4
 same-length-4 c = search needs
@@ -98,7 +103,7 @@ returns-4 c =
     let put = c .before .before in
     let told = put .before .before .before .before in
     let a = told .before .before .before .args in
-    put-more (omega arith) (put-same (sym (ap (λ (p : Property). propertyLine p (a .first) (a .second)) (told .enum-told4 .given .1))) (put .put-two4 .ensures))
+    put-known (line (a .first) (a .second)) (omega arith) (told .enum-told4 .given .1) (put .put-two4 .ensures)
 
 pub put-property-spec : {M : Type 1} → statement M
 put-property-spec =

@@ -9,7 +9,9 @@
 //! two calls of the library that it stands for, strict reading and writing in that form; moved are
 //! runs that both forms take. Positions are timed in runs of one ratio throughout, which takes a
 //! byte and no search; so are those of the wide form, in a table of its own. Runs have no side but
-//! in a table of their own. At the end stand the targets that were not met.
+//! in a table of their own. Two records are laid side by side from their bytes, and as runs that
+//! were read already: with the library by a call for each position and each ratio, and beside it
+//! by one loop. At the end stand the targets that were not met.
 //!
 //! Each sample of the library is timed between two of what it is set beside. A ratio says how many
 //! times as fast the library is as the mean of these two; printed are medians over the samples.
@@ -22,7 +24,10 @@ mod answers;
 mod library;
 mod plain;
 
-use answers::{Cursor, Live, Making, Move, Reading, Stepped, Write, Written, OLD, WIDE};
+use answers::{
+    Cursor, Difference, Live, Making, Move, Reading, Stepped, Write, Written, OLD, WIDE,
+};
+use plain::ReadRun;
 use std::hint::black_box;
 
 const POINTS: usize = 4_096;
@@ -184,6 +189,29 @@ impl Output {
     }
 }
 
+/// Lists what differs between two records that were read, by a call for each position and ratio.
+fn compare_by_calls(first: &ReadRun, second: &ReadRun, list: &mut Vec<Difference>) {
+    let mut put = |difference: Difference| {
+        if difference.what != 0 {
+            list.push(difference);
+        }
+    };
+    let overall = library::compare_overall(first.reading, second.reading);
+    for property in [overall.rate, overall.side, overall.count, overall.form] {
+        put(property);
+    }
+    let both = first.positions.len().min(second.positions.len());
+    for index in 0..both as u64 {
+        put(library::compare_positions(
+            first.positions,
+            second.positions,
+            index,
+        ));
+        put(library::compare_ratios(first.ratios, second.ratios, index));
+    }
+    put(overall.more);
+}
+
 /// One implementation's calls.
 struct Calls {
     write: Write,
@@ -193,6 +221,7 @@ struct Calls {
     live_add: fn(&mut Live, u64, &mut [u8]) -> Written,
     cursor_new: fn(u64) -> Making,
     step: fn(&[u8], Cursor) -> Stepped,
+    compare: fn(&ReadRun, &ReadRun, &mut Vec<Difference>),
 }
 
 const LIBRARY: Calls = Calls {
@@ -203,6 +232,7 @@ const LIBRARY: Calls = Calls {
     live_add: library::live_add,
     cursor_new: library::cursor_new,
     step: library::step,
+    compare: compare_by_calls,
 };
 
 const PLAIN: Calls = Calls {
@@ -213,6 +243,7 @@ const PLAIN: Calls = Calls {
     live_add: plain::live_add_by_value,
     cursor_new: plain::cursor_new,
     step: plain::step,
+    compare: plain::compare,
 };
 
 #[derive(Clone, Copy, PartialEq)]
@@ -348,6 +379,87 @@ fn check(calls: &Calls, call: Call, run: &Run, out: &mut Output) {
     assert!(same, "{} differs on a run of {count} points", name(call));
 }
 
+/// Two records to be compared, and what strict reading answers of each.
+struct Pair<'a> {
+    runs: [Run<'a>; 2],
+    readings: [Reading; 2],
+}
+
+fn pairs<'a>(first: Vec<Run<'a>>, second: Vec<Run<'a>>) -> Vec<Pair<'a>> {
+    let out = &mut Output::new();
+    let mut read =
+        |run: &Run| library::read_strict(0, &run.record, &mut out.positions, &mut out.ratios);
+    let mut pair = |(first, second)| Pair {
+        readings: [read(&first), read(&second)],
+        runs: [first, second],
+    };
+    first.into_iter().zip(second).map(&mut pair).collect()
+}
+
+/// The outputs of reading two records, and what differs.
+struct Compared {
+    outputs: [Output; 2],
+    list: Vec<Difference>,
+}
+
+impl Compared {
+    fn new() -> Compared {
+        Compared {
+            outputs: [Output::new(), Output::new()],
+            list: Vec::with_capacity(2 * POINTS + 5),
+        }
+    }
+}
+
+/// Lists what differs between two records, which are read first or were read already.
+fn compare(calls: &Calls, read_first: bool, pair: &Pair, out: &mut Compared) {
+    let mut readings = pair.readings;
+    if read_first {
+        for n in 0..2 {
+            let (record, out) = (&pair.runs[n].record, &mut out.outputs[n]);
+            readings[n] = (calls.read_strict)(0, record, &mut out.positions, &mut out.ratios);
+        }
+    }
+    let [first, second] = [0, 1].map(|n| {
+        let count = readings[n].count as usize;
+        let (run, out) = (&pair.runs[n], &out.outputs[n]);
+        let (positions, ratios) = if read_first {
+            (&out.positions[..count], &out.ratios[..count])
+        } else {
+            (run.positions, run.ratios)
+        };
+        ReadRun {
+            reading: readings[n],
+            positions,
+            ratios,
+        }
+    });
+    out.list.clear();
+    (calls.compare)(&first, &second, &mut out.list);
+}
+
+/// Compares what both implementations list; the runs are equal, or differ in the side, the form and
+/// every point.
+fn check_comparison(read_first: bool, pair: &Pair, out: &mut Compared) {
+    compare(&PLAIN, read_first, pair, out);
+    let plain = out.list.clone();
+    compare(&LIBRARY, read_first, pair, out);
+    let [first, second] = &pair.runs;
+    let wanted = if first.side == second.side {
+        0
+    } else {
+        2 + 2 * first.ratios.len()
+    };
+    let good = out.list == plain && plain.len() == wanted;
+    assert!(good, "a comparison that should list {wanted} differs");
+}
+
+fn copy_both(pair: &Pair, out: &mut Compared) {
+    for (run, out) in pair.runs.iter().zip(&mut out.outputs) {
+        copy(Call::Strict, run, out);
+    }
+}
+
 fn copy(call: Call, run: &Run, out: &mut Output) {
     let count = run.ratios.len();
     if call != Call::Live {
@@ -400,6 +512,48 @@ struct Cell {
     ratio: f64,
 }
 
+/// Seconds of some work on all inputs.
+fn all<I, O>(inputs: &[I], out: &mut O, repeats: usize, work: impl Fn(&I, &mut O)) -> f64 {
+    time(repeats, || {
+        for input in inputs {
+            work(black_box(input), out);
+            black_box(&mut *out);
+        }
+    })
+}
+
+/// Medians for inputs of so many ratios: of what the library is set beside, of the library, and of
+/// a copy.
+fn medians<I, O>(
+    (inputs, points): (&[I], usize),
+    out: &mut O,
+    samples: usize,
+    beside: impl Fn(&I, &mut O),
+    library: impl Fn(&I, &mut O),
+    copy: impl Fn(&I, &mut O),
+) -> Cell {
+    let once = all(inputs, out, 3, &beside);
+    let repeats = (SAMPLE / once).ceil() as usize;
+    let (mut besides, mut libraries, mut ratios) = (Vec::new(), Vec::new(), Vec::new());
+    for _ in 0..samples {
+        let before = all(inputs, out, repeats, &beside);
+        let library = all(inputs, out, repeats, &library);
+        let after = all(inputs, out, repeats, &beside);
+        let beside = (before + after) / 2.0;
+        besides.push(beside);
+        libraries.push(library);
+        ratios.push(beside / library);
+    }
+    let copies = (0..samples).map(|_| all(inputs, out, 10 * repeats, &copy));
+    let megabytes = (8 * points) as f64 / 1e6;
+    Cell {
+        copy: megabytes / median(copies.collect()),
+        beside: megabytes / median(besides),
+        library: megabytes / median(libraries),
+        ratio: median(ratios),
+    }
+}
+
 fn measure(call: Call, runs: &[Run], samples: usize) -> Cell {
     let (beside, library) = (beside(call), (&LIBRARY, call));
     for (calls, call) in [beside, library] {
@@ -408,43 +562,32 @@ fn measure(call: Call, runs: &[Run], samples: usize) -> Cell {
             check(calls, call, run, out);
         }
     }
-    let out = &mut Output::new();
-    let mut all = |(calls, call): (&Calls, Call), repeats: usize| {
-        time(repeats, || {
-            for run in runs {
-                work(calls, call, black_box(run), out);
-                black_box(&mut *out);
-            }
-        })
-    };
-    let once = all(beside, 3);
-    let repeats = (SAMPLE / once).ceil() as usize;
-    let (mut besides, mut libraries, mut ratios) = (Vec::new(), Vec::new(), Vec::new());
-    for _ in 0..samples {
-        let before = all(beside, repeats);
-        let library = all(library, repeats);
-        let after = all(beside, repeats);
-        let beside = (before + after) / 2.0;
-        besides.push(beside);
-        libraries.push(library);
-        ratios.push(beside / library);
+    let points = runs.iter().map(|run| run.ratios.len()).sum();
+    medians(
+        (runs, points),
+        &mut Output::new(),
+        samples,
+        |run, out| work(beside.0, beside.1, run, out),
+        |run, out| work(library.0, library.1, run, out),
+        |run, out| copy(call, run, out),
+    )
+}
+
+fn measure_comparison(read_first: bool, pairs: &[Pair], samples: usize) -> Cell {
+    let out = &mut Compared::new();
+    for pair in pairs {
+        check_comparison(read_first, pair, out);
     }
-    let copies = (0..samples).map(|_| {
-        time(10 * repeats, || {
-            for run in runs {
-                copy(call, black_box(run), out);
-                black_box(&mut *out);
-            }
-        })
-    });
-    let points: usize = runs.iter().map(|run| run.ratios.len()).sum();
-    let megabytes = (8 * points) as f64 / 1e6;
-    Cell {
-        copy: megabytes / median(copies.collect()),
-        beside: megabytes / median(besides),
-        library: megabytes / median(libraries),
-        ratio: median(ratios),
-    }
+    let runs = pairs.iter().flat_map(|pair| &pair.runs);
+    let points = runs.map(|run| run.ratios.len()).sum();
+    medians(
+        (pairs, points),
+        out,
+        samples,
+        |pair, out| compare(&PLAIN, read_first, pair, out),
+        |pair, out| compare(&LIBRARY, read_first, pair, out),
+        copy_both,
+    )
 }
 
 /// The least ratio that is wanted of a call on runs of a length: on one of the kinds, where the
@@ -490,7 +633,16 @@ fn cell(
     what: &str,
     missed: &mut Vec<String>,
 ) -> f64 {
-    let cell = measure(call, runs, samples);
+    print_cell(measure(call, runs, samples), wanted, what, missed)
+}
+
+/// Prints a cell, and notes where its ratio is less than wanted.
+fn print_cell(
+    cell: Cell,
+    wanted: impl Fn(&Cell) -> f64,
+    what: &str,
+    missed: &mut Vec<String>,
+) -> f64 {
     print!(" | {:14.0} {:7.0}", cell.copy, cell.beside);
     print!(" {:7.0} {:7.2}", cell.library, cell.ratio);
     let wanted = wanted(&cell);
@@ -597,6 +749,47 @@ fn sides_table(samples: usize) -> Vec<String> {
     missed
 }
 
+/// Prints how fast two records are compared that are equal, and that differ in the side, the form,
+/// every position and every ratio. Answers where reading both and comparing them is slower than the
+/// straightforward implementation, of short runs than a third of it; of comparing runs that were
+/// read nothing is wanted, since a call for each position and ratio is set beside one loop.
+fn comparisons_table(samples: usize) -> Vec<String> {
+    let mut missed = Vec::new();
+    println!("\ntwo records side by side, two sines, irregular steps, by the number of points");
+    let groups = ["equal", "different"];
+    head(Call::Strict, &groups);
+    let (positions, ratios) = (positions("irregular"), ratios(SINES));
+    let later: Vec<u64> = positions.iter().map(|position| position + 1).collect();
+    let others: Vec<u64> = ratios.iter().map(|ratio| ratio ^ 1).collect();
+    for (read_first, what) in [(true, "read and compared"), (false, "compared")] {
+        for length in [WIDE_POINTS, SHORT] {
+            // Whole runs alone.
+            let points = POINTS / length * length;
+            print!("{:24}", format!("{what}, {length}"));
+            for group in groups {
+                let (side, form, later, others) = match group {
+                    "equal" => (0, OLD, &positions, &ratios),
+                    _ => (SIDE, WIDE, &later, &others),
+                };
+                let first = runs(0, OLD, &positions[..points], &ratios[..points], length);
+                let second = runs(side, form, &later[..points], &others[..points], length);
+                print_cell(
+                    measure_comparison(read_first, &pairs(first, second), samples),
+                    |_| match (read_first, length) {
+                        (false, _) => 0.0,
+                        (true, SHORT) => 1.0 / 3.0,
+                        _ => 1.0,
+                    },
+                    &format!("{what}, {length} points, {group}"),
+                    &mut missed,
+                );
+            }
+            println!();
+        }
+    }
+    missed
+}
+
 /// Prints what a point costs in runs of several lengths, and in brackets what it costs the
 /// straightforward implementation.
 fn growth(samples: usize) {
@@ -649,6 +842,7 @@ fn main() {
         missed.extend(positions_table(form, samples));
     }
     missed.extend(sides_table(samples));
+    missed.extend(comparisons_table(samples));
     growth(samples);
     println!("\ntargets not met: {}", missed.len());
     for line in missed {

@@ -1,10 +1,10 @@
-//! A straightforward implementation of writing, reading, live addition and stepping, to be timed
-//! beside the library. It scans the window newest first, stops at an equal ratio, and takes both counts
+//! A straightforward implementation of writing, reading, live addition, stepping and comparing, to be
+//! timed beside the library. It scans the window newest first, stops at an equal ratio, and takes both counts
 //! at each entry; the run's own slice is the window. Its calls are not inlined, since those of
 //! the library cannot be. Writing and reading are compiled for each form apart, so that the old
 //! one is as fast as without the wide one.
 
-use crate::answers::{Cursor, Live, Making, Reading, Stepped, Written};
+use crate::answers::{Cursor, Difference, Kind, Live, Making, Reading, Stepped, Written};
 use crate::answers::{OLD, WIDE, WINDOW};
 
 const RATES: [u32; 6] = [44_100, 48_000, 88_200, 96_000, 176_400, 192_000];
@@ -581,4 +581,67 @@ extern "C" fn step_in_c(body: *const u8, length: usize, cursor: Cursor) -> Stepp
         ratio,
         next,
     }
+}
+
+// Two records side by side
+
+/// A record that was read: the answer, and as many positions and ratios as it says.
+pub struct ReadRun<'a> {
+    pub reading: Reading,
+    pub positions: &'a [u64],
+    pub ratios: &'a [u64],
+}
+
+fn kind(ratio: u64) -> Kind {
+    let value = f64::from_bits(ratio);
+    let none = Kind::default();
+    if value.is_nan() {
+        let (kind, bits) = (2, ratio);
+        Kind { kind, bits, ..none }
+    } else if value.is_infinite() {
+        let (kind, negative) = (1, u32::from(value < 0.0));
+        Kind {
+            kind,
+            negative,
+            ..none
+        }
+    } else {
+        Kind { value, ..none }
+    }
+}
+
+/// Lists what differs between two records that were read, in one loop over the points.
+#[inline(never)]
+pub fn compare(first: &ReadRun, second: &ReadRun, list: &mut Vec<Difference>) {
+    let mut put = |what, index, first, second| {
+        if first != second {
+            let kinds = |ratio| {
+                if what == 6 {
+                    kind(ratio)
+                } else {
+                    Kind::default()
+                }
+            };
+            list.push(Difference {
+                what,
+                index,
+                first,
+                second,
+                first_kind: kinds(first),
+                second_kind: kinds(second),
+            });
+        }
+    };
+    let (one, other) = (first.reading, second.reading);
+    put(1, 0, one.rate.into(), other.rate.into());
+    put(2, 0, one.side.into(), other.side.into());
+    put(3, 0, one.count.into(), other.count.into());
+    put(4, 0, one.form.into(), other.form.into());
+    let positions = first.positions.iter().zip(second.positions);
+    let ratios = first.ratios.iter().zip(second.ratios);
+    for (index, (positions, ratios)) in (0..).zip(positions.zip(ratios)) {
+        put(5, index, *positions.0, *positions.1);
+        put(6, index, *ratios.0, *ratios.1);
+    }
+    put(7, 0, one.count.abs_diff(other.count).into(), 0);
 }

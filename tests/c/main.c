@@ -1,7 +1,8 @@
 /* Calls every function of farigolenc.h from C99: writes a run in both forms, reads
  * it, moves it from each form to the other, adds its ratios live, steps through
- * them, explains each, and tries sides, forms, kinds, spans, reasons and refusals.
- * Prints "ok" and returns 0, or says what differs and returns 1. */
+ * them, explains each, lays records side by side, and tries sides, forms, kinds,
+ * spans, reasons and refusals. Prints "ok" and returns 0, or says what differs and
+ * returns 1. */
 
 #include "farigolenc.h"
 
@@ -30,6 +31,21 @@ typedef char reading_is_32_bytes[sizeof(farigolenc_read_answer) == 32 ? 1 : -1];
 typedef char length_is_third[offsetof(farigolenc_move_answer, length) == 8 ? 1 : -1];
 typedef char moved_used_is_last[offsetof(farigolenc_move_answer, used) == 16 ? 1 : -1];
 typedef char moved_is_24_bytes[sizeof(farigolenc_move_answer) == 24 ? 1 : -1];
+
+/* And those of a comparison's. */
+typedef char index_is_second[offsetof(farigolenc_difference_answer, index) == 8 ? 1 : -1];
+typedef char first_is_third[offsetof(farigolenc_difference_answer, first) == 16 ? 1 : -1];
+typedef char second_is_fourth[offsetof(farigolenc_difference_answer, second) == 24 ? 1 : -1];
+typedef char kind_is_fifth[offsetof(farigolenc_difference_answer, first_kind) == 32 ? 1 : -1];
+typedef char kind_is_last[offsetof(farigolenc_difference_answer, second_kind) == 56 ? 1 : -1];
+typedef char difference_is_80_bytes[sizeof(farigolenc_difference_answer) == 80 ? 1 : -1];
+typedef char which_is_third[offsetof(farigolenc_overall_answer, which) == 8 ? 1 : -1];
+typedef char first_difference[offsetof(farigolenc_overall_answer, rate) == 16 ? 1 : -1];
+typedef char side_is_second[offsetof(farigolenc_overall_answer, side) == 96 ? 1 : -1];
+typedef char count_is_third[offsetof(farigolenc_overall_answer, count) == 176 ? 1 : -1];
+typedef char form_is_fourth[offsetof(farigolenc_overall_answer, form) == 256 ? 1 : -1];
+typedef char more_is_last[offsetof(farigolenc_overall_answer, more) == 336 ? 1 : -1];
+typedef char overall_is_416_bytes[sizeof(farigolenc_overall_answer) == 416 ? 1 : -1];
 
 static int differences = 0;
 
@@ -1020,6 +1036,393 @@ static void check_formless_limits(void)
     check(live.seen == FARIGOLENC_POINTS, "live, ratio 4096");
 }
 
+/* A difference as it should be answered; the kinds are those of the values. */
+typedef struct {
+    uint32_t what;
+    uint64_t index, first, second;
+} difference;
+
+static int same_kind(farigolenc_kind_answer kind, farigolenc_kind_answer other)
+{
+    return kind.kind == other.kind && kind.negative == other.negative &&
+           bits_of(kind.value) == bits_of(other.value) && kind.bits == other.bits;
+}
+
+static int is_difference(farigolenc_difference_answer answer, difference wanted)
+{
+    const farigolenc_kind_answer none = {0, 0, 0.0, 0};
+    const int is_ratio = wanted.what == FARIGOLENC_DIFFERENT_RATIO;
+    return answer.what == wanted.what && answer.index == wanted.index &&
+           answer.first == wanted.first && answer.second == wanted.second &&
+           same_kind(answer.first_kind, is_ratio ? farigolenc_kind(wanted.first) : none) &&
+           same_kind(answer.second_kind, is_ratio ? farigolenc_kind(wanted.second) : none);
+}
+
+static const difference no_difference = {FARIGOLENC_NO_DIFFERENCE, 0, 0, 0};
+
+/* The same difference with the records in the other order. */
+static difference swapped(difference wanted)
+{
+    difference other = wanted;
+    if (wanted.what != FARIGOLENC_MORE_POINTS) {
+        other.first = wanted.second;
+        other.second = wanted.first;
+    }
+    return other;
+}
+
+/* A record that was read to be compared. */
+typedef struct {
+    farigolenc_read_answer read;
+    uint64_t positions[FARIGOLENC_POINTS], ratios[FARIGOLENC_POINTS];
+} read_record;
+
+static void read_to_compare(read_record *record, const uint8_t *bytes, size_t length)
+{
+    memset(record, DIRT, sizeof *record);
+    record->read = farigolenc_read_strict(0, bytes, length, record->positions, FARIGOLENC_POINTS,
+                                          record->ratios, FARIGOLENC_POINTS);
+}
+
+/* Compares two records as the header says, and checks that this is the list of differences. */
+static void check_list(const read_record *first, const read_record *second,
+                       const difference *wanted, size_t count, const char *what)
+{
+    const uint64_t m = first->read.count, n = second->read.count;
+    const uint64_t beyond[] = {m < n ? m : n, m < n ? n : m, FARIGOLENC_POINTS, UINT64_MAX};
+    farigolenc_difference_answer found[2 * POINTS + 5];
+    farigolenc_overall_answer overall = farigolenc_compare_overall(first->read, second->read);
+    size_t listed = 0, next = 0, i;
+    uint64_t index;
+
+    check(overall.number == 0 && overall.place == 0 && overall.which == 0, what);
+    found[listed++] = overall.rate;
+    found[listed++] = overall.side;
+    found[listed++] = overall.count;
+    found[listed++] = overall.form;
+    for (index = 0; index < m && index < n; index++) {
+        found[listed++] =
+            farigolenc_compare_positions(first->positions, m, second->positions, n, index);
+        found[listed++] = farigolenc_compare_ratios(first->ratios, m, second->ratios, n, index);
+    }
+    found[listed++] = overall.more;
+    for (i = 0; i < listed; i++) {
+        if (found[i].what == FARIGOLENC_NO_DIFFERENCE) {
+            check(is_difference(found[i], no_difference), what);
+        } else {
+            check(next < count && is_difference(found[i], wanted[next]), what);
+            next++;
+        }
+    }
+    check(next == count, what);
+    for (i = 0; i < sizeof beyond / sizeof beyond[0]; i++) {
+        check(is_difference(farigolenc_compare_positions(first->positions, m, second->positions, n,
+                                                         beyond[i]),
+                            no_difference),
+              what);
+        check(is_difference(farigolenc_compare_ratios(first->ratios, m, second->ratios, n,
+                                                      beyond[i]),
+                            no_difference),
+              what);
+    }
+}
+
+/* The list of differences of two records in one order, and in the other; each with itself has none.
+ * At most 2 * POINTS + 5 are wanted. */
+static void check_comparison(const uint8_t *first, size_t first_length, const uint8_t *second,
+                             size_t second_length, const difference *wanted, size_t count,
+                             const char *what)
+{
+    static read_record records[2];
+    static difference others[2 * POINTS + 5];
+    size_t i;
+
+    read_to_compare(&records[0], first, first_length);
+    read_to_compare(&records[1], second, second_length);
+    for (i = 0; i < count; i++) {
+        others[i] = swapped(wanted[i]);
+    }
+    check_list(&records[0], &records[1], wanted, count, what);
+    check_list(&records[1], &records[0], others, count, what);
+    check_list(&records[0], &records[0], wanted, 0, what);
+    check_list(&records[1], &records[1], wanted, 0, what);
+}
+
+/* Two readings of which one was refused, the first or the second. */
+static void refuse_comparison(farigolenc_read_answer first, farigolenc_read_answer second,
+                              uint32_t number, uint32_t place, uint32_t which, const char *what)
+{
+    farigolenc_overall_answer overall = farigolenc_compare_overall(first, second);
+    check(overall.number == number && overall.place == place && overall.which == which, what);
+    check(is_difference(overall.rate, no_difference), what);
+    check(is_difference(overall.side, no_difference), what);
+    check(is_difference(overall.count, no_difference), what);
+    check(is_difference(overall.form, no_difference), what);
+    check(is_difference(overall.more, no_difference), what);
+}
+
+/* Bytes that are refused, as the first record, as the second and as both, beside a sound one and
+ * beside nothing. */
+static void check_refused(const uint8_t *bytes, size_t length, uint32_t number, uint32_t place,
+                          const char *what)
+{
+    static read_record refused, sound, nothing;
+
+    read_to_compare(&refused, bytes, length);
+    read_to_compare(&sound, example, 46);
+    read_to_compare(&nothing, example, 0);
+    refuse_comparison(refused.read, sound.read, number, place, 1, what);
+    refuse_comparison(sound.read, refused.read, number, place, 2, what);
+    refuse_comparison(refused.read, refused.read, number, place, 1, what);
+    refuse_comparison(refused.read, nothing.read, number, place, 1, what);
+    refuse_comparison(nothing.read, refused.read, 10, 0, 1, what);
+}
+
+static void check_refused_comparisons(void)
+{
+    const farigolenc_read_answer sound = {0, 0, 96000, 0, 3, FARIGOLENC_OLD, 46};
+    const farigolenc_read_answer odd = {14, 7, 48000, 2, 9, FARIGOLENC_WIDE, 5};
+    const farigolenc_read_answer most = {UINT32_MAX, UINT32_MAX, 0, 0, 0, 0, 0};
+    uint8_t damaged[50];
+    size_t i;
+
+    /* Each byte that is changed, the number that it is refused by, and the place. */
+    static const struct {
+        uint8_t at, byte, number, place;
+    } faults[] = {{0, 2, 11, 0},   {2, 3, 12, 0},   {6, 1, 13, 0},    {7, 9, 11, 7},
+                  {9, 3, 12, 7},   {10, 16, 15, 7}, {12, 4, 11, 12},  {31, 1, 17, 12},
+                  {32, 7, 11, 32}, {45, 1, 18, 32}, {34, 10, 18, 32}, {34, 12, 10, 32}};
+
+    for (i = 0; i < sizeof faults / sizeof faults[0]; i++) {
+        memcpy(damaged, example, 46);
+        damaged[faults[i].at] = faults[i].byte;
+        check_refused(damaged, 46, faults[i].number, faults[i].place, "comparing, a changed byte");
+    }
+    check_refused(example, 7, 10, 7, "comparing, no count");
+    check_refused(example, 45, 10, 32, "comparing, a byte missing");
+    put_side(damaged, 27);
+    check_refused(damaged, 50, 20, 7, "comparing, no side");
+
+    /* Answers that a reading gives with a rate expected, with little room, or not at all. */
+    refuse_comparison(odd, sound, 14, 7, 1, "comparing, refused by a number of no use here");
+    refuse_comparison(sound, odd, 14, 7, 2, "comparing, refused by a number of no use here");
+    refuse_comparison(odd, most, 14, 7, 1, "comparing, two such numbers");
+    refuse_comparison(most, odd, UINT32_MAX, UINT32_MAX, 1, "comparing, largest numbers");
+}
+
+/* Readings that were not refused, of which every member may be made up. */
+static void check_made_up_readings(void)
+{
+    const farigolenc_read_answer least = {0, 9, 0, 0, 0, 0, 0};
+    const farigolenc_read_answer most = {0,          8,          UINT32_MAX, UINT32_MAX,
+                                         UINT32_MAX, UINT32_MAX, UINT64_MAX};
+    const difference rate = {FARIGOLENC_DIFFERENT_RATE, 0, 0, UINT32_MAX};
+    const difference side = {FARIGOLENC_DIFFERENT_SIDE, 0, 0, UINT32_MAX};
+    const difference count = {FARIGOLENC_DIFFERENT_COUNT, 0, 0, UINT32_MAX};
+    const difference form = {FARIGOLENC_DIFFERENT_FORM, 0, 0, UINT32_MAX};
+    const difference more = {FARIGOLENC_MORE_POINTS, 0, UINT32_MAX, 0};
+    farigolenc_overall_answer overall = farigolenc_compare_overall(least, most);
+
+    check(overall.number == 0 && overall.place == 0 && overall.which == 0, "made up readings");
+    check(is_difference(overall.rate, rate), "made up readings, rate");
+    check(is_difference(overall.side, side), "made up readings, side");
+    check(is_difference(overall.count, count), "made up readings, count");
+    check(is_difference(overall.form, form), "made up readings, form");
+    check(is_difference(overall.more, more), "made up readings, more");
+    overall = farigolenc_compare_overall(most, least);
+    check(is_difference(overall.rate, swapped(rate)), "made up readings, swapped, rate");
+    check(is_difference(overall.side, swapped(side)), "made up readings, swapped, side");
+    check(is_difference(overall.count, swapped(count)), "made up readings, swapped, count");
+    check(is_difference(overall.form, swapped(form)), "made up readings, swapped, form");
+    check(is_difference(overall.more, more), "made up readings, swapped, more");
+}
+
+/* Two ratios that differ, and what is known of the first's kind. */
+static void check_compared_kind(uint64_t ratio, uint64_t other, uint32_t kind, uint32_t negative,
+                                uint64_t value, uint64_t bits, const char *what)
+{
+    const uint64_t first[2] = {7, ratio}, second[2] = {7, other};
+    const difference wanted = {FARIGOLENC_DIFFERENT_RATIO, 1, ratio, other};
+    farigolenc_difference_answer answer = farigolenc_compare_ratios(first, 2, second, 2, 1);
+    farigolenc_kind_answer known;
+
+    known.kind = kind;
+    known.negative = negative;
+    known.bits = bits;
+    memcpy(&known.value, &value, sizeof value);
+    check(is_difference(answer, wanted) && same_kind(answer.first_kind, known), what);
+    answer = farigolenc_compare_ratios(second, 2, first, 2, 1);
+    check(is_difference(answer, swapped(wanted)) && same_kind(answer.second_kind, known), what);
+}
+
+/* Slices of any lengths, lent to both calls, of which one takes the numbers as positions. */
+static void check_compared_slices(void)
+{
+    const uint64_t first[3] = {5, 6, UINT64_MAX}, second[4] = {5, 8, 0, 9};
+    const difference position = {FARIGOLENC_DIFFERENT_POSITION, 1, 6, 8};
+    const difference last = {FARIGOLENC_DIFFERENT_POSITION, 2, UINT64_MAX, 0};
+    const difference ratio = {FARIGOLENC_DIFFERENT_RATIO, 2, UINT64_MAX, 0};
+    const uint64_t beyond[] = {3, 4, 5, (UINT64_C(1) << 32) + 1, UINT64_C(1) << 61, UINT64_MAX};
+    size_t i;
+
+    check(is_difference(farigolenc_compare_positions(first, 3, second, 4, 0), no_difference),
+          "comparing, equal positions");
+    check(is_difference(farigolenc_compare_ratios(first, 3, second, 4, 0), no_difference),
+          "comparing, equal ratios");
+    check(is_difference(farigolenc_compare_positions(first, 3, second, 4, 1), position),
+          "comparing, positions");
+    check(is_difference(farigolenc_compare_positions(second, 4, first, 3, 1), swapped(position)),
+          "comparing, positions swapped");
+    check(is_difference(farigolenc_compare_positions(first, 3, second, 4, 2), last),
+          "comparing, last positions");
+    check(is_difference(farigolenc_compare_ratios(first, 3, second, 4, 2), ratio),
+          "comparing, last ratios");
+    for (i = 0; i < sizeof beyond / sizeof beyond[0]; i++) {
+        check(is_difference(farigolenc_compare_positions(first, 3, second, 4, beyond[i]),
+                            no_difference),
+              "comparing positions beyond one or both");
+        check(is_difference(farigolenc_compare_ratios(second, 4, first, 3, beyond[i]),
+                            no_difference),
+              "comparing ratios beyond one or both");
+    }
+    for (i = 0; i < 3; i++) {
+        check(is_difference(farigolenc_compare_positions(first, i, second, 4, i), no_difference),
+              "comparing positions at the first's end");
+        check(is_difference(farigolenc_compare_positions(first, 3, second, i, i), no_difference),
+              "comparing positions at the second's end");
+        check(is_difference(farigolenc_compare_ratios(first, i, second, 4, i), no_difference),
+              "comparing ratios at the first's end");
+        check(is_difference(farigolenc_compare_ratios(first, 3, second, i, i), no_difference),
+              "comparing ratios at the second's end");
+        check(is_difference(farigolenc_compare_ratios(first, 3, first, 3, i), no_difference),
+              "comparing ratios with themselves");
+    }
+}
+
+static void check_compared_kinds(void)
+{
+    const uint64_t sign = UINT64_C(1) << 63, infinity = UINT64_C(0x7FF0000000000000);
+    const uint64_t half = bits_of(0.5);
+
+    check_compared_kind(half, bits_of(-0.5), FARIGOLENC_NUMBER, 0, half, 0, "comparing 0.5");
+    check_compared_kind(0, sign, FARIGOLENC_NUMBER, 0, 0, 0, "comparing 0 with -0");
+    check_compared_kind(sign, 0, FARIGOLENC_NUMBER, 0, sign, 0, "comparing -0 with 0");
+    check_compared_kind(1, infinity, FARIGOLENC_NUMBER, 0, 1, 0, "comparing a subnormal");
+    check_compared_kind(infinity, infinity | sign, FARIGOLENC_INFINITY, 0, 0, 0,
+                        "comparing infinity");
+    check_compared_kind(infinity | sign, infinity, FARIGOLENC_INFINITY, 1, 0, 0,
+                        "comparing -infinity");
+    check_compared_kind(infinity + 1, infinity, FARIGOLENC_NAN, 0, 0, infinity + 1,
+                        "comparing a not-a-number");
+    check_compared_kind(UINT64_MAX, UINT64_MAX - 1, FARIGOLENC_NAN, 0, 0, UINT64_MAX,
+                        "comparing two not-a-numbers");
+}
+
+/* The record of the first points of a run. */
+static size_t put_run(uint8_t *record, uint32_t rate, uint32_t side, uint32_t form,
+                      const uint64_t *positions, const uint64_t *ratios, size_t points)
+{
+    farigolenc_write_answer written = farigolenc_write(rate, side, form, positions, points, ratios,
+                                                       points, record, FARIGOLENC_RECORD);
+    check(written.number == 0, "comparing, a run written");
+    return (size_t)written.length;
+}
+
+static void check_comparisons(void)
+{
+    static uint64_t positions[POINTS], ratios[POINTS], later[POINTS], others[POINTS];
+    static uint8_t first[FARIGOLENC_RECORD], second[FARIGOLENC_RECORD];
+    static difference wanted[2 * POINTS + 5];
+    const difference rate = {FARIGOLENC_DIFFERENT_RATE, 0, 96000, 48000};
+    const difference side = {FARIGOLENC_DIFFERENT_SIDE, 0, 0, 26};
+    const difference sides = {FARIGOLENC_DIFFERENT_SIDE, 0, 1, 26};
+    const difference form = {FARIGOLENC_DIFFERENT_FORM, 0, FARIGOLENC_OLD, FARIGOLENC_WIDE};
+    uint8_t record[50], other[50];
+    size_t lengths[2], count, i;
+
+    memcpy(record, example, 46);
+    memset(record + 46, DIRT, 4);
+    check_comparison(example, 46, record, 46, wanted, 0, "comparing, equal records");
+    check_comparison(example, 46, record, 50, wanted, 0, "comparing, bytes behind a record");
+    record[4] = 0;
+    record[5] = 0xBB;
+    record[6] = 0x80;
+    check_comparison(example, 46, record, 50, &rate, 1, "comparing, rate");
+    put_side(other, 26);
+    check_comparison(example, 46, other, 50, &side, 1, "comparing, side");
+    put_side(record, 1);
+    check_comparison(record, 50, other, 50, &sides, 1, "comparing, two sides");
+    memcpy(record, example, 46);
+    record[12] = FARIGOLENC_WIDE;
+    check_comparison(example, 46, record, 46, &form, 1, "comparing, form");
+
+    /* Runs that differ in nothing but their points: at each index in both, and in their number. */
+    make_run(FARIGOLENC_WIDE, positions, ratios);
+    for (i = 0; i < POINTS; i++) {
+        later[i] = positions[i] + 1;
+        others[i] = ratios[i] ^ UINT64_C(1) << i % 64;
+    }
+    lengths[0] = put_run(first, 48000, SIDE, FARIGOLENC_WIDE, positions, ratios, POINTS);
+    for (i = 0; i < POINTS; i += 23) {
+        wanted[0].what = FARIGOLENC_DIFFERENT_POSITION;
+        wanted[1].what = FARIGOLENC_DIFFERENT_RATIO;
+        wanted[0].index = wanted[1].index = i;
+        wanted[0].first = positions[i];
+        wanted[1].first = ratios[i];
+        wanted[0].second = positions[i] = later[i];
+        lengths[1] = put_run(second, 48000, SIDE, FARIGOLENC_WIDE, positions, ratios, POINTS);
+        check_comparison(first, lengths[0], second, lengths[1], wanted, 1, "comparing, position");
+        wanted[1].second = ratios[i] = others[i];
+        lengths[1] = put_run(second, 48000, SIDE, FARIGOLENC_WIDE, positions, ratios, POINTS);
+        check_comparison(first, lengths[0], second, lengths[1], wanted, 2, "comparing, point");
+        positions[i] = wanted[0].first;
+        lengths[1] = put_run(second, 48000, SIDE, FARIGOLENC_WIDE, positions, ratios, POINTS);
+        check_comparison(first, lengths[0], second, lengths[1], wanted + 1, 1, "comparing, ratio");
+        ratios[i] = wanted[1].first;
+
+        wanted[0].what = FARIGOLENC_DIFFERENT_COUNT;
+        wanted[1].what = FARIGOLENC_MORE_POINTS;
+        wanted[0].index = wanted[1].index = wanted[1].second = 0;
+        wanted[0].first = POINTS;
+        wanted[0].second = i;
+        wanted[1].first = POINTS - i;
+        lengths[1] = put_run(second, 48000, SIDE, FARIGOLENC_WIDE, positions, ratios, i);
+        check_comparison(first, lengths[0], second, lengths[1], wanted, 2, "comparing, count");
+    }
+
+    /* Runs that differ in everything. */
+    make_run(FARIGOLENC_OLD, positions, ratios);
+    lengths[0] = put_run(first, 96000, 0, FARIGOLENC_OLD, positions, ratios, POINTS);
+    for (i = 0; i < POINTS; i++) {
+        later[i] = positions[i] + 1;
+        others[i] = ~ratios[i];
+    }
+    lengths[1] = put_run(second, 48000, 26, FARIGOLENC_WIDE, later, others, POINTS - 2);
+    wanted[0] = rate;
+    wanted[1] = side;
+    wanted[2].what = FARIGOLENC_DIFFERENT_COUNT;
+    wanted[2].index = 0;
+    wanted[2].first = POINTS;
+    wanted[2].second = POINTS - 2;
+    wanted[3] = form;
+    count = 4;
+    for (i = 0; i < POINTS - 2; i++) {
+        wanted[count].what = FARIGOLENC_DIFFERENT_POSITION;
+        wanted[count].index = i;
+        wanted[count].first = positions[i];
+        wanted[count++].second = later[i];
+        wanted[count].what = FARIGOLENC_DIFFERENT_RATIO;
+        wanted[count].index = i;
+        wanted[count].first = ratios[i];
+        wanted[count++].second = others[i];
+    }
+    wanted[count].what = FARIGOLENC_MORE_POINTS;
+    wanted[count].index = wanted[count].second = 0;
+    wanted[count++].first = 2;
+    check_comparison(first, lengths[0], second, sizeof second, wanted, count,
+                     "comparing, everything differs");
+}
+
 int main(void)
 {
     const uint32_t limits[] = {3499, 3500, 3501, 3502, 4095, 4096};
@@ -1045,6 +1448,11 @@ int main(void)
     check_reasons();
     check_refusals();
     check_side_refusals();
+    check_comparisons();
+    check_compared_slices();
+    check_compared_kinds();
+    check_made_up_readings();
+    check_refused_comparisons();
     if (differences != 0) {
         return 1;
     }

@@ -95,12 +95,20 @@ pub struct Stepped {
 
 /// What the kind call answers; `kind` is 0 for a number, 1 for an infinity, 2 for a not-a-number.
 #[repr(C)]
-#[derive(Clone, Copy, Debug)]
+#[derive(Clone, Copy, Debug, Default)]
 pub struct Kind {
     pub kind: u32,
     pub negative: u32,
     pub value: f64,
     pub bits: u64,
+}
+
+/// Values are the same where their bits are.
+impl PartialEq for Kind {
+    fn eq(&self, other: &Kind) -> bool {
+        let members = |kind: &Kind| (kind.kind, kind.negative, kind.value.to_bits(), kind.bits);
+        members(self) == members(other)
+    }
 }
 
 /// What the explain call answers; `reason` is 0 with a refusal, 1 for a reference, 2 for an xor
@@ -115,4 +123,31 @@ pub struct Explained {
     pub leading: u32,
     pub trailing: u32,
     pub sum: u32,
+}
+
+/// What differs between two records: 1 the rate, 2 the side, 3 the count, 4 the form, 5 the position
+/// and 6 the ratio at an index, 7 how many points only the longer run has, or 0 for nothing.
+#[repr(C)]
+#[derive(Clone, Copy, Debug, Default, PartialEq)]
+pub struct Difference {
+    pub what: u32,
+    pub index: u64,
+    pub first: u64,
+    pub second: u64,
+    pub first_kind: Kind,
+    pub second_kind: Kind,
+}
+
+/// What comparing two readings answers; `which` is the record that was refused, 1 or 2, or 0.
+#[repr(C)]
+#[derive(Clone, Copy, Debug, Default, PartialEq)]
+pub struct Overall {
+    pub number: u32,
+    pub place: u32,
+    pub which: u32,
+    pub rate: Difference,
+    pub side: Difference,
+    pub count: Difference,
+    pub form: Difference,
+    pub more: Difference,
 }

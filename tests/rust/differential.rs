@@ -7,6 +7,7 @@
 //! the case in hex and ends with 1. With `trace` it prints each case before it runs.
 
 mod answers;
+mod comparisons;
 mod forms;
 mod inputs;
 mod library;
@@ -15,7 +16,8 @@ mod reference;
 mod spans;
 
 use answers::{
-    Cursor, Explained, Kind, Live, Making, Move, Moved, Reading, Span, Stepped, Write, Written,
+    Cursor, Difference, Explained, Kind, Live, Making, Move, Moved, Overall, Reading, Span,
+    Stepped, Write, Written,
 };
 use answers::{OLD, WIDE, WINDOW};
 use inputs::*;
@@ -36,12 +38,14 @@ struct Test {
     cases: u64,
     /// How often each call returned each number, reading and moving each side, reading each form,
     /// some numbers at each place, 18 without a side (0) and with one (1), 17 and 18 in each form,
-    /// how many bytes moving added, spans back at each rate, and explain each reason, place and sum.
+    /// how many bytes moving added, spans back at each rate, explain each reason, place and sum, and
+    /// comparing each difference, each refusal of either record and each pair of kinds.
     numbers: BTreeMap<(&'static str, u32), u64>,
 }
 
 type Read = fn(u32, &[u8], &mut [u64], &mut [u64]) -> Reading;
 type Add = fn(&mut Live, u64, &mut [u8]) -> Written;
+type Compare = fn(&[u64], &[u64], u64) -> Difference;
 
 // The place of 15 where the form gives it, and that of 16 where it would.
 const LATER_15: &str = "reading, place of 15 by the form";
@@ -289,12 +293,9 @@ impl Test {
         self.case::<fn(u64) -> Kind, _>(
             "kind",
             || format!("ratio {ratio:x}"),
-            |kind| {
-                let kind = kind(ratio);
-                (kind.kind, kind.negative, kind.value.to_bits(), kind.bits)
-            },
+            |kind| kind(ratio),
             [reference::kind, library::kind],
-            |outcome| outcome.0,
+            |kind| kind.kind,
         );
     }
 
@@ -320,6 +321,41 @@ impl Test {
             seen("explain, sum", sum);
         }
         explained
+    }
+
+    fn compare_overall(&mut self, first: Reading, second: Reading) -> Overall {
+        self.case::<fn(Reading, Reading) -> Overall, _>(
+            "compare_overall",
+            || format!("first {first:x?} second {second:x?}"),
+            |compare| compare(first, second),
+            [reference::compare_overall, library::compare_overall],
+            |overall| overall.number,
+        )
+    }
+
+    fn compare_positions(&mut self, first: &[u64], second: &[u64], index: u64) -> Difference {
+        self.case::<Compare, _>(
+            "compare_positions",
+            || format!("first {first:x?} second {second:x?} index {index:x}"),
+            |compare| compare(first, second, index),
+            [reference::compare_positions, library::compare_positions],
+            |difference| difference.what,
+        )
+    }
+
+    fn compare_ratios(&mut self, first: &[u64], second: &[u64], index: u64) -> Difference {
+        let difference = self.case::<Compare, _>(
+            "compare_ratios",
+            || format!("first {first:x?} second {second:x?} index {index:x}"),
+            |compare| compare(first, second, index),
+            [reference::compare_ratios, library::compare_ratios],
+            |difference| difference.what,
+        );
+        if difference.what != 0 {
+            let kinds = 10 * difference.first_kind.kind + difference.second_kind.kind;
+            *self.numbers.entry((comparisons::KINDS, kinds)).or_default() += 1;
+        }
+        difference
     }
 
     /// Ends the test unless what explain answered is so.
@@ -1161,17 +1197,21 @@ impl Test {
         self.forms();
         self.moves();
         self.explains();
+        self.comparisons();
     }
 
     /// Prints how often each call returned each number, reading and moving each side and the places
     /// that a side shifts, reading each form, moving no bytes more, some and the most, spans back at
-    /// each rate, and explain each reason, places at the window's ends, and each sum; each must have
-    /// come up. The place of 18 depends on the positions too, so that 18 itself is counted, without
-    /// a side (0) and with one (1).
+    /// each rate, explain each reason, places at the window's ends, and each sum, and comparing each
+    /// difference, each refusal of the first record, the second and both, and each pair of kinds;
+    /// each must have come up. The place of 18 depends on the positions too, so that 18 itself is
+    /// counted, without a side (0) and with one (1).
     fn report(&self) {
         let reading = &[0, 10, 11, 12, 13, 14, 15, 16, 17, 18, 20][..];
         let sides: Vec<u32> = (0..=LAST_SIDE).collect();
-        let calls: [(_, &[u32]); 44] = [
+        // With no rate expected, and with room for every count.
+        let compared = &[10, 11, 12, 13, 15, 17, 18, 20];
+        let calls: [(_, &[u32]); 52] = [
             ("write, old form", &[0, 1, 2, 3, 4, 5, 6, 21]),
             ("write, wide form", &[0, 1, 2, 3, 4, 6, 21]),
             ("read_strict", reading),
@@ -1216,6 +1256,14 @@ impl Test {
             ("explain, place of an equal ratio", &[0, 1, 125, 126]),
             ("explain, place of an xor", &[0, 1, 125, 126]),
             ("explain, sum", &[0, 1, 2, 3, 4, 5, 6, 7]),
+            ("compare_overall", reading),
+            ("compare_positions", &[0, 5]),
+            ("compare_ratios", &[0, 6]),
+            (comparisons::LISTED, &[1, 2, 3, 4, 5, 6, 7]),
+            (comparisons::FIRST, compared),
+            (comparisons::SECOND, compared),
+            (comparisons::BOTH, compared),
+            (comparisons::KINDS, &[0, 1, 2, 10, 11, 12, 20, 21, 22]),
         ];
         let mut missing = false;
         for (call, numbers) in calls {
@@ -1256,6 +1304,7 @@ fn main() {
     test.form_cases();
     test.move_cases();
     test.span_cases();
+    test.comparison_cases();
     for _ in 0..ROUNDS {
         test.round();
     }

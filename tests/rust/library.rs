@@ -2,7 +2,8 @@
 //! Which library that is, is said when linking: see tests/shared.
 
 use crate::answers::{
-    Cursor, Explained, Kind, Live, Making, Moved, Reading, Span, Stepped, Written,
+    Cursor, Difference, Explained, Kind, Live, Making, Moved, Overall, Reading, Span, Stepped,
+    Written,
 };
 
 unsafe extern "C" {
@@ -59,6 +60,21 @@ unsafe extern "C" {
     fn farigolenc_step(body: *const u8, body_length: usize, cursor: Cursor) -> Stepped;
     fn farigolenc_kind(ratio: u64) -> Kind;
     fn farigolenc_explain(ratios: *const u64, ratios_length: usize, index: u64) -> Explained;
+    fn farigolenc_compare_overall(first: Reading, second: Reading) -> Overall;
+    fn farigolenc_compare_positions(
+        first: *const u64,
+        first_length: usize,
+        second: *const u64,
+        second_length: usize,
+        index: u64,
+    ) -> Difference;
+    fn farigolenc_compare_ratios(
+        first: *const u64,
+        first_length: usize,
+        second: *const u64,
+        second_length: usize,
+        index: u64,
+    ) -> Difference;
 }
 
 // Each call below lends slices, which are valid and non-null also when empty, and whose borrows
@@ -171,4 +187,35 @@ pub fn kind(ratio: u64) -> Kind {
 pub fn explain(ratios: &[u64], index: u64) -> Explained {
     // SAFETY: see above.
     unsafe { farigolenc_explain(ratios.as_ptr(), ratios.len(), index) }
+}
+
+pub fn compare_overall(first: Reading, second: Reading) -> Overall {
+    // SAFETY: nothing is lent.
+    unsafe { farigolenc_compare_overall(first, second) }
+}
+
+pub fn compare_positions(first: &[u64], second: &[u64], index: u64) -> Difference {
+    // SAFETY: see above.
+    unsafe {
+        farigolenc_compare_positions(
+            first.as_ptr(),
+            first.len(),
+            second.as_ptr(),
+            second.len(),
+            index,
+        )
+    }
+}
+
+pub fn compare_ratios(first: &[u64], second: &[u64], index: u64) -> Difference {
+    // SAFETY: see above.
+    unsafe {
+        farigolenc_compare_ratios(
+            first.as_ptr(),
+            first.len(),
+            second.as_ptr(),
+            second.len(),
+            index,
+        )
+    }
 }

@@ -1,10 +1,11 @@
 //! Document 01, and of document 02 the call explain (No. 1), the side of the disc (No. 2), the
-//! wide form (No. 3), the moves (No. 5) and the rounding of a span (No. 6), written out plainly:
-//! every call with its whole answer and outputs. It is meant to be compared with the documents line
-//! by line, not to be fast.
+//! wide form (No. 3), the moves (No. 5), the rounding of a span (No. 6) and two records side by side
+//! (No. 7), written out plainly: every call with its whole answer and outputs. It is meant to be
+//! compared with the documents line by line, not to be fast.
 
 use crate::answers::{
-    Cursor, Explained, Kind, Live, Making, Moved, Reading, Span, Stepped, Written,
+    Cursor, Difference, Explained, Kind, Live, Making, Moved, Overall, Reading, Span, Stepped,
+    Written,
 };
 use crate::answers::{OLD, WIDE, WINDOW};
 
@@ -807,4 +808,125 @@ pub fn explain(ratios: &[u64], index: u64) -> Explained {
             ..none
         },
     }
+}
+
+// Two records side by side
+
+/// What can differ, by its number.
+enum What {
+    Rate = 1,
+    Side,
+    Count,
+    Form,
+    Position,
+    Ratio,
+    More,
+}
+
+/// The difference of two values; none where they are the same.
+fn difference(what: What, index: u64, first: u64, second: u64) -> Difference {
+    if first == second {
+        return Difference::default();
+    }
+    Difference {
+        what: what as u32,
+        index,
+        first,
+        second,
+        ..Difference::default()
+    }
+}
+
+/// The difference of two rates, sides, counts or forms; a form is the positions' tag.
+fn property(what: What, first: u32, second: u32) -> Difference {
+    difference(what, 0, first.into(), second.into())
+}
+
+/// How many points only the longer run has stands where the first record's value would.
+fn more(first: u32, second: u32) -> Difference {
+    difference(What::More, 0, first.abs_diff(second).into(), 0)
+}
+
+fn positions_at(index: u64, first: u64, second: u64) -> Difference {
+    difference(What::Position, index, first, second)
+}
+
+/// Each ratio that differs is answered by its kind and bits.
+fn ratios_at(index: u64, first: u64, second: u64) -> Difference {
+    let mut difference = difference(What::Ratio, index, first, second);
+    if first != second {
+        difference.first_kind = kind(first);
+        difference.second_kind = kind(second);
+    }
+    difference
+}
+
+/// What two readings differ in besides the points, or the refusal of the first, or of the second.
+pub fn compare_overall(first: Reading, second: Reading) -> Overall {
+    for (which, reading) in [(1, first), (2, second)] {
+        if reading.number != 0 {
+            return Overall {
+                number: reading.number,
+                place: reading.place,
+                which,
+                ..Overall::default()
+            };
+        }
+    }
+    Overall {
+        number: 0,
+        place: 0,
+        which: 0,
+        rate: property(What::Rate, first.rate, second.rate),
+        side: property(What::Side, first.side, second.side),
+        count: property(What::Count, first.count, second.count),
+        form: property(What::Form, first.form, second.form),
+        more: more(first.count, second.count),
+    }
+}
+
+/// The values at an index that both lists have.
+fn both_at(first: &[u64], second: &[u64], index: u64) -> Option<(u64, u64)> {
+    let at = usize::try_from(index).ok()?;
+    Some((*first.get(at)?, *second.get(at)?))
+}
+
+pub fn compare_positions(first: &[u64], second: &[u64], index: u64) -> Difference {
+    both_at(first, second, index).map_or(Difference::default(), |(first, second)| {
+        positions_at(index, first, second)
+    })
+}
+
+pub fn compare_ratios(first: &[u64], second: &[u64], index: u64) -> Difference {
+    both_at(first, second, index).map_or(Difference::default(), |(first, second)| {
+        ratios_at(index, first, second)
+    })
+}
+
+/// All that differs between two records, in the order of document 02, or a refusal's number and
+/// place and the record that it is of.
+pub fn comparison(first: &[u8], second: &[u8]) -> Result<Vec<Difference>, [u32; 3]> {
+    let forms = [&OLD_FORM, &WIDE_FORM];
+    let read = |which, record| {
+        let run = run(record, 0, MOST_POINTS, &forms, strict_form);
+        run.map_err(|refusal| [refusal.number, refusal.place, which])
+    };
+    let first = read(1, first)?;
+    let second = read(2, second)?;
+    let [first_count, second_count] = [&first, &second].map(|run| run.positions.len() as u32);
+    let mut list = vec![
+        property(What::Rate, first.rate, second.rate),
+        property(What::Side, first.side, second.side),
+        property(What::Count, first_count, second_count),
+        property(What::Form, first.form.tag.into(), second.form.tag.into()),
+    ];
+    let positions = first.positions.iter().zip(&second.positions);
+    let ratios = first.ratios.iter().zip(&second.ratios);
+    for (index, (positions, ratios)) in (0..).zip(positions.zip(ratios)) {
+        list.push(positions_at(index, *positions.0, *positions.1));
+        list.push(ratios_at(index, *ratios.0, *ratios.1));
+    }
+    list.push(more(first_count, second_count));
+    list.retain(|difference| difference.what != 0);
+    Ok(list)
 }

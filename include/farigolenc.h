@@ -16,8 +16,8 @@
  * farigolenc_to_old make each out of the other. Calls that are given neither a form
  * nor a record know of no form, and their limit is 4096.
  *
- * Answers begin with a number, 0 for success or the number of a refusal, and a
- * place, 0 on success:
+ * The answer of a call that can refuse begins with a number, 0 for success or the
+ * number of a refusal, and a place, 0 on success:
  *
  *   no.  given when                                            place
  *    1   rate not in the list                                  0
@@ -49,8 +49,8 @@
  * in the record; for 15 it is always that of the count's field.
  *
  * On success an output keeps what it held past the part that was written. On a
- * refusal every other returned number is 0, a kept state is unchanged, and all
- * outputs are 0 from end to end.
+ * refusal every other returned number is 0, but for which of two records it was; a
+ * kept state is unchanged, and all outputs are 0 from end to end.
  *
  * What a caller owes: each pointer is not null and is aligned for its type,
  * also where the length beside it is 0; the whole length, counted in elements,
@@ -298,7 +298,8 @@ farigolenc_explain_answer farigolenc_explain(
  *      farigolenc_compare_ratios at each index below both counts, from 0 up.
  *
  * Everything that differs is answered once, and nothing that is equal. Two records of
- * the same bytes have no difference, whatever follows either; any others have one.
+ * the same bytes have no difference, whatever follows either; any others have at
+ * least one.
  *
  *   what                            `first` and `second`
  *   FARIGOLENC_NO_DIFFERENCE        0

@@ -53,14 +53,14 @@ fn tag(run: &Run) -> u32 {
 /// The lines for two runs.
 fn differences(first: &Run, second: &Run) -> String {
     let (count, other_count) = (first.positions.len(), second.positions.len());
-    let heads = [
+    let properties = [
         ("rate", first.rate, second.rate),
         ("side", first.side, second.side),
         ("count", count as u32, other_count as u32),
         ("form", tag(first), tag(second)),
     ];
     let mut text = String::new();
-    for (word, value, other) in heads {
+    for (word, value, other) in properties {
         if value != other {
             text += &format!("{word} {value} {other}\n");
         }
@@ -428,7 +428,7 @@ impl Test {
 
     // Runs that differ in many ways, or in none
 
-    /// A run with some points changed, and more or fewer at the end; at times its head, too.
+    /// A run with some points changed, and more or fewer at the end; at times its properties, too.
     fn edited(&mut self, run: &Run) -> Run {
         let random = &mut self.random;
         let mut run = run.clone();

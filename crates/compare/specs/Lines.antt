@@ -2,7 +2,7 @@
 --   formWord .. inWord    the fixed parts of a line that the listing does not have
 --   propertyWord p        the word of the property p, and a space
 --   kindWord k            the word of the kind k, `number`, `infinity` or `nan`, between two spaces
---   propertyLine p a b     `rate 96000 88200`
+--   propertyLine p a b    `rate 96000 88200`
 --   positionLine i t u    `position 7 960 961`
 --   ratioLine i v k w l   `ratio 7 number 3fe0000000000000 nan 7ff8000000000000`
 --   moreLine n            `more 2`

@@ -1,5 +1,5 @@
 -- The text in pieces, as the program's functions put them, one after the other.
---   propertiesText h             the lines of the properties
+--   propertiesText h          the lines of the properties
 --   pointText ts vs us ws i   the lines of the index i, for positions ts and us and ratios vs and ws
 --   pointsText ts vs us ws n  those of each index below n
 use mathlib.Core.List.{List, [], _++_}

@@ -1,14 +1,14 @@
 -- Document 02, No. 7: what differs between two runs, one difference after the other. The standard term is a diff.
---   propertyDifference p a b   the difference in the property p, whose values are a and b
---   moreDifference m n       how many points only the longer of two runs has, by their numbers of points
---   valuesAt xs ys i         the values at the index i, where both lists have one there and they are not the same
+--   propertyDifference p a b      the difference in the property p, whose values are a and b
+--   moreDifference m n            how many points only the longer of two runs has, by their numbers of points
+--   valuesAt xs ys i              the values at the index i, where both lists have one there and they are not the same
 --   positionBy i z, ratioBy i z   the difference that the values z at the index i make, as positions and as ratios
---   positionAt ts us i       the difference between the positions ts and us at the index i
---   ratioAt vs ws i          that between the ratios vs and ws, by the kinds and the bits of both
---   listed d                 the list of the difference d: nothing where there is none
---   pointsTo r q n           the differences at the indices below n, in rising order, the position's before the ratio's
---   differences r q          all differences of the runs r and q: rate, side, count, form, those at each index that both have, and the points
---                            that only the longer one has
+--   positionAt ts us i            the difference between the positions ts and us at the index i
+--   ratioAt vs ws i               that between the ratios vs and ws, by the kinds and the bits of both
+--   listed d                      the list of the difference d: nothing where there is none
+--   pointsTo r q n                the differences at the indices below n, in rising order, the position's before the ratio's
+--   differences r q               all differences of the runs r and q: rate, side, count, form, those at each index that both have, and the points
+--                                 that only the longer one has
 -- `Equal` says that there is no difference.
 use mathlib.Core.Bool.{cond}
 use mathlib.Core.List.{List, [], _∷_, _++_}

@@ -30,15 +30,15 @@ pub record Example : Type 0 where
 abbrev example : Run → Run → List Difference → Example
 example r q l = record { first = r; second = q; expected = l }
 
--- 0.5, 0 and -0 as kinds
+-- 0.5 as a kind
 abbrev half : Kind
 half = Number (fin false 1 (negsuc 0))
 
--- as above
+-- 0 as a kind
 abbrev positiveZero : Kind
 positiveZero = Number (fin false 0 (pos 0))
 
--- as above
+-- -0 as a kind
 abbrev negativeZero : Kind
 negativeZero = Number (fin true 0 (pos 0))
 
@@ -54,19 +54,19 @@ specialRun = run 48000 26 form.Old (7 ∷ 7 ∷ 7 ∷ []) (0 ∷ 0x7FF8000000000
 abbrev oppositeRun : Run
 oppositeRun = run 48000 26 form.Old (6 ∷ 7 ∷ 8 ∷ []) (0x8000000000000000 ∷ 0x7FF8000000000001 ∷ 0xFFF0000000000000 ∷ [])
 
--- a run of no points, and one of one
+-- a run of no points
 abbrev emptyRun : Run
 emptyRun = run 96000 0 form.Old [] []
 
--- as above
+-- a run of one
 abbrev shortRun : Run
 shortRun = run 96000 0 form.Old (5 ∷ []) (0x3FE0000000000000 ∷ [])
 
--- one point, whose ratio is a negative not-a-number, and one with the smallest number above 0
+-- a run of one point, whose ratio is a negative not-a-number
 abbrev negativeRun : Run
 negativeRun = run 96000 0 form.Old (5 ∷ []) (0xFFF8000000000001 ∷ [])
 
--- as above
+-- the same with the smallest number above 0
 abbrev smallestRun : Run
 smallestRun = run 96000 0 form.Old (5 ∷ []) (1 ∷ [])
 

@@ -3,7 +3,9 @@
 --   kindIs, differs     numbers of a kind and of a difference, each of them written out
 --   noNumbers           all of them 0
 --   examples            the rows; examples-hold: each is as it is given
---   refused-hold        the numbers of a refusal of the second record: no difference beside it
+--   first, second, refused   what strict reading answered of two records, and of one that was refused
+--   overall-hold        the numbers of two records that differ in every property and in their counts
+--   refused-hold        those of a refusal of the second record
 use mathlib.Core.Bool.{true, false}
 use mathlib.Core.List.{List, [], _∷_, map}
 use mathlib.Core.Path.{_≡_, refl}
@@ -73,16 +75,35 @@ pub examples-hold : map (λ e. differenceNumbers (e .difference)) examples ≡ m
 unfolding examples ofBits ofFields
 examples-hold = refl
 
--- a record that was read beside one that was refused by 10 at 7
-abbrev read : ReadAnswer
-read = record { number = 0; place = 0; rate = 96000; side = 4; count = 3; form = 3; used = 50 }
+-- what a reading answered: of a record
+abbrev first : ReadAnswer
+first = record { number = 0; place = 0; rate = 96000; side = 4; count = 3; form = 3; used = 50 }
 
--- as above
+-- of another, which differs in all of it
+abbrev second : ReadAnswer
+second = record { number = 0; place = 0; rate = 88200; side = 0; count = 5; form = 5; used = 62 }
+
+-- of one that was refused by 10 at 7
 abbrev refused : ReadAnswer
 refused = record { number = 10; place = 7; rate = 0; side = 0; count = 0; form = 0; used = 0 }
 
--- no difference beside it
-pub refused-hold : overallNumbers (overallOf read refused)
+-- each difference in its own place
+pub overall-hold : overallNumbers (overallOf first second)
+    ≡ record {
+      number = 0;
+      place = 0;
+      which = 0;
+      rate = differs 1 0 96000 88200 none none;
+      side = differs 2 0 4 0 none none;
+      count = differs 3 0 3 5 none none;
+      form = differs 4 0 3 5 none none;
+      more = differs 7 0 2 0 none none;
+    }
+unfolding ofBits ofFields overallOf
+overall-hold = refl
+
+-- no difference beside a refusal
+pub refused-hold : overallNumbers (overallOf first refused)
     ≡ record { number = 10; place = 7; which = 2; rate = noNumbers; side = noNumbers; count = noNumbers; form = noNumbers; more = noNumbers }
 unfolding ofBits ofFields overallOf
 refused-hold = refl

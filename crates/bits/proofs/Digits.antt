@@ -1,4 +1,7 @@
 -- Laws of digits in any base: a number's digits by parts, the number that digits stand for, and that each undoes the other.
+pub mod Read
+pub mod Write
+pub mod Word
 use mathlib.Core.Path.{_≡_, refl, sym, ap, ap₂, _∙_}
 use mathlib.Core.List.{List, [], _∷_, _++_}
 use Prim.Native.Nat.{ℕ, zero, suc, _+_, _*_, _/_, _%_, _^_, _<_}

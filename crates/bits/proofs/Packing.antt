@@ -1,4 +1,7 @@
 -- Laws of bits packed to bytes: lengths, bounds, parts, and that packing and the bits of bytes undo each other.
+pub mod Ahead
+pub mod Field
+pub mod Fill
 use mathlib.Core.Path.{_≡_, refl, sym, ap, ap₂, _∙_}
 use mathlib.Core.List.{List, [], _∷_, _++_, append-assoc, append-nil}
 use Prim.Native.Nat.{ℕ, zero, suc, _+_, _-_, _*_, _/_, _^_, _≤_}

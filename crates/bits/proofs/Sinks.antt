@@ -20,7 +20,7 @@ use Rattle.bits.specs.Sinks.{Sound, Held, overWord, PlacedBits, Laid}
 use Rattle.bits.specs.declared.fields.Sink.{Sink}
 use Rattle.bits.proofs.Digits.{two⁺, length-digits, digits-zero, digits-append, digits-join, digits-mod}
 use Rattle.bits.proofs.Packing.{bits-append, bits-bytes, bits-take, bits-drop, bits-same, length-pack, below-pack, bits-pack}
-use Rattle.bits.proofs.Word.{mask, join-lt, shl-is, two-lt, two-bits}
+use Rattle.bits.proofs.Digits.Word.{mask, join-lt, shl-is, two-lt, two-bits}
 
 -- a sink by its parts
 abbrev pub sink : ℕ → ℕ → ℕ → Sink

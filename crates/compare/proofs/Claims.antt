@@ -19,7 +19,7 @@ use Rattle.differences.specs.declared.Difference.{Difference}
 use Rattle.differences.specs.declared.Difference.the-variants.{Equal, InProperty, Position, Ratio, More}
 use Rattle.differences.specs.Differences.{differences}
 use Rattle.differences.specs.Comparisons.{Comparison, comparison, refusedBy}
-use Rattle.differences.specs.Claims.{Among}
+use Rattle.lists.specs.Among.{Among}
 use Rattle.differences.proofs.Claims.{lists-exactly, none-own}
 use Rattle.differences.proofs.Comparisons.{compares, compares-only, empty-exactly, compared-first, compared-second, comparison-trailing}
 use Rattle.compare.specs.Lines.{propertyLine, positionLine, ratioLine, moreLine, lineOf, textOf, refusedInLine}

@@ -1,4 +1,6 @@
 -- The list of two runs' differences has all of them and nothing else, and is empty exactly when the records are the same.
+pub mod Calls
+pub mod Order
 use mathlib.Core.Bool.{Bool, true, false, cond}
 use mathlib.Core.List.{List, [], _∷_, _++_, append-nil}
 use mathlib.Core.Logic.{_⊎_, inl, inr, ⊎-elim, _↔_}
@@ -23,8 +25,9 @@ use Rattle.differences.specs.declared.Difference.the-variants.{Equal, In
 use Rattle.differences.specs.declared.Values.{Values}
 use Rattle.differences.specs.declared.Values.the-variants.{Same, Other}
 use Rattle.differences.specs.Differences.{propertyDifference, moreDifference, valuesAt, positionBy, ratioBy, positionAt, ratioAt, listed, pointsTo, differences}
-use Rattle.differences.specs.Claims.{Among, valueOf, Differs, ListsExactly, EmptyWhenSame}
-use Rattle.differences.proofs.Among.{among-left, among-right, among-either, among-none}
+use Rattle.lists.specs.Among.{Among}
+use Rattle.lists.proofs.Among.{among-left, among-right, among-either, among-none}
+use Rattle.differences.specs.Claims.{valueOf, Differs, ListsExactly, EmptyWhenSame}
 use Rattle.differences.proofs.Differences.{property-other, more-other, values-beyond, values-same, values-other}
 
 -- ---- the values at an index

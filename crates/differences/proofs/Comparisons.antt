@@ -14,7 +14,7 @@ use Rattle.record_format.specs.Reading.{Answer, readStrict}
 use Rattle.record_format.specs.Runs.{Run, run, positionsTag, recordOf}
 use Rattle.record_format.specs.declared.ReadAnswer.{ReadAnswer}
 use Rattle.record_format.proofs.Claims.{reads-only, trailing-bytes}
-use Rattle.record_format.proofs.Followed.{followed}
+use Rattle.record_format.proofs.Claims.Trailing.{followed}
 use Rattle.record_format.proofs.Runs.{form-of}
 use Rattle.record_format.proofs.Writing.{accepted-fits}
 use Rattle.ratio_format.specs.Bodies.{strictRatios}
@@ -28,7 +28,7 @@ use Rattle.differences.specs.Comparisons.{Comparison, runOf, refusedBy, 
 use Rattle.differences.specs.Claims.{Compares, ComparesOnly, EmptyExactly, RefusesFirst, RefusesSecond, MakeUp, ByCalls, ComparisonTrailing, ComparisonFollowed}
 use Rattle.differences.proofs.Claims.{same-run, none-own}
 use Rattle.differences.proofs.Overall.{first-clear, overall-first, overall-second, overall-both}
-use Rattle.differences.proofs.Rooms.{any-room, not-expected, not-roomless}
+use Rattle.record_format.proofs.Reading.Rooms.{any-room, not-expected, not-roomless}
 
 -- ---- by two answers
 

@@ -1,6 +1,5 @@
--- Document 02, No. 7, as statements. Those of two runs are proved in proofs/Claims and, InOrder, in proofs/Order; those of the calls in proofs/Calls;
+-- Document 02, No. 7, as statements. Those of two runs are proved in proofs/Claims and, InOrder, in proofs/Claims/Order; those of the calls in proofs/Claims/Calls;
 -- those of two strings of bytes in proofs/Comparisons.
---   Among x l         x is an element of the list l
 --   valueOf p r       the value of the property p of the run r
 --   HasBoth r q i     both runs have a point of index i
 --   Differs r q d     the runs r and q differ in what d says, and d has the values of both: document 02's words, for each case
@@ -30,6 +29,7 @@ use mathlib.Core.Logic.{_⊎_, _↔_}
 use mathlib.Core.Path.{_≡_}
 use Prim.Native.Nat.{ℕ, _+_, _*_, _≤_, _<_, min}
 use lib.ListN.{length, getD}
+use Rattle.lists.specs.Among.{Among}
 use Rattle.kind.specs.Kinds.{kindOf}
 use Rattle.record_format.specs.Claims.{Accepted, Beginning, Bytes}
 use Rattle.record_format.specs.Reading.{Answer, endAt, readStrict}
@@ -45,11 +45,6 @@ use Rattle.differences.specs.Overall.{overallOf}
 use Rattle.differences.specs.Comparisons.{Comparison, runOf, comparison}
 
 -- ---- what a difference says
-
--- an element of a list
-unfoldable pub Among : {A : Type 0} → A → List A → Type 0
-Among x [] = ⊥
-Among x (y ∷ l) = (x ≡ y) ⊎ Among x l
 
 -- a form's is the positions' tag
 abbrev pub valueOf : Property → Run → ℕ

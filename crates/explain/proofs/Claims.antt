@@ -17,7 +17,7 @@ use Rattle.inputs.proofs.Inputs.{over-front, record-uncut, reads-record, reads-
 use Rattle.explain.specs.Indexes.{indexOf}
 use Rattle.explain.specs.Printed.{bodyIn, indexText, answerText, printed}
 use Rattle.explain.specs.Claims.{BytesThere, PrintsReason, PrintsPast, PrintsOnly}
-use Rattle.explain.proofs.Offsets.{body-same, ratio-bytes}
+use Rattle.explain.proofs.Printed.Offsets.{body-same, ratio-bytes}
 use Rattle.explain.proofs.Printed.{point-lines, point-past}
 
 pub bytes-there : BytesThere

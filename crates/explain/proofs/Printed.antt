@@ -1,4 +1,5 @@
 -- Laws of what the program prints: of an index, of an index that is cut, and by what strict reading left in its outputs.
+pub mod Offsets
 use mathlib.Core.Bool.{Bool, true, false, cond}
 use mathlib.Core.List.{List, [], _++_}
 use mathlib.Core.Option.{Option, none, some}
@@ -27,7 +28,7 @@ use Rattle.inputs.proofs.Inputs.{Read, answerOf, over-front, read-input, read-o
 use Rattle.explain.specs.Indexes.{indexOf, capped}
 use Rattle.explain.specs.Lines.{costLine, reasonLine}
 use Rattle.explain.specs.Printed.{bodyIn, costOf, offsetOf, pointText, indexText, answerText, printed}
-use Rattle.explain.proofs.Offsets.{body-end}
+use Rattle.explain.proofs.Printed.Offsets.{body-end}
 
 -- ---- of an index
 

@@ -1,6 +1,6 @@
 -- Demand 3, of its parts.
 use Rattle.record_format.proofs.Claims.{prefix-free, lists-apart, trailing-bytes, shortest-of-all, nine-each}
-use Rattle.record_format.proofs.Followed.{followed, move-followed}
+use Rattle.record_format.proofs.Claims.Trailing.{followed, move-followed}
 use Rattle.differences.proofs.Comparisons.{comparison-trailing, comparison-followed}
 use Rattle.farigolenc.specs.Demand3.{Demand3}
 

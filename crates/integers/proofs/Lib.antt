@@ -1,1 +1,3 @@
 pub mod Integers
+pub mod Machine
+pub mod Negation

@@ -1,4 +1,5 @@
 -- What the program prints of a run's record, and of all other input.
+pub mod Examples
 use mathlib.Core.Path.{_≡_, refl, ap, ap₂, _∙_}
 use mathlib.Core.List.{List}
 use Prim.Native.Nat.{ℕ}

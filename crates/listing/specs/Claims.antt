@@ -1,5 +1,5 @@
 -- Document 01, "Bytes to compare", and document 02, No. 2 and No. 3: the listing, as a statement about runs; proved in proofs/Claims, and PrintsListed
--- in proofs/Examples.
+-- in proofs/Claims/Examples.
 --   listingOf r   the listing of the run r: its rate, its side unless that is 0, its count, its span, and each point
 --   PrintsRun     of input that begins with the record of an accepted run the program prints that run's listing, whatever follows
 --   PrintsListed  of document 01's 46 bytes it prints the output that document 01 gives in full, of the same run on side 4 that output with

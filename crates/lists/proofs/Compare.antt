@@ -1,9 +1,12 @@
 -- Laws of the tests that compare lists: what they say when true, and when they are true.
-use mathlib.Core.Path.{_≡_, refl, sym, ap₂}
+use mathlib.Core.Path.{_≡_, refl, sym, ap, ap₂, _∙_}
 use mathlib.Core.Bool.{Bool, true, false, false≢true}
 use mathlib.Core.List.{List, [], _∷_, _++_}
-use Prim.Native.Nat.{ℕ}
+use Prim.Native.Nat.{ℕ, _<_}
+use native.Mathlib.Omega.{arith}
 use lib.Dec.{eqb}
+use lib.ListN.{length, take, drop, length-append, take-append-drop}
+use lib.Seq.{take-at}
 use borrow.Author.Tests.{eqb-true, eq-eqb}
 use Rattle.lists.specs.Compare.{both, begins, same}
 
@@ -11,6 +14,18 @@ use Rattle.lists.specs.Compare.{both, begins, same}
 pub both-true : (s t : Bool) → both s t ≡ true → (s ≡ true) × (t ≡ true)
 both-true true t e = (refl, e)
 both-true false t e = absurd (false≢true e)
+
+-- a test that is not true is false
+pub not-so : (t : Bool) → (t ≡ true → ⊥) → t ≡ false
+not-so true f = absurd (f refl)
+not-so false f = refl
+
+-- two tests are one where each holds wherever the other does
+pub same-test : (a b : Bool) → (a ≡ true → b ≡ true) → (b ≡ true → a ≡ true) → a ≡ b
+same-test true true f g = refl
+same-test true false f g = sym (f refl)
+same-test false true f g = g refl
+same-test false false f g = refl
 
 -- a beginning
 
@@ -27,6 +42,24 @@ begins-rest (b ∷ a) (c ∷ s) e =
     let h = both-true (eqb b c) (begins a s) e in
     let r = begins-rest a s (h .1) in
     (r .0, ap₂ (λ (x : ℕ) (l : List ℕ). x ∷ l) (sym (eqb-true b c (h .0))) (r .1))
+
+-- what begins with p begins with the elements of p, and no others
+pub begins-take : (p ds : List ℕ) → begins p ds ≡ true → take (length p) ds ≡ p
+begins-take p ds e =
+    let t = begins-rest p ds e in
+    ap (take (length p)) (t .1) ∙ take-at p (t .0) (length p) refl
+
+pub take-begins : (p ds : List ℕ) → take (length p) ds ≡ p → begins p ds ≡ true
+take-begins p ds e = rw (sym (take-append-drop (length p) ds) ∙ ap (λ (l : List ℕ). l ++ drop (length p) ds) e) (begins-own p (drop (length p) ds))
+
+-- fewer elements do not begin with it
+pub begins-short : (p ds : List ℕ) → length ds < length p → begins p ds ≡ false
+begins-short p ds h = not-so (begins p ds) go
+  where
+    go : begins p ds ≡ true → ⊥
+    go e =
+        let t = begins-rest p ds e in
+        omega (arith, ap length (t .1), length-append p (t .0))
 
 -- equal lists
 
@@ -45,8 +78,4 @@ same-is (b ∷ a) (c ∷ s) e =
     ap₂ (λ (x : ℕ) (l : List ℕ). x ∷ l) (eqb-true b c (h .0)) (same-is a s (h .1))
 
 pub same-not : (a s : List ℕ) → (a ≡ s → ⊥) → same a s ≡ false
-same-not a s n = go (same a s) refl
-  where
-    go : (t : Bool) → same a s ≡ t → t ≡ false
-    go true e = absurd (n (same-is a s e))
-    go false e = refl
+same-not a s n = not-so (same a s) (λ e. n (same-is a s e))

@@ -1,12 +1,13 @@
 -- Laws of the short operations on lists: a test of every element, membership, and the first index that a test holds at.
+pub mod Tests
 use mathlib.Core.Bool.{Bool, true, false, cond}
-use mathlib.Core.List.{List, [], _∷_}
-use mathlib.Core.Logic.{inl, inr}
-use mathlib.Core.Path.{_≡_, refl}
+use mathlib.Core.List.{List, [], _∷_, _++_}
+use mathlib.Core.Logic.{_⊎_, inl, inr, ⊎-elim}
+use mathlib.Core.Path.{_≡_, refl, sym, _∙_}
 use Prim.Native.Nat.{ℕ, zero, suc, _+_, _≤_, _<_, zero-le, suc-le-suc}
 use native.Mathlib.Numerals.{add-one}
 use native.Mathlib.Omega.{arith}
-use borrow.Author.Tests.{eq-eqb, ne-eqb, eqb-true}
+use borrow.Author.Tests.{eq-eqb, ne-eqb, eqb-true, eqb-false}
 use lib.Dec.{eqb}
 use lib.ListN.{length, getD, drop, drop-of-length-le}
 use lib.Seq.{drop-cons}
@@ -33,7 +34,7 @@ later : (t b : Bool) → b ≡ true → cond t true b ≡ true
 later true b h = refl
 later false b h = h
 
--- by what an arm of a match on the list's numbers says of x
+-- of a number that is one of the list's, and of one that is none of them
 pub member-in : (l : List ℕ) (x : ℕ) → OneOf l x → member x l ≡ true
 unfolding member
 member-in [] x h = absurd h
@@ -72,6 +73,31 @@ member-every q (y ∷ l) x e h =
     go : (t : Bool) → eqb x y ≡ t → cond t true (member x l) ≡ true → q y ≡ true → (member x l ≡ true → q x ≡ true) → q x ≡ true
     go true s m e f = rw (eqb-true x y s) e
     go false s m e f = f m
+
+-- of three numbers, compared one after the other: b is what the first two comparisons say; where it is true it is the answer, and else the third comparison is
+module _ (x y z r : ℕ) (b : Bool) where
+  pub member-early : (b ≡ eqb r x) ⊎ (b ≡ eqb r y) → b ≡ true → b ≡ member r (x ∷ y ∷ z ∷ [])
+  member-early (inl f) e = e ∙ sym (member-in (x ∷ y ∷ z ∷ []) r (inl (eqb-true r x (sym f ∙ e))))
+  member-early (inr f) e = e ∙ sym (member-in (x ∷ y ∷ z ∷ []) r (inr (inl (eqb-true r y (sym f ∙ e)))))
+
+  pub member-late : ((r ≡ x) × (b ≡ eqb r x)) ⊎ ((r ≡ x → ⊥) × (b ≡ eqb r y)) → b ≡ false → eqb r z ≡ member r (x ∷ y ∷ z ∷ [])
+  member-late (inl n) e = absurd (eqb-false r x (sym (n .1) ∙ e) (n .0))
+  member-late (inr n) e = go (eqb r z) refl
+    where
+      go : (t : Bool) → eqb r z ≡ t → t ≡ member r (x ∷ y ∷ z ∷ [])
+      go true f = sym (member-in (x ∷ y ∷ z ∷ []) r (inr (inr (eqb-true r z f))))
+      go false f = sym (member-out (x ∷ y ∷ z ∷ []) r (⊎-elim (n .0) (⊎-elim (eqb-false r y (sym (n .1) ∙ e)) (eqb-false r z f))))
+
+-- a number of two lists, one after the other, is in the first or else in the second
+pub member-append : (r : ℕ) (l m : List ℕ) → member r (l ++ m) ≡ cond (member r l) true (member r m)
+unfolding member
+member-append r [] m = refl
+member-append r (x ∷ l) m = go (eqb r x) (member-append r l m)
+  where
+    go : (t : Bool) → member r (l ++ m) ≡ cond (member r l) true (member r m)
+        → cond t true (member r (l ++ m)) ≡ cond (cond t true (member r l)) true (member r m)
+    go true h = refl
+    go false h = h
 
 -- ---- firstIndex
 

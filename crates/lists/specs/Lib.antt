@@ -1,3 +1,4 @@
 pub mod Lists
 pub mod Compare
 pub mod Below
+pub mod Among

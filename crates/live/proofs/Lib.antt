@@ -1,3 +1,2 @@
-pub mod Machine
 pub mod Additions
 pub mod States

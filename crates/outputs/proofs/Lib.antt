@@ -1,3 +1,1 @@
 pub mod Outputs
-pub mod Clear
-pub mod Parts

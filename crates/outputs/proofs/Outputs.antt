@@ -1,4 +1,7 @@
 -- Laws of what an output holds with a part replaced: its length, what stands after the part, and two parts after each other.
+pub mod Clear
+pub mod Parts
+pub mod Over
 use mathlib.Core.Path.{_≡_, sym, ap, ap₂, _∙_}
 use mathlib.Core.List.{List, _++_, append-assoc}
 use Prim.Native.Nat.{ℕ, _+_, _≤_}

@@ -8,7 +8,7 @@ use lib.ListN.{getD}
 use Rattle.bits.specs.Digits.{bitsOf}
 use Rattle.position_format.specs.Rows.{Row, inTable, residue, codeIn, noRow, rowOf}
 use Rattle.position_format.proofs.Rows.{residue-lt}
-use Rattle.position_format.proofs.Codes.{code-row}
+use Rattle.position_format.proofs.Rows.Codes.{code-row}
 use Rattle.position_codec.specs.declared.table.Code.{Code}
 use Rattle.position_codec.specs.Codes.{Coded}
 

@@ -1,4 +1,6 @@
 -- The points of a run one after the other: the step at each, its bits, what one point more adds to the bits and to the tests, and what stands after it.
+pub mod Reading
+pub mod Stands
 use mathlib.Core.Bool.{Bool, true, false, cond, not}
 use mathlib.Core.List.{List, [], _∷_, _++_, append-assoc, append-nil}
 use mathlib.Core.Path.{_≡_, refl, sym, ap, ap₂, _∙_}
@@ -18,9 +20,9 @@ use Rattle.position_format.specs.Rows.{Row, inTable, code}
 use Rattle.position_format.specs.Steps.{stepOf, stepsFrom, steps, outside, firstOutside, stepHere}
 use Rattle.position_format.specs.Positions.{stepBits, positionBits, validPositions}
 use Rattle.position_format.specs.Points.{nextBits, pointBits}
-use Rattle.position_format.proofs.Lists.{none-snoc}
+use Rattle.lists.proofs.Lists.Tests.{none-snoc}
 use Rattle.position_format.proofs.Steps.{length-steps, step-at}
-use Rattle.position_format.proofs.Valid.{valid-parts, valid-of, valid-step}
+use Rattle.position_format.proofs.Positions.Valid.{valid-parts, valid-of, valid-step}
 
 -- ---- a position at the end
 

@@ -1,4 +1,8 @@
 -- The coding of positions and its reading: valid positions are read from their coding, and from no other body.
+pub mod After
+pub mod Raw
+pub mod Sizes
+pub mod Valid
 use mathlib.Core.Bool.{Bool, true, false, cond}
 use mathlib.Core.List.{List, [], _∷_, _++_, append-assoc}
 use mathlib.Core.Option.{none, some}
@@ -20,13 +24,13 @@ use Rattle.lists.specs.Lists.{firstIndex}
 use Rattle.position_format.specs.Rows.{Row, inTable, code}
 use Rattle.position_format.specs.Steps.{stepOf, stepsFrom, steps, outside}
 use Rattle.position_format.specs.Positions.{StepTaken, stepAt, after, stepBits, positionBits, codedPositions, validPositions, decodedSteps, decodedBits, decoded, readPositions}
-use Rattle.position_format.proofs.Integers.{after-step}
-use Rattle.position_format.proofs.Lists.{none-cons}
+use Rattle.position_format.proofs.Positions.After.{after-step}
+use Rattle.lists.proofs.Lists.Tests.{none-cons}
 use Rattle.position_format.proofs.Rows.{goodTable}
-use Rattle.position_format.proofs.Codes.{code-below}
-use Rattle.position_format.proofs.Decoding.{stepAt-code}
-use Rattle.position_format.proofs.Raw.{raw-first, raw-rest, raw-both}
-use Rattle.position_format.proofs.Valid.{valid-parts, valid-low}
+use Rattle.position_format.proofs.Rows.Codes.{code-below}
+use Rattle.position_format.proofs.Rows.Decoding.{stepAt-code}
+use Rattle.position_format.proofs.Positions.Raw.{raw-first, raw-rest, raw-both}
+use Rattle.position_format.proofs.Positions.Valid.{valid-parts, valid-low}
 
 -- ---- the bits are bits
 

@@ -1,4 +1,9 @@
 -- The rows of a table: what the coding needs of them as a test, and that a row's bits give the step back.
+pub mod Signs
+pub mod Codes
+pub mod Decoding
+pub mod Prefixes
+pub mod Ranges
 use mathlib.Core.Bool.{Bool, true, false, cond, not}
 use mathlib.Core.List.{List, [], _∷_}
 use mathlib.Core.Path.{_≡_, refl, sym, ap, ap₂, _∙_}
@@ -17,7 +22,7 @@ use Rattle.lists.proofs.Compare.{both-true}
 use Rattle.lists.proofs.Lists.{every, every-cons}
 use Rattle.position_format.specs.Rows.{Row, neg, holds, residue, reading}
 use Rattle.integers.proofs.Integers.{diff-neg}
-use Rattle.position_format.proofs.Integers.{at-least, at-most, neg-holds, neg-le-pos, neg-le-neg}
+use Rattle.position_format.proofs.Rows.Signs.{at-least, at-most, neg-holds, neg-le-pos, neg-le-neg}
 
 -- ---- the test
 

@@ -1,4 +1,5 @@
 -- The test of a table: all that the laws of coding, and the codec, ask of one. The checker computes it once for the table of each form.
+pub mod WideRows
 use mathlib.Core.Bool.{Bool, true, false}
 use mathlib.Core.List.{List, [], _∷_}
 use mathlib.Core.Path.{_≡_, refl, ap}
@@ -17,10 +18,10 @@ use Rattle.position_format.specs.declared.Form.{Form}
 use Rattle.position_format.specs.declared.Form.the-variants.{Old, Wide}
 use Rattle.position_format.specs.Rows.{Row, rows, wideRows, holds, reading, code, noRow, rowOf}
 use Rattle.position_format.specs.Tables.{tableOf}
-use Rattle.position_format.proofs.Lists.{every-at}
+use Rattle.lists.proofs.Lists.Tests.{every-at}
 use Rattle.position_format.proofs.Rows.{goodTable, full, good-cons, full-is, holds-ends, reading-ends}
-use Rattle.position_format.proofs.Codes.{lengths}
-use Rattle.position_format.proofs.Ranges.{widening, evenUpTo}
+use Rattle.position_format.proofs.Rows.Codes.{lengths}
+use Rattle.position_format.proofs.Rows.Ranges.{widening, evenUpTo}
 
 -- ---- the test
 

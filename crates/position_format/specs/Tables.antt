@@ -7,7 +7,7 @@
 --   EscapedSteps   every other step between positions in range is escaped, in the standard term: 11111, and then its 64 bits in two's complement
 --   ReadsCoded     a body is read as positions exactly when it is their coding, there are as many as the count, and they are valid. So a step in a row
 --                  that is not the first to hold it, -2^63, and a position out of range are no coding
--- Each is proved in proofs/Wide.
+-- Each is proved in proofs/Tables/WideRows.
 use mathlib.Core.Bool.{true, false}
 use mathlib.Core.List.{List, [], _∷_, _++_}
 use mathlib.Core.Logic.{_↔_}

@@ -12,9 +12,9 @@ use borrow.Author.Tests.{eqb-true, eqb-false}
 use Rattle.lists.proofs.Below.{below-at, below-replicate}
 use Rattle.ratio_format.specs.Windows.{windowSize, windowOf}
 use Rattle.ratio_format.specs.Forms.{coded}
-use Rattle.ratio_window.proofs.Windows.{window-has, window-at, find-newest}
+use Rattle.ratio_format.proofs.Windows.Before.{window-has, window-at, find-newest}
 use Rattle.ratio_bodies.specs.Indexes.{keys, keyOf, Bounded, Indexed, Trailing}
-use Rattle.ratio_codec.proofs.References.{coded-in}
+use Rattle.ratio_codec.proofs.read.References.{coded-in}
 
 -- of no ratio
 pub trailing-none : (l : List ℕ) → Trailing (replicate keys 0) l 0

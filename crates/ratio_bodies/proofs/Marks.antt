@@ -17,9 +17,9 @@ use Rattle.ratio_format.specs.Forms.{coded}
 use Rattle.ratio_format.specs.Open.{openRead}
 use Rattle.ratio_format.proofs.Windows.{window-few}
 use Rattle.ratio_format.proofs.Choice.{find-first}
-use Rattle.ratio_codec.proofs.References.{named-begins, named-one, named-absent}
-use Rattle.ratio_window.proofs.Windows.{window-inside, window-has, window-at, find-newest}
-use Rattle.ratio_search.specs.Planes.{slots}
+use Rattle.ratio_codec.proofs.read.References.{named-begins, named-one, named-absent}
+use Rattle.ratio_format.proofs.Windows.Before.{window-inside, window-has, window-at, find-newest}
+use Rattle.ratio_search.specs.BytePlanes.{slots}
 use Rattle.ratio_bodies.specs.Marks.{slotOf, Last, Again, Marks}
 
 -- before the first ratio

@@ -16,8 +16,8 @@ use Rattle.ratio_format.specs.declared.Read.the-variants.{Ratio, Nothing}
 use Rattle.ratio_format.specs.Windows.{windowSize, push, windowOf}
 use Rattle.ratio_format.specs.Bodies.{Taken, noneTaken, takenFrom, wholeTaken}
 use Rattle.ratio_format.proofs.Windows.{window-snoc}
-use Rattle.ratio_format.proofs.ReadFrom.{Rule}
-use Rattle.ratio_format.proofs.Taken.{RuleWithin, taken-stop, taken-next}
+use Rattle.ratio_format.proofs.Bodies.ReadFrom.{Rule}
+use Rattle.ratio_format.proofs.Bodies.Taken.{RuleWithin, taken-stop, taken-next}
 use Rattle.ratio_bodies.specs.declared.Took.{Took}
 use Rattle.ratio_bodies.specs.Taking.{TakenInto}
 

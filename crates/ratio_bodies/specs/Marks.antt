@@ -8,7 +8,7 @@ use mathlib.Core.Path.{_≡_}
 use Prim.Native.Nat.{ℕ, _+_, _-_, _%_, _≤_, _<_}
 use lib.ListN.{length, getD}
 use Rattle.ratio_format.specs.Windows.{windowSize}
-use Rattle.ratio_search.specs.Planes.{slots}
+use Rattle.ratio_search.specs.BytePlanes.{slots}
 
 -- the slots are those of the planes: the ratio at index k stands in slot k % slots
 abbrev pub slotOf : ℕ → ℕ → ℕ

@@ -5,7 +5,7 @@ ghost use Prim.Native.Nat.{_-_, _≤_};
 ghost use lib.ListN.{length, take};
 ghost use Rattle.ratio_format.specs.Windows.{windowSize, windowOf};
 ghost use Rattle.ratio_format.specs.Choice.{ratioForm};
-ghost use Rattle.ratio_search.specs.Planes.{Planes, Kept};
+ghost use Rattle.ratio_search.specs.BytePlanes.{Planes, Kept};
 use ratio_codec::write::choose;
 use ratio_codec::write::form_of;
 use ratio_format::RatioForm;

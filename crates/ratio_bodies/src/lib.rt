@@ -26,7 +26,7 @@ ghost use Rattle.outputs.specs.Outputs.{Placed};
 ghost use Rattle.ratio_format.specs.Windows.{windowSize, windowOf};
 ghost use Rattle.ratio_format.specs.Forms.{coded};
 ghost use Rattle.ratio_format.specs.Bodies.{codedRatios, openTaken, strictTaken};
-ghost use Rattle.ratio_search.specs.Planes.{Planes};
+ghost use Rattle.ratio_search.specs.BytePlanes.{Planes};
 ghost use Rattle.ratio_bodies.specs.Taking.{TakenInto};
 
 mod ahead;

@@ -7,7 +7,7 @@ ghost use Rattle.ratio_format.specs.Windows.{windowSize, windowOf};
 ghost use Rattle.ratio_format.specs.Forms.{coded};
 ghost use Rattle.ratio_format.specs.Open.{openRead};
 ghost use Rattle.ratio_format.specs.declared.Read.the-variants.{Ratio};
-ghost use Rattle.ratio_search.specs.Planes.{slots, Planes};
+ghost use Rattle.ratio_search.specs.BytePlanes.{slots, Planes};
 ghost use Rattle.ratio_bodies.specs.Marks.{Marks, slotOf};
 use super::choice::choose_nth;
 use ratio_codec::read::has_head;

@@ -24,7 +24,7 @@ use Rattle.ratio_format.specs.Choice.{best, ratioForm}
 use Rattle.ratio_format.specs.Forms.{written, coded}
 use Rattle.ratio_format.specs.Open.{openRead, openXor}
 use Rattle.ratio_format.proofs.Zeros.{trail-le, pos-256}
-use Rattle.ratio_format.proofs.Sums.{xor-back}
+use Rattle.ratio_format.proofs.Zeros.Sums.{xor-back}
 use Rattle.ratio_format.proofs.Choice.{form-cases, bestXor, best-at}
 use Rattle.ratio_codec.specs.Heads.{formHead}
 

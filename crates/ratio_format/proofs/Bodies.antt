@@ -1,4 +1,7 @@
 -- Bodies of coded ratios: how many bytes they have, that each is a byte, their parts, and the window at each part.
+pub mod ReadFrom
+pub mod Strict
+pub mod Taken
 use mathlib.Core.Path.{_≡_, refl, sym, ap, _∙_}
 use mathlib.Core.List.{List, [], _∷_, _++_, append-assoc, append-nil, reverse, reverse-cons}
 use Prim.Native.Nat.{ℕ, _+_, _*_, _≤_, _<_}

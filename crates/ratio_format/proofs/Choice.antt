@@ -1,5 +1,6 @@
 -- What the choice says: the best of a window is the largest sum at its smallest place, a ratio is found at its smallest place, and the
 -- form follows from the best alone.
+pub mod Exceptions
 use mathlib.Core.Path.{_≡_, refl, sym, ap, _∙_}
 use mathlib.Core.Logic.{_⊎_, inl, inr, ⊎-elim}
 use mathlib.Core.Bool.{Bool, true, false, cond}
@@ -20,7 +21,7 @@ use Rattle.ratio_format.specs.Zeros.{leadZeros, trailZeros, sumOf}
 use Rattle.ratio_format.specs.Forms.{Fit}
 use Rattle.ratio_format.specs.Choice.{Best, newer, best, find, ratioForm, xorForm}
 use Rattle.ratio_format.proofs.Zeros.{trail-le, middle-fits}
-use Rattle.ratio_format.proofs.Sums.{sum-same, sum-other}
+use Rattle.ratio_format.proofs.Zeros.Sums.{sum-same, sum-other}
 
 -- the best of a window and one newer ratio, by the test of their sums
 abbrev byTest : Bool → ℕ → Best → Best

@@ -1,16 +1,9 @@
 pub mod Zeros
-pub mod Sums
 pub mod Windows
-pub mod Shifting
 pub mod Choice
 pub mod Forms
 pub mod Open
 pub mod Bodies
-pub mod ReadFrom
-pub mod Shortest
-pub mod Strict
-pub mod Taken
 pub mod Lives
 pub mod Stepping
 pub mod Claims
-pub mod Exceptions

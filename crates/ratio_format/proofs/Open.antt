@@ -1,6 +1,7 @@
 -- Laws of the open rule for one ratio, and of strict reading of one: what each reads, by outcome; that what is written for a ratio is read back as
 -- that ratio, whatever follows, and strict reading takes exactly that; and what a ratio that was read says: it has 64 bits, its bytes are
 -- there, and no form that is read as it is shorter than the one that is written.
+pub mod Shortest
 use mathlib.Core.Path.{_≡_, refl, sym, ap, _∙_, subst}
 use mathlib.Core.Bool.{Bool, true, false, cond}
 use mathlib.Core.List.{List, [], _∷_, _++_}
@@ -26,7 +27,7 @@ use Rattle.ratio_format.specs.Choice.{best, find, ratioForm}
 use Rattle.ratio_format.specs.Forms.{written, coded}
 use Rattle.ratio_format.specs.Open.{openRead, openXor, strictRead, strictOf}
 use Rattle.ratio_format.proofs.Zeros.{trail-factor, middle-fits, raised-fits, zeros-most}
-use Rattle.ratio_format.proofs.Sums.{xor-back}
+use Rattle.ratio_format.proofs.Zeros.Sums.{xor-back}
 use Rattle.ratio_format.proofs.Choice.{best-at, best-most, find-at, find-lt, form-cases, best-xor, absent-small}
 use Rattle.ratio_format.proofs.Forms.{formLen, coded-is, coded-length}
 

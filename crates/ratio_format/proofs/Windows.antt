@@ -1,4 +1,6 @@
 -- The window of ratios that stand oldest first in a slice or in an array: what each place holds, and the window after one ratio more.
+pub mod Shifting
+pub mod Before
 use mathlib.Core.Path.{_≡_, refl, sym, ap, _∙_}
 use mathlib.Core.Bool.{Bool, true, false, cond}
 use mathlib.Core.List.{List, [], _∷_, _++_, reverse, reverse-append, reverse-cons}

@@ -1,5 +1,7 @@
 -- Zero bytes: the counts of zero bits at either end of a number, divided by 8, are its zero bytes; their bounds; and what stands between
 -- them. Each law is for any number k of bytes, and for the eight of a ratio.
+pub mod Sums
+pub mod Bounds
 use mathlib.Core.Path.{_≡_, refl, sym, ap, ap₂, _∙_, subst}
 use mathlib.Core.List.{List, [], _∷_, _++_, reverse, reverse-cons}
 use Prim.Native.Nat.{ℕ, zero, suc, _+_, _-_, _*_, _/_, _%_, _^_, _≤_, _<_}

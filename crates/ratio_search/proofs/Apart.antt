@@ -11,8 +11,8 @@ use Rattle.bits.specs.Digits.{digitsOf, bytesOf}
 use Rattle.bits.proofs.Digits.{pow-bytes}
 use Rattle.ratio_format.specs.Zeros.{zerosAt, leadZeros, trailZeros, sumOf}
 use Rattle.ratio_format.proofs.Zeros.{lowBytes, lead-is, trail-is}
-use Rattle.ratio_format.proofs.Sums.{xor-zero}
-use Rattle.ratio_search.specs.Planes.{byteAt}
+use Rattle.ratio_format.proofs.Zeros.Sums.{xor-zero}
+use Rattle.ratio_search.specs.BytePlanes.{byteAt}
 use Rattle.ratio_search.specs.Apart.{Apart}
 
 -- zeros end at an element that is not 0

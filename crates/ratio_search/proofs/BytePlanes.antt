@@ -8,7 +8,7 @@ use borrow.Author.Tests.{eqb-true, eqb-false, leb-true, leb-false}
 use lib.Dec.{eqb, leb}
 use lib.ListN.{length, getD, set, length-set}
 use lib.Seq.{getD-set-same, getD-set-other}
-use Rattle.ratio_search.specs.Planes.{byteAt, slots, cells, Planes, Kept}
+use Rattle.ratio_search.specs.BytePlanes.{byteAt, slots, cells, Planes, Kept}
 
 -- the planes ps after the lowest n bytes of v were put into the slot of i
 abbrev pub InSlot : List ℕ → ℕ → ℕ → List ℕ → ℕ → Type 0

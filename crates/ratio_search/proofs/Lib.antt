@@ -1,4 +1,2 @@
 pub mod Apart
 pub mod BytePlanes
-pub mod Blocks
-pub mod Searching

@@ -4,7 +4,7 @@ ghost use mathlib.Core.Bool.{false};
 ghost use mathlib.Core.Logic.{_⊎_};
 ghost use Prim.Native.Nat.{ℕ, _+_, _≤_, _<_};
 ghost use Rattle.ratio_format.specs.Zeros.{leadZeros, trailZeros};
-ghost use Rattle.ratio_search.specs.Planes.{byteAt, slots, Differs};
+ghost use Rattle.ratio_search.specs.BytePlanes.{byteAt, slots, Differs};
 ghost use Rattle.ratio_search.specs.Apart.{Apart};
 use super::planes::CELLS;
 use super::planes::SLOTS;

@@ -2,7 +2,7 @@
 ghost use mathlib.Core.Path.{_≡_};
 ghost use Prim.Native.Nat.{ℕ, _+_, _-_, _*_, _%_, _≤_, _<_};
 ghost use lib.ListN.{length, getD};
-ghost use Rattle.ratio_search.specs.Planes.{byteAt, slots, cells, Kept};
+ghost use Rattle.ratio_search.specs.BytePlanes.{byteAt, slots, cells, Kept};
 
 // How many ratios the planes hold: the ratio at index k stands in slot k % SLOTS.
 pub const SLOTS: usize = 128;

@@ -5,7 +5,7 @@ ghost use lib.ListN.{length, take};
 ghost use Rattle.ratio_format.specs.Windows.{windowSize, windowOf};
 ghost use Rattle.ratio_window.specs.Searched.{Searched};
 ghost use Rattle.ratio_window.specs.Passed.{Passed};
-ghost use Rattle.ratio_search.specs.Planes.{Planes};
+ghost use Rattle.ratio_search.specs.BytePlanes.{Planes};
 ghost use Rattle.ratio_search.specs.Apart.{Apart};
 use super::pairs::Pairs;
 use super::pairs::beats;

@@ -1,4 +1,2 @@
 pub mod Passed
-pub mod Sums
-pub mod Windows
 pub mod Searched

@@ -12,7 +12,7 @@ use Rattle.ratio_format.specs.Choice.{best}
 use Rattle.ratio_format.proofs.Choice.{best-at, best-most, best-first}
 use Rattle.ratio_window.specs.Searched.{Searched}
 use Rattle.ratio_window.specs.Passed.{Passed}
-use Rattle.ratio_window.proofs.Windows.{window-inside, window-has, window-at}
+use Rattle.ratio_format.proofs.Windows.Before.{window-inside, window-has, window-at}
 
 module _ (size : ℕ) (l : List ℕ) (v i : ℕ) (h : i ≤ length l) where
   abbrev w : List ℕ

@@ -19,7 +19,7 @@ use Rattle.ratio_format.specs.Windows.{windowSize}
 use Rattle.ratio_format.specs.Zeros.{leadZeros, trailZeros, sumOf}
 use Rattle.ratio_format.proofs.Bodies.{coded-on, coded-more}
 use Rattle.ratio_format.proofs.Choice.{best-at, best-most, best-first, best-xor, bestXor, find-at, find-first}
-use Rattle.ratio_window.proofs.Windows.{window-inside, window-at}
+use Rattle.ratio_format.proofs.Windows.Before.{window-inside, window-at}
 use Rattle.reasons.specs.declared.Reason.the-variants.{Reference, Xor, Exception, Empty, Refused}
 use Rattle.reasons.specs.Reasons.{xorReason, reasonOf, windowAt}
 use Rattle.reasons.specs.Claims.{NoneEqual, Says, SaysTrue, WindowIs, SaysOne, formNamed, NamesForm, OnlyWindow, RefusesExactly}

@@ -1,4 +1,7 @@
 -- The demands on records, proved of the definitions.
+pub mod Trailing
+pub mod Returned
+pub mod Admitted
 use mathlib.Core.Path.{_≡_, refl, sym, ap, ap₂, _∙_}
 use mathlib.Core.Bool.{Bool, true, false, not, cond, false≢true}
 use mathlib.Core.List.{List, [], _∷_, _++_, append-nil}
@@ -26,9 +29,9 @@ use Rattle.position_format.proofs.Tables.{table-good}
 use Rattle.ratio_format.specs.Windows.{windowSize}
 use Rattle.ratio_format.specs.Bodies.{codedRatios, openRatios, strictRatios}
 use Rattle.ratio_format.proofs.Bodies.{nine-bytes}
-use Rattle.ratio_format.proofs.ReadFrom.{open-coded}
-use Rattle.ratio_format.proofs.Shortest.{shortest}
-use Rattle.ratio_format.proofs.Strict.{strict-coded}
+use Rattle.ratio_format.proofs.Bodies.ReadFrom.{open-coded}
+use Rattle.ratio_format.proofs.Open.Shortest.{shortest}
+use Rattle.ratio_format.proofs.Bodies.Strict.{strict-coded}
 use Rattle.record_format.specs.Fields.{Field, fieldOf, fieldBytes, laid}
 use Rattle.record_format.specs.Runs.{Run, run, positionsTag, formOf, ratiosTag, rateSize, countSize, sideFields, recordOf}
 use Rattle.record_format.specs.Writing.{runTests, accepts}
@@ -38,9 +41,9 @@ use Rattle.record_format.specs.Claims.{Accepted, AllAccepted, joined, ow
 use Rattle.record_format.proofs.Fields.{fieldIn, closed, laid-same}
 use Rattle.record_format.proofs.Reading.{room-enough, answer-clear, answer-good}
 use Rattle.record_format.proofs.Runs.{same-run, form-of, rateField, pointFields, flatFields, record-flat, countIndex, positionsIndex, ratiosIndex, fields-small}
-use Rattle.record_format.proofs.Sides.{sides-same}
-use Rattle.record_format.proofs.ReadsBack.{read-record}
-use Rattle.record_format.proofs.ReadsOnly.{front-stands, accepted-begins}
+use Rattle.record_format.proofs.Reading.Sides.{sides-same}
+use Rattle.record_format.proofs.Claims.Returned.{read-record}
+use Rattle.record_format.proofs.Claims.Admitted.{front-stands, accepted-begins}
 use Rattle.record_format.proofs.Moves.{own-move, own-form}
 use Rattle.record_format.proofs.Writing.{Fitting, accepted-fits, fitting-accepted, fitting-few, accepts-clear, clear-accepts, run-refused, run-no-room, run-written}
 

@@ -2,17 +2,11 @@ pub mod Fields
 pub mod Reading
 pub mod Writing
 pub mod Runs
-pub mod Sides
-pub mod Fronts
-pub mod ReadsBack
-pub mod ReadsOnly
 pub mod Moves
-pub mod Followed
 pub mod Claims
 pub mod SideClaims
 pub mod WideClaims
 pub mod MoveClaims
 pub mod FourFields
-pub mod Longest
 pub mod Sizes
 pub mod Examples

@@ -23,10 +23,10 @@ use Rattle.position_format.specs.declared.Form.{Form}
 use Rattle.position_format.specs.declared.Form.the-variants.{Old, Wide}
 use Rattle.position_format.specs.Positions.{codedPositions, validPositions, readPositions}
 use Rattle.position_format.specs.Tables.{tableOf, pointsOf}
-use Rattle.position_format.proofs.Valid.{valid-parts}
-use Rattle.position_format.proofs.Wide.{wide-valid}
+use Rattle.position_format.proofs.Positions.Valid.{valid-parts}
+use Rattle.position_format.proofs.Tables.WideRows.{wide-valid}
 use Rattle.ratio_format.specs.Bodies.{codedRatios, strictRatios}
-use Rattle.ratio_format.proofs.Strict.{strict-coded}
+use Rattle.ratio_format.proofs.Bodies.Strict.{strict-coded}
 use Rattle.record_format.specs.Fields.{Field, fieldOf, headSize, fieldBytes, laid, tagAt}
 use Rattle.record_format.specs.Runs.{Run, positionsTag, ratiosTag, frontFields, recordOf}
 use Rattle.record_format.specs.Reading.{positionsAt, ratiosAt, endAt, countIn, formIn, frontTests, manyTests, contentsTests, positionsTestsBy, positionsTests, ratiosTests, readTests}
@@ -34,10 +34,10 @@ use Rattle.record_format.specs.Moves.{otherForm, inForm, runIn, sourceTe
 use Rattle.record_format.specs.Claims.{positionsPlace}
 use Rattle.record_format.specs.MoveClaims.{notMoved, movedTo, FormFirst}
 use Rattle.record_format.proofs.Fields.{length-laid, laid-append, laid-one}
-use Rattle.record_format.proofs.Fronts.{count-at, positions-at, front-pass, input, front-all, input-length, tag-there}
+use Rattle.record_format.proofs.Reading.Fronts.{count-at, positions-at, front-pass, input, front-all, input-length, tag-there}
 use Rattle.record_format.proofs.Reading.{refusal, front-numbered, front-roomless}
-use Rattle.record_format.proofs.ReadsBack.{positions-stand, ratios-stand, at-end, counted, run-is, only-own}
-use Rattle.record_format.proofs.ReadsOnly.{front-clear, clear-begins}
+use Rattle.record_format.proofs.Claims.Returned.{positions-stand, ratios-stand, at-end, counted, run-is, only-own}
+use Rattle.record_format.proofs.Claims.Admitted.{front-clear, clear-begins}
 use Rattle.record_format.proofs.Writing.{Fitting, fitting-few, steps-valid, valid-steps}
 
 -- ---- forms

@@ -1,5 +1,8 @@
 -- Laws of reading: the tests of a field by how it turns out, the answer by the tests that are left to make, and that bytes after the record
 -- change nothing.
+pub mod Rooms
+pub mod Fronts
+pub mod Sides
 use mathlib.Core.Path.{_≡_, refl, sym, ap, ap₂, _∙_, subst}
 use mathlib.Core.Bool.{Bool, true, false, not, cond, false≢true}
 use mathlib.Core.List.{List, [], _∷_, _++_, append-assoc}

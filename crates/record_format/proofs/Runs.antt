@@ -13,7 +13,7 @@ use Rattle.position_format.specs.declared.Form.{Form}
 use Rattle.position_format.specs.declared.Form.the-variants.{Old, Wide}
 use Rattle.position_format.specs.Positions.{codedPositions, validPositions}
 use Rattle.position_format.specs.Tables.{tableOf, pointsOf}
-use Rattle.position_format.proofs.Sizes.{form-size}
+use Rattle.position_format.proofs.Positions.Sizes.{form-size}
 use Rattle.ratio_format.specs.Windows.{windowSize}
 use Rattle.ratio_format.specs.Bodies.{codedRatios}
 use Rattle.ratio_format.proofs.Bodies.{nine-bytes}

@@ -33,7 +33,7 @@ use Rattle.record_format.specs.Reading.{Answer, refusalAnswer, recordAns
 use Rattle.record_format.specs.SideClaims.{rateBytes, sideBytes, Expects, refusedBy, RateRefused, RateFirst, HeadCut, TagRefused, LengthRefused, BodyCut, SideRefused, CountRefused, shifted, SideShifts}
 use Rattle.record_format.proofs.Fields.{FieldStands, length-field, stands, head-stands}
 use Rattle.record_format.proofs.Reading.{refusal, head-short, tag-other, length-other, body-short, field-passes, tests-flat, answer-refused}
-use Rattle.record_format.proofs.Sides.{absent-count, absent-tests, present-count, present-side, present-tests}
+use Rattle.record_format.proofs.Reading.Sides.{absent-count, absent-tests, present-count, present-side, present-tests}
 use Rattle.record_format.proofs.Claims.{no-other, other-none}
 
 -- a tag that is the one of a list of one

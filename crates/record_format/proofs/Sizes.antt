@@ -1,4 +1,5 @@
 -- The bounds on the sizes of a record and of its bodies, and that both bounds on the record are reached.
+pub mod Longest
 use mathlib.Core.Bool.{true}
 use mathlib.Core.List.{[]}
 use mathlib.Core.Path.{_≡_, refl, ap, ap₂, _∙_}
@@ -14,14 +15,14 @@ use Rattle.position_format.specs.declared.Form.{Form}
 use Rattle.position_format.specs.declared.Form.the-variants.{Old, Wide}
 use Rattle.position_format.specs.Positions.{positionBits, codedPositions}
 use Rattle.position_format.specs.Tables.{tableOf}
-use Rattle.position_format.proofs.Valid.{valid-none}
+use Rattle.position_format.proofs.Positions.Valid.{valid-none}
 use Rattle.ratio_format.specs.Bodies.{codedFrom}
 use Rattle.record_format.specs.Runs.{run, sideLength, recordOf}
 use Rattle.record_format.specs.Claims.{Accepted}
 use Rattle.record_format.specs.Sizes.{minRecord, longestOn, maxRecord, Within, NoPoints, longest, Reached}
 use Rattle.record_format.proofs.Writing.{accepted-fits, fitting-accepted}
 use Rattle.record_format.proofs.Runs.{positions-size, ratios-size, length-record}
-use Rattle.record_format.proofs.Longest.{longest-positions, longest-ratios, longest-accepted}
+use Rattle.record_format.proofs.Sizes.Longest.{longest-positions, longest-ratios, longest-accepted}
 
 -- the longest in either form, on a side and on none
 form-longest : (f : Form) (d : ℕ) → longestOn f d ≤ maxRecord

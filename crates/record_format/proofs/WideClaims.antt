@@ -24,8 +24,8 @@ use Rattle.position_format.specs.declared.Form.{Form}
 use Rattle.position_format.specs.declared.Form.the-variants.{Old, Wide}
 use Rattle.position_format.specs.Positions.{validPositions, readPositions}
 use Rattle.position_format.specs.Tables.{tableOf, pointsOf}
-use Rattle.position_format.proofs.Sizes.{points-few}
-use Rattle.position_format.proofs.Wide.{wide-valid}
+use Rattle.position_format.proofs.Positions.Sizes.{points-few}
+use Rattle.position_format.proofs.Tables.WideRows.{wide-valid}
 use Rattle.record_format.specs.Fields.{Field, fieldOf, headSize, fieldBytes, laid, tagAt, lengthAt, bodyAt, nextAt, fieldTests}
 use Rattle.record_format.specs.Runs.{Run, run, positionsTag, formOf, ratiosTag, frontFields, recordOf}
 use Rattle.record_format.specs.Writing.{runTests}
@@ -34,7 +34,7 @@ use Rattle.record_format.specs.SideClaims.{Expects, refusedBy}
 use Rattle.record_format.specs.Claims.{countPlace, positionsPlace}
 use Rattle.record_format.specs.WideClaims.{FormNumbers, RecordFields, wideTests, RefusesWide, AcceptsWide, FormsApart, frontBytes, CountFirst, TagFirst, BodyByForm, fieldOfPoints, RatiosByReading}
 use Rattle.record_format.proofs.Fields.{FieldStands, StandAll, length-field, stands, laid-stand, pastAll, stand-past, small-append, stand-append, past-append, head-stands}
-use Rattle.record_format.proofs.Fronts.{front-small, count-at, positions-at, front-past, rate-is, side-is, count-is, front-tests, input, front-all, front-length, input-length, tag-there, form-is, positions-are, positions-pass}
+use Rattle.record_format.proofs.Reading.Fronts.{front-small, count-at, positions-at, front-past, rate-is, side-is, count-is, front-tests, input, front-all, front-length, input-length, tag-there, form-is, positions-are, positions-pass}
 use Rattle.record_format.proofs.Reading.{refusal, body-short, field-good, positions-few, positions-many, answer-refused, answer-good}
 use Rattle.record_format.proofs.Runs.{form-of, tag-good, coded-size, form-bodies}
 use Rattle.record_format.proofs.Writing.{fitting-accepted}

@@ -22,9 +22,9 @@ use Rattle.position_format.specs.Steps.{steps, outside, firstOutside}
 use Rattle.position_format.specs.Positions.{validPositions}
 use Rattle.position_format.specs.Tables.{tableOf, pointsOf}
 use Rattle.position_format.proofs.Steps.{length-steps}
-use Rattle.position_format.proofs.Sizes.{points-few}
-use Rattle.position_format.proofs.Valid.{valid-parts, valid-of}
-use Rattle.position_format.proofs.Wide.{wide-valid}
+use Rattle.position_format.proofs.Positions.Sizes.{points-few}
+use Rattle.position_format.proofs.Positions.Valid.{valid-parts, valid-of}
+use Rattle.position_format.proofs.Tables.WideRows.{wide-valid}
 use Rattle.record_format.specs.Runs.{Run, recordOf}
 use Rattle.record_format.specs.Writing.{stepTests, runTests, accepts, writeRefusal, writeAnswer, writeOutput}
 use Rattle.outputs.specs.Outputs.{zeros, over}

@@ -1,6 +1,6 @@
 -- The demands on records as statements about the definitions, in the terms of document 01, "What demand 3 compares", for runs that carry a
 -- side, 0 for none, and the form that they are written in (document 02, No. 2 and No. 3), and of the moves of No. 5. Followed and MoveFollowed are proved in
--- proofs/Followed, each other in proofs/Claims; the calls are tied to them by their contracts.
+-- proofs/Claims/Trailing, each other in proofs/Claims; the calls are tied to them by their contracts.
 --   Accepted r          r is a run that the writer accepts, in the standard term valid: its ratios have 64 bits, and no test of writing but 6
 --                       applies. AllAccepted rs: every run of a list is
 --   Bytes s             s is a string of bytes

@@ -1,5 +1,1 @@
 pub mod Fields
-pub mod Fronts
-pub mod Codings
-pub mod ReadPoints
-pub mod Writings

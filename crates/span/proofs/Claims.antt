@@ -23,8 +23,8 @@ use Rattle.refusals.proofs.Tests.{first-here}
 use Rattle.span.specs.declared.SpanAnswer.{SpanAnswer}
 use Rattle.span.specs.Spans.{roundedDown, firstPosition, lastPosition, dividend, milliseconds, spanTests, spanAnswer, spanned}
 use Rattle.span.specs.Claims.{SpanAccepted, AcceptsOnly, spanOf, IsFloor, RoundsDown, ZeroShort, towardZero, answerWith, Exact, SameSpan, OneLess, SpanFits}
-use Rattle.span.proofs.Rounding.{toward-neg, down-exact, down-inexact, down-abs, floor}
-use Rattle.span.proofs.Signed.{neg-less, neg-times, abs-times}
+use Rattle.span.proofs.Spans.Rounding.{toward-neg, down-exact, down-inexact, down-abs, floor}
+use Rattle.integers.proofs.Negation.{neg-less, neg-times, abs-times}
 use Rattle.span.proofs.Spans.{forward, backward, milliseconds-short, no-rate, many-points, high-point, no-refusal}
 
 -- ---- which spans there are

@@ -1,5 +1,3 @@
 pub mod PlacedAt
 pub mod Numbers
-pub mod Lengths
-pub mod Absolute
 pub mod Lines

@@ -1,4 +1,6 @@
 -- Digits as text: the fewest digits that hold a number are all of its digits without the leading zeros.
+pub mod Absolute
+pub mod Lengths
 use mathlib.Core.Path.{_≡_, refl, sym, ap, _∙_}
 use mathlib.Core.Bool.{Bool, true, false, cond}
 use mathlib.Core.List.{List, [], _∷_, _++_, map, map-append}

@@ -5,7 +5,7 @@ use native.Mathlib.Omega.{arith}
 use borrow.Author.Needs.{needs}
 use lib.ListN.{take, drop}
 use Rattle.bits.specs.Digits.{numberOf}
-use Rattle.bits.proofs.Read.{read-lt, read-step, bytes-lt}
+use Rattle.bits.proofs.Digits.Read.{read-lt, read-step, bytes-lt}
 use Rattle.bits.proofs.get_bytes.Statement.{statement}
 use Rattle.bits.proofs.get_bytes.Tie as tie
 

@@ -4,7 +4,7 @@ use Prim.Native.Nat.{_-_, _/_, _^_, _≤_}
 use native.Mathlib.Omega.{arith}
 use borrow.Author.Needs.{needs}
 use lib.ListN.{length}
-use Rattle.bits.proofs.Write.{written, write-start, write-none, write-again, write-done}
+use Rattle.bits.proofs.Digits.Write.{written, write-start, write-none, write-again, write-done}
 use Rattle.bits.proofs.put_bytes.Statement.{statement}
 use Rattle.bits.proofs.put_bytes.Tie as tie
 

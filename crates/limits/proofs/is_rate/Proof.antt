@@ -2,7 +2,7 @@
 use mathlib.Core.Path.{sym}
 use borrow.Author.Needs.{needs}
 use Rattle.limits.specs.Rates.{rates, isRate}
-use Rattle.limits.proofs.Rates.{member-append}
+use Rattle.lists.proofs.Lists.{member-append}
 use Rattle.limits.proofs.is_rate.Statement.{statement}
 use Rattle.limits.proofs.is_rate.Tie as tie
 

@@ -1,7 +1,7 @@
 -- `is_times_one_two_four` meets its contract: it compares with the base, twice and four times the base, in turn.
 use mathlib.Core.Logic.{inl, inr, ⊎-elim}
 use borrow.Author.Needs.{needs}
-use Rattle.limits.proofs.Rates.{member-early, member-late}
+use Rattle.lists.proofs.Lists.{member-early, member-late}
 use Rattle.limits.proofs.is_times_one_two_four.Statement.{statement}
 use Rattle.limits.proofs.is_times_one_two_four.Tie as tie
 

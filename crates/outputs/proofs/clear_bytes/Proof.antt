@@ -3,7 +3,7 @@ use Prim.Native.Nat.{_-_}
 use native.Mathlib.Omega.{arith}
 use borrow.Author.Needs.{needs}
 use lib.ListN.{length}
-use Rattle.outputs.proofs.Clear.{Cleared, clear-none, clear-more, clear-all}
+use Rattle.outputs.proofs.Outputs.Clear.{Cleared, clear-none, clear-more, clear-all}
 use Rattle.outputs.proofs.clear_bytes.Statement.{statement}
 use Rattle.outputs.proofs.clear_bytes.Tie as tie
 

@@ -4,7 +4,7 @@ use Prim.Native.Nat.{_-_}
 use native.Mathlib.Omega.{arith}
 use borrow.Author.Needs.{needs}
 use Rattle.ratio_format.specs.Open.{openRead}
-use Rattle.ratio_format.proofs.Taken.{open-within}
+use Rattle.ratio_format.proofs.Bodies.Taken.{open-within}
 use Rattle.ratio_bodies.proofs.Taking.{Taking, taking-none, taking-all, taking-stop, taking-within, taking-more}
 use Rattle.ratio_bodies.proofs.get_open.Statement.{statement}
 use Rattle.ratio_bodies.proofs.get_open.Tie as tie

@@ -14,13 +14,13 @@ use Rattle.ratio_format.specs.Windows.{windowSize, windowOf}
 use Rattle.ratio_format.specs.Forms.{coded}
 use Rattle.ratio_format.specs.Open.{openRead, strictRead}
 use Rattle.ratio_format.proofs.Open.{strict-nothing, strict-good, strict-other}
-use Rattle.ratio_format.proofs.Taken.{strict-within}
-use Rattle.ratio_window.proofs.Windows.{window-inside}
-use Rattle.ratio_codec.proofs.References.{named-one}
-use Rattle.ratio_search.specs.Planes.{slots, cells, Kept}
+use Rattle.ratio_format.proofs.Bodies.Taken.{strict-within}
+use Rattle.ratio_format.proofs.Windows.Before.{window-inside}
+use Rattle.ratio_codec.proofs.read.References.{named-one}
+use Rattle.ratio_search.specs.BytePlanes.{slots, cells, Kept}
 use Rattle.ratio_search.proofs.BytePlanes.{kept-none, kept-set, planes-part}
 use Rattle.ratio_bodies.specs.Marks.{slotOf, Marks}
-use Rattle.ratio_bodies.proofs.FirstByte.{rest-first, named-at}
+use Rattle.ratio_bodies.proofs.ahead.FirstByte.{rest-first, named-at}
 use Rattle.ratio_bodies.proofs.Marks.{marks-none, marks-more}
 use Rattle.ratio_bodies.proofs.Taking.{Taking, taking-none, taking-all, taking-stop, taking-within, taking-more}
 use Rattle.ratio_bodies.proofs.get_strict.Statement.{statement}

@@ -7,7 +7,7 @@ use lib.ListN.{getD}
 use Rattle.outputs.specs.Outputs.{Placed}
 use Rattle.ratio_format.specs.declared.RatioForm.{RatioForm}
 use Rattle.ratio_format.specs.Forms.{written, coded}
-use Rattle.ratio_codec.proofs.Chosen.{window-fit}
+use Rattle.ratio_codec.proofs.write.Chosen.{window-fit}
 use borrow.Author.Needs.{needs}
 use Rattle.ratio_bodies.proofs.put_nth.Statement.{statement}
 use Rattle.ratio_bodies.proofs.put_nth.Tie as tie

@@ -1,5 +1,6 @@
 -- `put_ratios` meets its contract. The invariant: the coding of the first i ratios stands at the front, and the rest stays; the planes are
 -- those of the ratios before `done`, and the index that of the ratios before i, but for the last repeats.
+mod Turns
 use mathlib.Core.Path.{_≡_, refl, sym, ap, _∙_}
 use mathlib.Core.List.{List, _++_}
 use Prim.Native.Nat.{ℕ, _+_, _-_, _≤_, _<_}
@@ -9,12 +10,12 @@ use borrow.Author.Tests.{le-ltb}
 use borrow.Rule.Slice.PartMut.{putMid}
 use lib.ListN.{length, drop, replicate, length-replicate}
 use Rattle.ratio_format.specs.Windows.{windowSize}
-use Rattle.ratio_search.specs.Planes.{slots, cells, Kept}
+use Rattle.ratio_search.specs.BytePlanes.{slots, cells, Kept}
 use Rattle.ratio_search.proofs.BytePlanes.{kept-none, planes-part}
 use Rattle.ratio_bodies.specs.Indexes.{Trailing}
 use Rattle.ratio_bodies.proofs.Indexes.{trailing-none}
-use Rattle.ratio_bodies.proofs.Writing.{Writing, part, writing-none, writing-full, writing-on, writing-more, writing-all}
-use Rattle.ratio_bodies.proofs.Repeated.{repeats-coded, repeats-trailing}
+use Rattle.ratio_bodies.proofs.put_ratios.Proof.Turns.{Writing, part, writing-none, writing-full, writing-on, writing-more, writing-all}
+use Rattle.ratio_bodies.proofs.repeats.Repeated.{repeats-coded, repeats-trailing}
 use Rattle.ratio_bodies.proofs.put_ratios.Statement.{statement}
 use Rattle.ratio_bodies.proofs.put_ratios.Tie as tie
 

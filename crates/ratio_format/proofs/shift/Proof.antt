@@ -6,7 +6,7 @@ use native.Mathlib.Omega.{arith}
 use borrow.Author.Needs.{needs}
 use lib.ListN.{length, getD, set, length-set}
 use Rattle.ratio_format.specs.Windows.{windowSize}
-use Rattle.ratio_format.proofs.Shifting.{shiftedBy, shifted-more, shifted-last}
+use Rattle.ratio_format.proofs.Windows.Shifting.{shiftedBy, shifted-more, shifted-last}
 use Rattle.ratio_format.proofs.shift.Statement.{statement}
 use Rattle.ratio_format.proofs.shift.Tie as tie
 

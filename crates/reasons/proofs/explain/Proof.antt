@@ -4,7 +4,7 @@ use native.Mathlib.Omega.{arith}
 use borrow.Author.Needs.{needs}
 use lib.ListN.{getD}
 use Rattle.ratio_format.specs.Windows.{windowSize}
-use Rattle.ratio_window.proofs.Windows.{window-part}
+use Rattle.ratio_format.proofs.Windows.Before.{window-part}
 use Rattle.reasons.specs.Reasons.{reasonOf}
 use Rattle.reasons.proofs.Reasons.{explained-many, explained-past, explained-here}
 use Rattle.reasons.proofs.explain.Statement.{statement}

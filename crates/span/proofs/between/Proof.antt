@@ -7,9 +7,9 @@ use lib.IntN.{ℤ, pos, negsuc, negℤ, _-ℤ_, _*ℤ_}
 use mir.Syntax.{w64}
 use mir.ValLaws.{toZ-pos}
 use Rattle.span.specs.Spans.{roundedDown}
-use Rattle.span.proofs.Parts.{remainder-is, rest-small}
-use Rattle.span.proofs.Rounding.{down-exact, down-inexact}
-use Rattle.span.proofs.Signed.{neg-fits, neg-back, less-fits, less-back}
+use Rattle.span.proofs.Spans.Parts.{remainder-is, rest-small}
+use Rattle.span.proofs.Spans.Rounding.{down-exact, down-inexact}
+use Rattle.integers.proofs.Negation.{neg-fits, neg-back, less-fits, less-back}
 use Rattle.span.proofs.Spans.{forward, backward}
 use Rattle.span.proofs.between.Statement.{statement}
 use Rattle.span.proofs.between.Tie as tie

@@ -1,7 +1,7 @@
 -- `scaled` meets its contract: its two parts fit, and their sum is the whole quotient.
 use native.Mathlib.Omega.{arith}
 use borrow.Author.Needs.{needs}
-use Rattle.span.proofs.Parts.{in-parts, rest-small, whole-le, rest-lt}
+use Rattle.span.proofs.Spans.Parts.{in-parts, rest-small, whole-le, rest-lt}
 use Rattle.span.proofs.scaled.Statement.{statement}
 use Rattle.span.proofs.scaled.Tie as tie
 

@@ -1,6 +1,6 @@
 -- `text::magnitude` meets its contract: of a negative number each step fits, and their sum is the absolute value.
 use borrow.Author.Needs.{needs}
-use Rattle.text.proofs.Absolute.{up-fits, down-fits, cast-fits, sum-fits, sum-is, plain-fits}
+use Rattle.text.proofs.Numbers.Absolute.{up-fits, down-fits, cast-fits, sum-fits, sum-is, plain-fits}
 use Rattle.text.proofs.magnitude.Statement.{statement}
 use Rattle.text.proofs.magnitude.Tie as tie
 

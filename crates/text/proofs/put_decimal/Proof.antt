@@ -3,7 +3,7 @@ use borrow.Author.Needs.{needs}
 use lib.ListN.{length}
 use Rattle.text.specs.Numbers.{decimal}
 use Rattle.text.proofs.Numbers.{decimal-fewest}
-use Rattle.text.proofs.Lengths.{length-decimal}
+use Rattle.text.proofs.Numbers.Lengths.{length-decimal}
 use Rattle.text.proofs.PlacedAt.{digits-room, put-digits}
 use Rattle.text.proofs.put_decimal.Statement.{statement}
 use Rattle.text.proofs.put_decimal.Tie as tie

@@ -4,7 +4,7 @@ use native.Mathlib.Omega.{arith}
 use lib.ListN.{length}
 use Rattle.text.specs.Numbers.{hex16}
 use Rattle.text.proofs.Numbers.{hex-fewest}
-use Rattle.text.proofs.Lengths.{length-hex}
+use Rattle.text.proofs.Numbers.Lengths.{length-hex}
 use Rattle.text.proofs.PlacedAt.{digits-room, put-digits}
 use Rattle.text.proofs.put_hex.Statement.{statement}
 use Rattle.text.proofs.put_hex.Tie as tie

@@ -5,8 +5,8 @@ use Prim.Native.Nat.{ℕ}
 use native.Mathlib.Omega.{arith}
 use borrow.Author.Needs.{needs}
 use Rattle.text.specs.Numbers.{decimal}
-use Rattle.text.proofs.Absolute.{signed-negative, signed-plain}
-use Rattle.text.proofs.Lengths.{length-signed}
+use Rattle.text.proofs.Numbers.Absolute.{signed-negative, signed-plain}
+use Rattle.text.proofs.Numbers.Lengths.{length-signed}
 use Rattle.text.proofs.PlacedAt.{put-as, put-put}
 use Rattle.text.proofs.put_signed.Statement.{statement}
 use Rattle.text.proofs.put_signed.Tie as tie

@@ -6,7 +6,7 @@ use borrow.Author.Needs.{needs}
 use lib.ListN.{length, drop}
 use Rattle.lists.proofs.Below.{below-of}
 use Rattle.bits.specs.Packing.{bits, ahead}
-use Rattle.bits.proofs.Ahead.{moved-front, moved-last}
+use Rattle.bits.proofs.Packing.Ahead.{moved-front, moved-last}
 use Rattle.bits.proofs.fields.get_ahead.Statement.{statement}
 use Rattle.bits.proofs.fields.get_ahead.Tie as tie
 

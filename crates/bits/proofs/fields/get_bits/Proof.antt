@@ -1,6 +1,6 @@
 -- `fields::get_bits` meets its contract: by one field, or by its first 32 bits and the others.
 use borrow.Author.Needs.{needs}
-use Rattle.bits.proofs.Field.{field-fits, field-two}
+use Rattle.bits.proofs.Packing.Field.{field-fits, field-two}
 use Rattle.bits.proofs.fields.get_bits.Statement.{statement}
 use Rattle.bits.proofs.fields.get_bits.Tie as tie
 

@@ -2,8 +2,8 @@
 use native.Mathlib.Omega.{arith}
 use borrow.Author.Needs.{needs}
 use Rattle.lists.proofs.Below.{below-of}
-use Rattle.bits.proofs.Field.{field-one}
-use Rattle.bits.proofs.Word.{mask-pos}
+use Rattle.bits.proofs.Packing.Field.{field-one}
+use Rattle.bits.proofs.Digits.Word.{mask-pos}
 use Rattle.bits.proofs.fields.get_few.Statement.{statement}
 use Rattle.bits.proofs.fields.get_few.Tie as tie
 

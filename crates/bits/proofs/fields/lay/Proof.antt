@@ -3,7 +3,7 @@ use Prim.Native.Nat.{_+_, _-_}
 use native.Mathlib.Omega.{arith}
 use borrow.Author.Needs.{needs}
 use Rattle.bits.proofs.Sinks.{beside-sound, beside-laid, word-fits, past-sound, past-laid}
-use Rattle.bits.proofs.Word.{mask-pos, two-fits}
+use Rattle.bits.proofs.Digits.Word.{mask-pos, two-fits}
 use Rattle.bits.proofs.fields.lay.Statement.{statement}
 use Rattle.bits.proofs.fields.lay.Tie as tie
 

@@ -3,7 +3,7 @@ use native.Mathlib.Omega.{arith}
 use borrow.Author.Needs.{needs}
 use Rattle.bits.specs.Digits.{bitsOf}
 use Rattle.bits.proofs.Sinks.{laid-laid}
-use Rattle.bits.proofs.Word.{two-lt, two-fits, two-bits}
+use Rattle.bits.proofs.Digits.Word.{two-lt, two-fits, two-bits}
 use Rattle.bits.proofs.fields.lay_both.Statement.{statement}
 use Rattle.bits.proofs.fields.lay_both.Tie as tie
 

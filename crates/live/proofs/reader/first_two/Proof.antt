@@ -52,7 +52,7 @@ use Rattle.refusals.proofs.Refusal as TF
 use Rattle.refusals.proofs.Refusal.Laws as TF′
 use Rattle.ratio_format.proofs.StepAnswer as TS
 use Rattle.ratio_format.proofs.StepAnswer.Laws as TS′
-use Rattle.live.proofs.Machine.{machF, machR, sliced}
+use Rattle.live.proofs.reader.Machine.{machF, machR, sliced}
 use Rattle.live.proofs.reader.Reader as T
 use Rattle.live.proofs.reader.Reader.Laws as T′
 use Rattle.live.proofs.reader.Making as TG

@@ -48,7 +48,7 @@ use Rattle.ratio_format.proofs.Window as TW
 use Rattle.ratio_format.proofs.Window.Laws as TW′
 use Rattle.ratio_format.proofs.Cursor as TC
 use Rattle.ratio_format.proofs.Cursor.Laws as TC′
-use Rattle.live.proofs.Machine.{machF, machC, sliced, number-fits, at-fits, place-fits, count-fits, seen-fits, window-is}
+use Rattle.live.proofs.reader.Machine.{machF, machC, sliced, number-fits, at-fits, place-fits, count-fits, seen-fits, window-is}
 use Rattle.live.proofs.reader.Reader as T
 use Rattle.live.proofs.reader.Reader.Laws as T′
 use Rattle.live.proofs.reader.Making as TG

@@ -51,7 +51,7 @@ use Rattle.ratio_format.proofs.Cursor as TC
 use Rattle.ratio_format.proofs.Cursor.Laws as TC′
 use Rattle.ratio_format.proofs.StepAnswer as TR
 use Rattle.ratio_format.proofs.StepAnswer.Laws as TR′
-use Rattle.live.proofs.Machine.{machC, machR, sliced, place-fits, seen-fits, window-is}
+use Rattle.live.proofs.reader.Machine.{machC, machR, sliced, place-fits, seen-fits, window-is}
 use Rattle.live.proofs.reader.Reader as T
 use Rattle.live.proofs.reader.Reader.Laws as T′
 use Rattle.live.proofs.stepping.Step as TX

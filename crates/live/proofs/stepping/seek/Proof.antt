@@ -7,7 +7,7 @@ use native.Mathlib.Omega.{arith}
 use borrow.Author.Needs.{needs}
 use lib.ListN.{length, take}
 use lib.Seq.{length-take-le}
-use Rattle.outputs.proofs.Parts.{rest-is}
+use Rattle.outputs.proofs.Outputs.Parts.{rest-is}
 use Rattle.ratio_format.specs.declared.Cursor.{Cursor}
 use Rattle.ratio_format.specs.Windows.{windowSize, held}
 use Rattle.ratio_format.specs.Open.{strictRead}

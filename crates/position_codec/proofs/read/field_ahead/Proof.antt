@@ -3,7 +3,7 @@ use mathlib.Core.Path.{ap}
 use Prim.Native.Nat.{ℕ, _-_, _/_, _%_, _^_}
 use native.Mathlib.Omega.{arith}
 use borrow.Author.Needs.{needs}
-use Rattle.bits.proofs.Word.{mask, mask-pos}
+use Rattle.bits.proofs.Digits.Word.{mask, mask-pos}
 use Rattle.position_codec.proofs.read.field_ahead.Statement.{statement}
 use Rattle.position_codec.proofs.read.field_ahead.Tie as tie
 

@@ -17,7 +17,7 @@ use Rattle.position_format.specs.Rows.{Row, inTable, code}
 use Rattle.position_format.specs.Steps.{stepOf}
 use Rattle.position_format.specs.Tables.{tableOf}
 use Rattle.position_format.proofs.Tables.{table-good}
-use Rattle.position_format.proofs.Stands.{step-none, step-high, step-stands}
+use Rattle.position_format.proofs.Points.Stands.{step-none, step-high, step-stands}
 use Rattle.position_codec.specs.declared.table.GotStep.{GotStep}
 use Rattle.position_codec.specs.declared.read.GotPosition.{GotPosition}
 use Rattle.position_codec.specs.Found.{StepFound, PositionFound, PointFound}

@@ -16,11 +16,11 @@ use Rattle.position_format.specs.Tables.{tableOf}
 use Rattle.position_format.specs.Positions.{readPositions}
 use Rattle.position_format.specs.Points.{nextBits, Stands}
 use Rattle.position_format.proofs.Tables.{table-good}
-use Rattle.position_format.proofs.Sizes.{length-coded, bits-few}
-use Rattle.position_format.proofs.Reading.{read-long, read-inside}
+use Rattle.position_format.proofs.Positions.Sizes.{length-coded, bits-few}
+use Rattle.position_format.proofs.Points.Reading.{read-long, read-inside}
 use Rattle.position_codec.specs.declared.read.GotPoint.{GotPoint}
 use Rattle.position_codec.specs.Found.{InBody, PointFound}
-use Rattle.position_codec.proofs.State.{State, state-start, state-raw, state-far, state-none, state-more, state-end}
+use Rattle.position_codec.proofs.read.State.{State, state-start, state-raw, state-far, state-none, state-more, state-end}
 use Rattle.position_codec.proofs.read.get_positions.Statement.{statement}
 use Rattle.position_codec.proofs.read.get_positions.Tie as tie
 

@@ -1,7 +1,7 @@
 -- `get_raw` meets its contract: eight bytes are 64 bits.
 use borrow.Author.Needs.{needs}
 use Rattle.lists.proofs.Below.{below-of}
-use Rattle.position_format.proofs.Stands.{raw-short, raw-high, raw-stands}
+use Rattle.position_format.proofs.Points.Stands.{raw-short, raw-high, raw-stands}
 use Rattle.position_codec.proofs.read.get_raw.Statement.{statement}
 use Rattle.position_codec.proofs.read.get_raw.Tie as tie
 

@@ -6,7 +6,7 @@ use Rattle.bits.specs.Packing.{bits}
 use Rattle.bits.proofs.Packing.{length-left}
 use Rattle.position_format.specs.Tables.{tableOf}
 use Rattle.position_format.proofs.Tables.{mostBits, form-sound}
-use Rattle.position_codec.proofs.StepFound.{found-none}
+use Rattle.position_codec.proofs.Found.StepFound.{found-none}
 use Rattle.position_codec.proofs.read.get_step.Statement.{statement}
 use Rattle.position_codec.proofs.read.get_step.Tie as tie
 

@@ -2,7 +2,7 @@
 use mathlib.Core.Path.{sym}
 use native.Mathlib.Omega.{arith}
 use borrow.Author.Needs.{needs}
-use Rattle.position_format.proofs.Fill.{fill-long, fill-by}
+use Rattle.bits.proofs.Packing.Fill.{fill-long, fill-by}
 use Rattle.position_codec.proofs.read.is_fill.Statement.{statement}
 use Rattle.position_codec.proofs.read.is_fill.Tie as tie
 

@@ -15,13 +15,13 @@ use Rattle.bits.proofs.Packing.{length-left, below-left}
 use Rattle.position_format.specs.declared.Form.{Form}
 use Rattle.position_format.specs.Rows.{Row, wideRows, noRow}
 use Rattle.position_format.specs.Tables.{tableOf}
-use Rattle.position_format.proofs.Codes.{row-within}
+use Rattle.position_format.proofs.Rows.Codes.{row-within}
 use Rattle.position_format.proofs.Tables.{mostBits, form-sound, zero-row}
-use Rattle.position_format.proofs.Wide.{same-range, form-count}
+use Rattle.position_format.proofs.Tables.WideRows.{same-range, form-count}
 use Rattle.position_codec.specs.declared.table.GotStep.{GotStep}
 use Rattle.position_codec.specs.Found.{Leads, ReadBy, StepFound}
-use Rattle.position_codec.proofs.Rows.{row-narrow, lead-zero}
-use Rattle.position_codec.proofs.StepFound.{field-word, field-body, lead-ahead, read-form, found-few, found-by, found-zero}
+use Rattle.position_codec.proofs.table.Numbers.{row-narrow, lead-zero}
+use Rattle.position_codec.proofs.Found.StepFound.{field-word, field-body, lead-ahead, read-form, found-few, found-by, found-zero}
 use Rattle.position_codec.proofs.read.step_ahead.Statement.{statement}
 use Rattle.position_codec.proofs.read.step_ahead.Tie as tie
 

@@ -8,10 +8,10 @@ use mir.Syntax.{w64}
 use mir.ValLaws.{toZ-ofZ}
 use Rattle.position_format.specs.Rows.{Row, residue}
 use Rattle.position_format.specs.Tables.{tableOf}
-use Rattle.position_format.proofs.Codes.{inTable-row}
-use Rattle.position_format.proofs.Wide.{same-range, form-count}
+use Rattle.position_format.proofs.Rows.Codes.{inTable-row}
+use Rattle.position_format.proofs.Tables.WideRows.{same-range, form-count}
 use Rattle.position_codec.proofs.Codes.{coded-by}
-use Rattle.position_codec.proofs.Rows.{row-narrow}
+use Rattle.position_codec.proofs.table.Numbers.{row-narrow}
 use Rattle.position_codec.proofs.table.code_in.Statement.{statement}
 use Rattle.position_codec.proofs.table.code_in.Tie as tie
 

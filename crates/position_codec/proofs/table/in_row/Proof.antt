@@ -6,7 +6,7 @@ use mir.Val.{toZ, ofZ}
 use mir.ValLaws.{toZ-ofZ}
 use Rattle.position_format.specs.Rows.{Row, wideRows, holds, noRow}
 use lib.ListN.{getD}
-use Rattle.position_codec.proofs.Rows.{row-at}
+use Rattle.position_codec.proofs.table.Numbers.{row-at}
 use Rattle.position_codec.proofs.table.in_row.Statement.{statement}
 use Rattle.position_codec.proofs.table.in_row.Tie as tie
 

@@ -1,6 +1,6 @@
 -- `lead_of` meets its contract, by the form.
 use borrow.Author.Needs.{needs}
-use Rattle.position_codec.proofs.Rows.{old-leads}
+use Rattle.position_codec.proofs.table.Numbers.{old-leads}
 use Rattle.position_codec.proofs.table.lead_of.Statement.{statement}
 use Rattle.position_codec.proofs.table.lead_of.Tie as tie
 

@@ -4,9 +4,9 @@ use Prim.Native.Nat.{ℕ, _%_, _^_}
 use native.Mathlib.Omega.{arith}
 use mir.Syntax.{w64}
 use mir.ValLaws.{toZ-ofZ}
-use Rattle.bits.proofs.Word.{mask, mask-pos}
+use Rattle.bits.proofs.Digits.Word.{mask, mask-pos}
 use Rattle.position_format.specs.Rows.{residue}
-use Rattle.position_codec.proofs.Residues.{residue-down}
+use Rattle.position_codec.proofs.table.Residues.{residue-down}
 use borrow.Author.Needs.{needs}
 use Rattle.position_codec.proofs.table.modulo.Statement.{statement}
 use Rattle.position_codec.proofs.table.modulo.Tie as tie

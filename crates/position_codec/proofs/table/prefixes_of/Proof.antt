@@ -1,6 +1,6 @@
 -- `prefixes_of` meets its contract: each table's prefixes stand in its words.
 use borrow.Author.Needs.{needs}
-use Rattle.position_codec.proofs.Rows.{old-prefix, wide-prefix}
+use Rattle.position_codec.proofs.table.Numbers.{old-prefix, wide-prefix}
 use Rattle.position_codec.proofs.table.prefixes_of.Statement.{statement}
 use Rattle.position_codec.proofs.table.prefixes_of.Tie as tie
 

@@ -11,9 +11,9 @@ use Rattle.position_format.specs.declared.Form.the-variants.{Wide}
 use Rattle.position_format.specs.Rows.{Row, wideRows, noRow}
 use Rattle.position_format.proofs.Rows.{good-full}
 use Rattle.position_format.proofs.Tables.{form-sound}
-use Rattle.position_format.proofs.Wide.{wide-count}
-use Rattle.position_codec.proofs.Rows.{highOf, Ends, row-at, row-narrow, row-ends}
-use Rattle.position_codec.proofs.Residues.{Fitted, reading-low, some-bits, lacks-from, lacks-small, below-fits, reading-high}
+use Rattle.position_format.proofs.Tables.WideRows.{wide-count}
+use Rattle.position_codec.proofs.table.Numbers.{highOf, Ends, row-at, row-narrow, row-ends}
+use Rattle.position_codec.proofs.table.Residues.{Fitted, reading-low, some-bits, lacks-from, lacks-small, below-fits, reading-high}
 use Rattle.position_codec.proofs.table.reading_in.Statement.{statement}
 use Rattle.position_codec.proofs.table.reading_in.Tie as tie
 

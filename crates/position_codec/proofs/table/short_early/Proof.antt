@@ -6,8 +6,8 @@ use native.Mathlib.Omega.{arith}
 use Rattle.position_format.specs.declared.Form.the-variants.{Wide}
 use Rattle.position_format.specs.Rows.{wideRows}
 use Rattle.position_format.proofs.Tables.{form-sound}
-use Rattle.position_format.proofs.Ranges.{before-counted, width-before}
-use Rattle.position_format.proofs.Wide.{wide-count}
+use Rattle.position_format.proofs.Rows.Ranges.{before-counted, width-before}
+use Rattle.position_format.proofs.Tables.WideRows.{wide-count}
 use borrow.Author.Needs.{needs}
 use Rattle.position_codec.proofs.table.short_early.Statement.{statement}
 use Rattle.position_codec.proofs.table.short_early.Tie as tie

@@ -4,12 +4,12 @@ use Prim.Native.Nat.{ℕ, _+_, _-_, _/_, _%_, _^_, _≤_, _<_}
 use native.Mathlib.Nat.{mod-lt, le-trans, lt-of-lt-of-le, sub-le}
 use native.Mathlib.Omega.{arith}
 use lib.IntN.{pos, _-ℤ_}
-use Rattle.position_codec.proofs.Differences.{diff-fits, diff-back}
+use Rattle.integers.proofs.Machine.{diff-fits, diff-back}
 use Rattle.position_format.specs.declared.Form.the-variants.{Wide}
 use Rattle.position_format.specs.Rows.{wideRows}
 use Rattle.position_format.proofs.Tables.{form-sound}
-use Rattle.position_format.proofs.Ranges.{reading-counted}
-use Rattle.position_format.proofs.Wide.{wide-count}
+use Rattle.position_format.proofs.Rows.Ranges.{reading-counted}
+use Rattle.position_format.proofs.Tables.WideRows.{wide-count}
 use borrow.Author.Needs.{needs}
 use Rattle.position_codec.proofs.table.short_reading.Statement.{statement}
 use Rattle.position_codec.proofs.table.short_reading.Tie as tie

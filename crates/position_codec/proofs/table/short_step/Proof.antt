@@ -9,8 +9,8 @@ use Prim.Native.Nat.{_<_}
 use Rattle.position_format.specs.declared.Form.the-variants.{Wide}
 use Rattle.position_format.specs.Rows.{wideRows}
 use Rattle.position_format.proofs.Tables.{form-sound}
-use Rattle.position_format.proofs.Wide.{wide-count}
-use Rattle.position_codec.proofs.StepFound.{read-early, read-first}
+use Rattle.position_format.proofs.Tables.WideRows.{wide-count}
+use Rattle.position_codec.proofs.Found.StepFound.{read-early, read-first}
 use Rattle.position_codec.proofs.table.short_step.Statement.{statement}
 use Rattle.position_codec.proofs.table.short_step.Tie as tie
 

@@ -4,7 +4,7 @@ use Prim.Native.Nat.{ℕ, _*_, _%_, _^_, _≤_}
 use native.Mathlib.Omega.{arith}
 use lib.ListN.{getD}
 use lib.Pow.{pow-pos, pow-mono}
-use Rattle.bits.proofs.Word.{mask}
+use Rattle.bits.proofs.Digits.Word.{mask}
 use Rattle.position_format.specs.Rows.{wideRows, noRow}
 use Rattle.position_codec.proofs.table.size_of.Statement.{statement}
 use Rattle.position_codec.proofs.table.size_of.Tie as tie

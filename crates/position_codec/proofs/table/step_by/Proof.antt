@@ -10,8 +10,8 @@ use Prim.Native.Nat.{_-_, _<_}
 use Rattle.position_format.specs.declared.Form.the-variants.{Wide}
 use Rattle.position_format.specs.Rows.{wideRows, holds, reading, noRow}
 use Rattle.position_format.proofs.Tables.{form-sound}
-use Rattle.position_format.proofs.Wide.{wide-count}
-use Rattle.position_codec.proofs.StepFound.{read-early, read-first}
+use Rattle.position_format.proofs.Tables.WideRows.{wide-count}
+use Rattle.position_codec.proofs.Found.StepFound.{read-early, read-first}
 use Rattle.position_codec.proofs.table.step_by.Statement.{statement}
 use Rattle.position_codec.proofs.table.step_by.Tie as tie
 

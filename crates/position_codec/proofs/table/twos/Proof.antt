@@ -1,6 +1,6 @@
 -- `twos` meets its contract: -1 less a number below zero is not below zero.
 use native.Mathlib.Omega.{arith}
-use Rattle.position_codec.proofs.Residues.{turned-fits, turned-back, twos-neg, not-neg, twos-pos}
+use Rattle.position_codec.proofs.table.Residues.{turned-fits, turned-back, twos-neg, not-neg, twos-pos}
 use Rattle.position_codec.proofs.table.twos.Statement.{statement}
 use Rattle.position_codec.proofs.table.twos.Tie as tie
 

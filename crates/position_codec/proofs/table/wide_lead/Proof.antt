@@ -1,7 +1,7 @@
 -- `wide_lead` meets its contract: five bits 1 are the last row's, and else the rows by four bits stand in one word, and the lengths of their
 -- codes in another.
 use borrow.Author.Needs.{needs}
-use Rattle.position_codec.proofs.Rows.{last-leads, wide-leads}
+use Rattle.position_codec.proofs.table.Numbers.{last-leads, wide-leads}
 use Rattle.position_codec.proofs.table.wide_lead.Statement.{statement}
 use Rattle.position_codec.proofs.table.wide_lead.Tie as tie
 

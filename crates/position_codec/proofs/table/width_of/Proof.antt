@@ -2,7 +2,7 @@
 use mathlib.Core.Path.{sym, ap, _∙_}
 use native.Mathlib.Omega.{arith}
 use Rattle.position_format.specs.Rows.{Row}
-use Rattle.position_codec.proofs.Rows.{row-at}
+use Rattle.position_codec.proofs.table.Numbers.{row-at}
 use Rattle.position_codec.proofs.table.width_of.Statement.{statement}
 use Rattle.position_codec.proofs.table.width_of.Tie as tie
 

@@ -15,8 +15,8 @@ use Rattle.position_format.specs.Steps.{stepHere}
 use Rattle.position_format.specs.Positions.{positionBits}
 use Rattle.position_format.specs.Tables.{tableOf}
 use Rattle.position_format.proofs.Tables.{mostBits, form-sound, zero-row}
-use Rattle.position_format.proofs.Valid.{valid-parts}
-use Rattle.position_format.proofs.Sizes.{bits-few}
+use Rattle.position_format.proofs.Positions.Valid.{valid-parts}
+use Rattle.position_format.proofs.Positions.Sizes.{bits-few}
 use Rattle.position_format.proofs.Points.{valid-here, point-step, point-place}
 use Rattle.position_codec.proofs.write.put_point.Statement.{statement}
 use Rattle.position_codec.proofs.write.put_point.Tie as tie

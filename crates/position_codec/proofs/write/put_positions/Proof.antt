@@ -13,7 +13,7 @@ use Rattle.position_format.specs.Tables.{tableOf}
 use Rattle.position_format.specs.Positions.{positionBits, codedPositions}
 use Rattle.position_format.proofs.Tables.{table-good}
 use Rattle.position_format.proofs.Positions.{positions-below}
-use Rattle.position_format.proofs.Sizes.{bits-few}
+use Rattle.position_format.proofs.Positions.Sizes.{bits-few}
 use Rattle.position_codec.proofs.write.put_positions.Statement.{statement}
 use Rattle.position_codec.proofs.write.put_positions.Tie as tie
 

@@ -4,7 +4,7 @@ use lib.IntN.{ℤ, pos, _-ℤ_}
 use mir.Syntax.{w64}
 use mir.ValLaws.{toZ-ofZ}
 use borrow.Author.Needs.{needs}
-use Rattle.position_codec.proofs.Differences.{diff-fits, diff-back, diff-abs, both-fit}
+use Rattle.integers.proofs.Machine.{diff-fits, diff-back, diff-abs, both-fit}
 use Rattle.position_codec.proofs.write.step.Statement.{statement}
 use Rattle.position_codec.proofs.write.step.Tie as tie
 

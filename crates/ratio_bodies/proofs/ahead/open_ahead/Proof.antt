@@ -8,7 +8,7 @@ use lib.ListN.{length, getD, take, drop}
 use lib.Seq.{drop-drop}
 use Rattle.ratio_format.specs.Open.{openXor}
 use Rattle.ratio_format.specs.Windows.{windowSize, windowOf}
-use Rattle.ratio_bodies.proofs.FirstByte.{rest-first, ahead-some, ahead-exception, place-far, place-past, place-reference, place-xor}
+use Rattle.ratio_bodies.proofs.ahead.FirstByte.{rest-first, ahead-some, ahead-exception, place-far, place-past, place-reference, place-xor}
 use Rattle.ratio_bodies.proofs.ahead.open_ahead.Statement.{statement}
 use Rattle.ratio_bodies.proofs.ahead.open_ahead.Tie as tie
 

@@ -4,7 +4,7 @@ use Prim.Native.Nat.{ℕ, _-_, _%_}
 use native.Mathlib.Omega.{arith}
 use borrow.Author.Needs.{needs}
 use lib.ListN.{getD, drop, length-drop}
-use Rattle.ratio_bodies.proofs.FirstByte.{rest-first, place-reference}
+use Rattle.ratio_bodies.proofs.ahead.FirstByte.{rest-first, place-reference}
 use Rattle.ratio_bodies.proofs.ahead.open_near.Statement.{statement}
 use Rattle.ratio_bodies.proofs.ahead.open_near.Tie as tie
 

@@ -1,10 +1,10 @@
 -- `open_nth` meets its contract: the part before the ratio is its window, and the part from the offset on is what is left of the body.
 use mathlib.Core.Path.{ap₂, _∙_}
 use borrow.Author.Needs.{needs}
-use Rattle.outputs.proofs.Parts.{rest-is}
+use Rattle.outputs.proofs.Outputs.Parts.{rest-is}
 use Rattle.ratio_format.specs.Open.{openRead}
 use Rattle.ratio_format.specs.Windows.{windowSize}
-use Rattle.ratio_window.proofs.Windows.{window-part}
+use Rattle.ratio_format.proofs.Windows.Before.{window-part}
 use Rattle.ratio_bodies.proofs.ahead.open_nth.Statement.{statement}
 use Rattle.ratio_bodies.proofs.ahead.open_nth.Tie as tie
 

@@ -4,7 +4,7 @@ use native.Mathlib.Omega.{arith}
 use borrow.Author.Needs.{needs}
 use lib.ListN.{getD}
 use Rattle.ratio_format.proofs.Zeros.{raised-fits}
-use Rattle.ratio_bodies.proofs.FirstByte.{xor-ahead-high, xor-ahead-good}
+use Rattle.ratio_bodies.proofs.ahead.FirstByte.{xor-ahead-high, xor-ahead-good}
 use Rattle.ratio_bodies.proofs.ahead.xor_ahead.Statement.{statement}
 use Rattle.ratio_bodies.proofs.ahead.xor_ahead.Tie as tie
 

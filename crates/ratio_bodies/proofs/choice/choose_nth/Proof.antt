@@ -7,7 +7,7 @@ use lib.ListN.{take, drop}
 use Rattle.ratio_format.specs.Windows.{windowSize, windowOf}
 use Rattle.ratio_format.specs.Choice.{ratioForm}
 use Rattle.ratio_window.specs.Searched.{Searched}
-use Rattle.ratio_window.proofs.Windows.{window-part}
+use Rattle.ratio_format.proofs.Windows.Before.{window-part}
 use borrow.Author.Needs.{needs}
 use Rattle.ratio_bodies.proofs.choice.choose_nth.Statement.{statement}
 use Rattle.ratio_bodies.proofs.choice.choose_nth.Tie as tie

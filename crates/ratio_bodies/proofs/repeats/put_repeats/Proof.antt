@@ -3,8 +3,8 @@ use Prim.Native.Nat.{_+_, _-_, _≤_}
 use native.Mathlib.Omega.{arith}
 use borrow.Author.Needs.{needs}
 use lib.ListN.{length}
-use Rattle.outputs.proofs.Clear.{Cleared, clear-none, clear-more}
-use Rattle.ratio_bodies.proofs.Repeated.{Repeats, repeats-none, repeats-more}
+use Rattle.outputs.proofs.Outputs.Clear.{Cleared, clear-none, clear-more}
+use Rattle.ratio_bodies.proofs.repeats.Repeated.{Repeats, repeats-none, repeats-more}
 use Rattle.ratio_bodies.proofs.repeats.put_repeats.Statement.{statement}
 use Rattle.ratio_bodies.proofs.repeats.put_repeats.Tie as tie
 

@@ -7,18 +7,18 @@ use lib.ListN.{getD, take, drop}
 use borrow.Author.Needs.{needs}
 use Rattle.lists.specs.Compare.{begins}
 use Rattle.lists.proofs.Below.{below-of, below-drop}
-use Rattle.outputs.proofs.Parts.{rest-is}
+use Rattle.outputs.proofs.Outputs.Parts.{rest-is}
 use Rattle.ratio_format.specs.declared.RatioForm.{RatioForm}
 use Rattle.ratio_format.specs.declared.Read.the-variants.{Ratio}
 use Rattle.ratio_format.specs.Windows.{windowSize, windowOf}
 use Rattle.ratio_format.specs.Choice.{find}
 use Rattle.ratio_format.proofs.Windows.{window-few}
-use Rattle.ratio_window.proofs.Windows.{window-inside}
+use Rattle.ratio_format.proofs.Windows.Before.{window-inside}
 use Rattle.ratio_codec.specs.Heads.{formHead}
-use Rattle.ratio_codec.proofs.Chosen.{window-fit}
+use Rattle.ratio_codec.proofs.write.Chosen.{window-fit}
 use Rattle.ratio_codec.proofs.Heads.{head-decides}
-use Rattle.ratio_codec.proofs.References.{Named, named-one, named-begins}
-use Rattle.ratio_bodies.proofs.FirstByte.{rest-first, named-at}
+use Rattle.ratio_codec.proofs.read.References.{Named, named-one, named-begins}
+use Rattle.ratio_bodies.proofs.ahead.FirstByte.{rest-first, named-at}
 use Rattle.ratio_bodies.proofs.Marks.{mark-decides}
 use Rattle.ratio_bodies.proofs.strict.accepts.Statement.{statement}
 use Rattle.ratio_bodies.proofs.strict.accepts.Tie as tie

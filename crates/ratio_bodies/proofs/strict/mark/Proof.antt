@@ -2,7 +2,7 @@
 use mathlib.Core.Path.{refl, ap}
 use Prim.Native.Nat.{ℕ, _%_}
 use lib.ListN.{set}
-use Rattle.ratio_search.specs.Planes.{slots}
+use Rattle.ratio_search.specs.BytePlanes.{slots}
 use borrow.Author.Needs.{needs}
 use Rattle.ratio_bodies.proofs.strict.mark.Statement.{statement}
 use Rattle.ratio_bodies.proofs.strict.mark.Tie as tie

@@ -11,7 +11,7 @@ use Rattle.ratio_format.specs.Windows.{windowSize}
 use Rattle.ratio_format.specs.Forms.{coded}
 use Rattle.ratio_format.proofs.Open.{strict-nothing, strict-good, strict-other}
 use Rattle.ratio_codec.specs.Heads.{formHead}
-use Rattle.ratio_codec.proofs.Chosen.{chosen-fit}
+use Rattle.ratio_codec.proofs.write.Chosen.{chosen-fit}
 use Rattle.ratio_codec.proofs.Heads.{head-decides}
 use borrow.Author.Needs.{needs}
 use Rattle.ratio_codec.proofs.read.read_by_head.Statement.{statement}

@@ -7,7 +7,7 @@ use lib.ListN.{length, getD, length-reverse}
 use Rattle.ratio_format.specs.Open.{openXor}
 use Rattle.ratio_format.proofs.Open.{open-empty, open-reference, open-far, open-xor, open-away, open-exception, open-cut}
 use Rattle.ratio_format.proofs.Windows.{reverse-back}
-use Rattle.outputs.proofs.Parts.{rest-is}
+use Rattle.outputs.proofs.Outputs.Parts.{rest-is}
 use borrow.Author.Needs.{needs}
 use Rattle.ratio_codec.proofs.read.read_open.Statement.{statement}
 use Rattle.ratio_codec.proofs.read.read_open.Tie as tie

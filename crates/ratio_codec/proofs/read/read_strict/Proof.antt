@@ -9,7 +9,7 @@ use Rattle.ratio_format.specs.Windows.{windowSize}
 use Rattle.ratio_format.specs.Choice.{find}
 use Rattle.ratio_format.proofs.Windows.{reverse-back}
 use Rattle.ratio_format.proofs.Open.{open-empty, strict-nothing}
-use Rattle.ratio_codec.proofs.References.{Named, named-good, named-other}
+use Rattle.ratio_codec.proofs.read.References.{Named, named-good, named-other}
 use borrow.Author.Needs.{needs}
 use Rattle.ratio_codec.proofs.read.read_strict.Statement.{statement}
 use Rattle.ratio_codec.proofs.read.read_strict.Tie as tie

@@ -10,7 +10,7 @@ use Rattle.lists.proofs.Below.{below-of}
 use Rattle.bits.proofs.Digits.{pow-bytes}
 use Rattle.ratio_format.proofs.Zeros.{raised-fits}
 use Rattle.ratio_format.proofs.Windows.{reverse-below}
-use Rattle.ratio_codec.proofs.Find.{findFrom-le, findFrom-passed}
+use Rattle.ratio_codec.proofs.search.Find.{findFrom-le, findFrom-passed}
 use Rattle.ratio_codec.proofs.search.pass.Statement.{statement}
 use Rattle.ratio_codec.proofs.search.pass.Tie as tie
 

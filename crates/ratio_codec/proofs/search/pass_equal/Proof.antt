@@ -5,7 +5,7 @@ use Prim.Native.Nat.{_-_, _≤_}
 use native.Mathlib.Omega.{arith}
 use lib.ListN.{length, length-reverse}
 use Rattle.ratio_format.proofs.Windows.{reverse-back}
-use Rattle.ratio_codec.proofs.Find.{findFrom, findFrom-here, findFrom-next, findFrom-end}
+use Rattle.ratio_codec.proofs.search.Find.{findFrom, findFrom-here, findFrom-next, findFrom-end}
 use Rattle.ratio_codec.proofs.search.pass_equal.Statement.{statement}
 use Rattle.ratio_codec.proofs.search.pass_equal.Tie as tie
 

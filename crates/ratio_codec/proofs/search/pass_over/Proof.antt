@@ -6,7 +6,7 @@ use lib.ListN.{length, getD}
 use Rattle.ratio_format.proofs.Windows.{reverse-back}
 use Rattle.ratio_window.specs.Passed.{Passed}
 use Rattle.ratio_window.proofs.Passed.{passed-none, passed-next}
-use Rattle.ratio_window.proofs.Sums.{sum-under}
+use Rattle.ratio_format.proofs.Zeros.Bounds.{sum-under}
 use Rattle.ratio_codec.proofs.search.pass_over.Statement.{statement}
 use Rattle.ratio_codec.proofs.search.pass_over.Tie as tie
 

@@ -6,8 +6,8 @@ use native.Mathlib.Omega.{arith}
 use borrow.Author.Needs.{needs}
 use lib.ListN.{length, getD}
 use Rattle.ratio_format.specs.Choice.{Best}
-use Rattle.ratio_format.proofs.Sums.{sum-other}
-use Rattle.ratio_codec.proofs.Scanned.{Scanned, scanned-none, scanned-wins, scanned-loses, scanned-pass, scanned-equal, scanned-all}
+use Rattle.ratio_format.proofs.Zeros.Sums.{sum-other}
+use Rattle.ratio_codec.proofs.search.Scanned.{Scanned, scanned-none, scanned-wins, scanned-loses, scanned-pass, scanned-equal, scanned-all}
 use Rattle.ratio_codec.proofs.search.search.Statement.{statement}
 use Rattle.ratio_codec.proofs.search.search.Tie as tie
 

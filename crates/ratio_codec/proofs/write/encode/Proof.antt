@@ -4,7 +4,7 @@ use borrow.Author.Needs.{needs}
 use Rattle.outputs.specs.Outputs.{Placed}
 use Rattle.ratio_format.specs.declared.RatioForm.{RatioForm}
 use Rattle.ratio_format.specs.Forms.{written, coded}
-use Rattle.ratio_codec.proofs.Chosen.{chosen-fit}
+use Rattle.ratio_codec.proofs.write.Chosen.{chosen-fit}
 use Rattle.ratio_codec.proofs.write.encode.Statement.{statement}
 use Rattle.ratio_codec.proofs.write.encode.Tie as tie
 

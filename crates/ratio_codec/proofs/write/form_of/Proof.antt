@@ -5,7 +5,7 @@ use native.Mathlib.Omega.{arith}
 use borrow.Author.Needs.{needs}
 use lib.ListN.{length, getD}
 use Rattle.ratio_window.specs.Searched.{Searched}
-use Rattle.ratio_codec.proofs.Chosen.{chosen-reference, chosen-exception, chosen-in, chosen-small, chosen-short, chosen-xor}
+use Rattle.ratio_codec.proofs.write.Chosen.{chosen-reference, chosen-exception, chosen-in, chosen-small, chosen-short, chosen-xor}
 use Rattle.ratio_codec.proofs.write.form_of.Statement.{statement}
 use Rattle.ratio_codec.proofs.write.form_of.Tie as tie
 

@@ -5,7 +5,7 @@ use borrow.Author.Needs.{needs}
 use lib.ListN.{length-set}
 use Rattle.bits.specs.Digits.{bytesOf}
 use Rattle.bits.proofs.Digits.{length-digits}
-use Rattle.ratio_codec.proofs.Over.{over-one-more}
+use Rattle.outputs.proofs.Outputs.Over.{over-one-more}
 use Rattle.ratio_codec.proofs.write.put_exception.Statement.{statement}
 use Rattle.ratio_codec.proofs.write.put_exception.Tie as tie
 

@@ -2,7 +2,7 @@
 use mathlib.Core.Path.{refl}
 use native.Mathlib.Omega.{arith}
 use borrow.Author.Needs.{needs}
-use Rattle.ratio_codec.proofs.Over.{over-one}
+use Rattle.outputs.proofs.Outputs.Over.{over-one}
 use Rattle.ratio_codec.proofs.write.put_reference.Statement.{statement}
 use Rattle.ratio_codec.proofs.write.put_reference.Tie as tie
 

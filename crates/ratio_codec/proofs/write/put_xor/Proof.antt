@@ -6,7 +6,7 @@ use borrow.Author.Needs.{needs}
 use lib.ListN.{length-set}
 use Rattle.bits.specs.Digits.{bytesOf}
 use Rattle.bits.proofs.Digits.{length-digits}
-use Rattle.ratio_codec.proofs.Over.{over-two-more}
+use Rattle.outputs.proofs.Outputs.Over.{over-two-more}
 use Rattle.ratio_codec.proofs.write.put_xor.Statement.{statement}
 use Rattle.ratio_codec.proofs.write.put_xor.Tie as tie
 

@@ -4,8 +4,8 @@ use mathlib.Core.Bool.{false}
 use mathlib.Core.Logic.{⊎-map}
 use Prim.Native.Nat.{_+_, _-_, _*_, _≤_}
 use native.Mathlib.Omega.{arith}
-use Rattle.ratio_search.specs.Planes.{slots}
-use Rattle.ratio_search.proofs.Blocks.{Quiet, quiet-more, slot-differs}
+use Rattle.ratio_search.specs.BytePlanes.{slots}
+use Rattle.ratio_search.proofs.pairs.Blocks.{Quiet, quiet-more, slot-differs}
 use Rattle.ratio_search.proofs.pairs.suspect.Statement.{statement}
 use Rattle.ratio_search.proofs.pairs.suspect.Tie as tie
 

@@ -1,6 +1,6 @@
 -- `zero_at` meets its contract.
 use borrow.Author.Tests.{eqb-false}
-use Rattle.ratio_search.specs.Planes.{byteAt}
+use Rattle.ratio_search.specs.BytePlanes.{byteAt}
 use borrow.Author.Needs.{needs}
 use Rattle.ratio_search.proofs.pairs.zero_at.Statement.{statement}
 use Rattle.ratio_search.proofs.pairs.zero_at.Tie as tie

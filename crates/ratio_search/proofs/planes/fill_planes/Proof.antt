@@ -3,7 +3,7 @@ use mathlib.Core.Path.{_≡_}
 use Prim.Native.Nat.{_-_, _≤_}
 use native.Mathlib.Omega.{arith}
 use lib.ListN.{length}
-use Rattle.ratio_search.specs.Planes.{slots, cells, Planes}
+use Rattle.ratio_search.specs.BytePlanes.{slots, cells, Planes}
 use Rattle.ratio_search.proofs.BytePlanes.{planes-start, planes-more}
 use Rattle.ratio_search.proofs.planes.fill_planes.Statement.{statement}
 use Rattle.ratio_search.proofs.planes.fill_planes.Tie as tie

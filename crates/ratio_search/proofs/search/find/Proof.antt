@@ -7,8 +7,8 @@ use lib.Bits.{bitXor, xor-self}
 use lib.ListN.{getD}
 use Rattle.ratio_format.specs.Windows.{windowSize}
 use Rattle.ratio_format.specs.Zeros.{sumOf}
-use Rattle.ratio_format.proofs.Sums.{xor-zero, sum-other}
-use Rattle.ratio_search.proofs.Searching.{Searching, searching-none, searching-as, searching-pass, searching-all, searching-wins, searching-loses, searching-equal}
+use Rattle.ratio_format.proofs.Zeros.Sums.{xor-zero, sum-other}
+use Rattle.ratio_search.proofs.search.Searching.{Searching, searching-none, searching-as, searching-pass, searching-all, searching-wins, searching-loses, searching-equal}
 use Rattle.ratio_search.proofs.search.find.Statement.{statement}
 use Rattle.ratio_search.proofs.search.find.Tie as tie
 

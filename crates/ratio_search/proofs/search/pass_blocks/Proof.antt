@@ -2,7 +2,7 @@
 use Prim.Native.Nat.{_≤_}
 use native.Mathlib.Omega.{arith}
 use borrow.Author.Needs.{needs}
-use Rattle.ratio_search.proofs.Blocks.{Behind, behind-none, behind-block}
+use Rattle.ratio_search.proofs.pairs.Blocks.{Behind, behind-none, behind-block}
 use Rattle.ratio_search.proofs.search.pass_blocks.Statement.{statement}
 use Rattle.ratio_search.proofs.search.pass_blocks.Tie as tie
 

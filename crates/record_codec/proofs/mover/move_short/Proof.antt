@@ -1,6 +1,6 @@
 -- `move_short` meets its contract: a refused front is the answer.
 use borrow.Author.Needs.{needs}
-use Rattle.record_codec.proofs.Movings.{moved-as}
+use Rattle.record_codec.proofs.mover.Movings.{moved-as}
 use Rattle.record_codec.proofs.mover.move_short.Statement.{statement}
 use Rattle.record_codec.proofs.mover.move_short.Tie as tie
 

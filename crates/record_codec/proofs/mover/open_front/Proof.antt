@@ -10,7 +10,7 @@ use Rattle.record_format.specs.Fields.{headSize, tagAt}
 use Rattle.record_format.specs.Runs.{positionsTag}
 use Rattle.record_format.proofs.Moves.{headOf}
 use Rattle.record_parts.specs.Fields.{CountFound}
-use Rattle.record_codec.proofs.Movings.{opened-front, opened-form, opened-good}
+use Rattle.record_codec.proofs.mover.Movings.{opened-front, opened-form, opened-good}
 use Rattle.record_codec.proofs.mover.open_front.Statement.{statement}
 use Rattle.record_codec.proofs.mover.open_front.Tie as tie
 

@@ -8,7 +8,7 @@ use Rattle.outputs.specs.Outputs.{Placed}
 use Rattle.outputs.specs.declared.Wrote.the-variants.{Done}
 use Rattle.record_format.specs.Fields.{laid}
 use Rattle.record_parts.specs.Leads.{leadFields}
-use Rattle.record_parts.proofs.Writings.{short-of, wrote-all, rest-left, then-none, then-fits, then-done}
+use Rattle.record_parts.proofs.putting.Writings.{short-of, wrote-all, rest-left, then-none, then-fits, then-done}
 use Rattle.record_codec.proofs.mover.put_moved.Statement.{statement}
 use Rattle.record_codec.proofs.mover.put_moved.Tie as tie
 

@@ -1,7 +1,7 @@
 -- `to_wide` meets its contract: a front with a count above 0 is not refused.
 use native.Mathlib.Omega.{arith}
 use borrow.Author.Needs.{needs}
-use Rattle.record_codec.proofs.Movings.{opened-long}
+use Rattle.record_codec.proofs.mover.Movings.{opened-long}
 use Rattle.record_codec.proofs.mover.to_wide.Statement.{statement}
 use Rattle.record_codec.proofs.mover.to_wide.Tie as tie
 

@@ -9,7 +9,7 @@ use lib.ListN.{length}
 use Rattle.limits.specs.Points.{maxPoints, firstHigh}
 use Rattle.limits.specs.Rates.{isRate}
 use Rattle.position_format.specs.Tables.{pointsOf}
-use Rattle.position_format.proofs.Sizes.{points-few}
+use Rattle.position_format.proofs.Positions.Sizes.{points-few}
 use Rattle.record_format.specs.Runs.{Run, run}
 use Rattle.record_format.proofs.Writing.{run-unlisted, run-side, run-unpaired, run-many, run-high, run-steps}
 use Rattle.record_codec.proofs.writer.check_run.Statement.{statement}

@@ -12,7 +12,7 @@ use Rattle.ratio_format.specs.Bodies.{codedRatios}
 use Rattle.record_format.specs.Fields.{Field, fieldOf, laid}
 use Rattle.record_format.specs.Runs.{Run, run, positionsTag, ratiosTag, frontFields, fieldsOf, recordOf}
 use Rattle.record_parts.specs.Leads.{leadFields}
-use Rattle.record_parts.proofs.Writings.{first-none, first-done, room-left, more-none, more-fits, more-done}
+use Rattle.record_parts.proofs.putting.Writings.{first-none, first-done, room-left, more-none, more-fits, more-done}
 use Rattle.record_codec.proofs.writer.put_record.Statement.{statement}
 use Rattle.record_codec.proofs.writer.put_record.Tie as tie
 

@@ -7,7 +7,7 @@ use borrow.Author.Needs.{needs}
 use Rattle.lists.proofs.Below.{below-of}
 use Rattle.outputs.specs.Outputs.{Filled}
 use Rattle.ratio_format.specs.Bodies.{openTaken, strictTaken}
-use Rattle.ratio_format.proofs.Taken.{open-taken, strict-taken}
+use Rattle.ratio_format.proofs.Bodies.Taken.{open-taken, strict-taken}
 use Rattle.ratio_bodies.proofs.Taking.{filled-whole}
 use Rattle.record_parts.proofs.coding.get_ratios.Statement.{statement}
 use Rattle.record_parts.proofs.coding.get_ratios.Tie as tie

@@ -12,7 +12,7 @@ use Rattle.position_format.specs.Tables.{tableOf}
 use Rattle.record_format.specs.Fields.{nextAt}
 use Rattle.record_format.specs.Reading.{positionsTests}
 use Rattle.record_parts.proofs.Fields.{part-refused}
-use Rattle.record_parts.proofs.Codings.{codedTests, positions-tags, many-refused, many-passed, coded-refused, body-order, body-inside, coded-none, coded-found}
+use Rattle.record_parts.proofs.coding.Codings.{codedTests, positions-tags, many-refused, many-passed, coded-refused, body-order, body-inside, coded-none, coded-found}
 use Rattle.record_parts.proofs.coding.read_positions.Statement.{statement}
 use Rattle.record_parts.proofs.coding.read_positions.Tie as tie
 

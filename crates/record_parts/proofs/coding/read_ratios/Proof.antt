@@ -9,7 +9,7 @@ use Rattle.refusals.specs.Tests.{firstOf}
 use Rattle.record_format.specs.Runs.{ratiosTag}
 use Rattle.record_format.specs.Reading.{ratiosTests}
 use Rattle.record_parts.specs.Fields.{ratiosBy}
-use Rattle.record_parts.proofs.Codings.{codedTests, coded-refused, body-order, body-inside, coded-none, coded-found}
+use Rattle.record_parts.proofs.coding.Codings.{codedTests, coded-refused, body-order, body-inside, coded-none, coded-found}
 use Rattle.record_parts.proofs.coding.read_ratios.Statement.{statement}
 use Rattle.record_parts.proofs.coding.read_ratios.Tie as tie
 

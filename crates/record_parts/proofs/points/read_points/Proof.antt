@@ -7,7 +7,7 @@ use Rattle.record_format.specs.Fields.{tagAt}
 use Rattle.record_format.specs.Runs.{formOf}
 use Rattle.record_format.specs.Reading.{formIn}
 use Rattle.record_parts.specs.Fields.{ratiosBy}
-use Rattle.record_parts.proofs.ReadPoints.{points-positions, ratios-at, ratios-inside, ratios-near, points-ratios, points-found}
+use Rattle.record_parts.proofs.points.ReadPoints.{points-positions, ratios-at, ratios-inside, ratios-near, points-ratios, points-found}
 use Rattle.record_parts.proofs.points.read_points.Statement.{statement}
 use Rattle.record_parts.proofs.points.read_points.Tie as tie
 

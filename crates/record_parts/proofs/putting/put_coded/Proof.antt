@@ -5,7 +5,7 @@ use borrow.Author.Needs.{needs}
 use Rattle.record_format.specs.Fields.{fieldOf}
 use Rattle.record_format.proofs.Fields.{length-laid}
 use Rattle.record_parts.specs.Fields.{tagOf, codedBy}
-use Rattle.record_parts.proofs.Writings.{field-none, field-fits, field-done}
+use Rattle.record_parts.proofs.putting.Writings.{field-none, field-fits, field-done}
 use Rattle.record_parts.proofs.putting.put_coded.Statement.{statement}
 use Rattle.record_parts.proofs.putting.put_coded.Tie as tie
 

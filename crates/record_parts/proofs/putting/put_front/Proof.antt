@@ -11,7 +11,7 @@ use Rattle.outputs.specs.Outputs.{Placed}
 use Rattle.outputs.specs.declared.Wrote.the-variants.{Done}
 use Rattle.record_format.specs.Fields.{Field, fieldOf, laid}
 use Rattle.record_format.specs.Runs.{rateTag, countTag, rateSize, countSize, sideFields, frontFields}
-use Rattle.record_parts.proofs.Writings.{first-none, first-done, room-left, more-none, more-fits, more-done}
+use Rattle.record_parts.proofs.putting.Writings.{first-none, first-done, room-left, more-none, more-fits, more-done}
 use Rattle.record_parts.proofs.putting.put_front.Statement.{statement}
 use Rattle.record_parts.proofs.putting.put_front.Tie as tie
 

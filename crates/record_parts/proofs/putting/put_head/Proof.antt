@@ -3,7 +3,7 @@ use mathlib.Core.Path.{_∙_}
 use borrow.Author.Needs.{needs}
 use lib.ListN.{length-set}
 use Rattle.bits.specs.Digits.{bytesOf}
-use Rattle.record_parts.proofs.Writings.{head-on}
+use Rattle.record_parts.proofs.putting.Writings.{head-on}
 use Rattle.record_parts.proofs.putting.put_head.Statement.{statement}
 use Rattle.record_parts.proofs.putting.put_head.Tie as tie
 

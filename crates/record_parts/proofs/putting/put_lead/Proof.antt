@@ -11,7 +11,7 @@ use Rattle.record_format.specs.Runs.{positionsTag, frontFields}
 use Rattle.position_format.specs.Positions.{codedPositions}
 use Rattle.position_format.specs.Tables.{tableOf}
 use Rattle.record_parts.specs.Leads.{leadFields}
-use Rattle.record_parts.proofs.Writings.{first-none, first-done, room-left, more-none, more-fits, more-done}
+use Rattle.record_parts.proofs.putting.Writings.{first-none, first-done, room-left, more-none, more-fits, more-done}
 use Rattle.record_parts.proofs.putting.put_lead.Statement.{statement}
 use Rattle.record_parts.proofs.putting.put_lead.Tie as tie
 

@@ -1,6 +1,6 @@
 -- `put_number` meets its contract: the head, and then the body past it.
 use borrow.Author.Needs.{needs}
-use Rattle.record_parts.proofs.Writings.{number-none, number-done, number-on}
+use Rattle.record_parts.proofs.putting.Writings.{number-none, number-done, number-on}
 use Rattle.record_parts.proofs.putting.put_number.Statement.{statement}
 use Rattle.record_parts.proofs.putting.put_number.Tie as tie
 

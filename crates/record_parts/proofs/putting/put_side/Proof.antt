@@ -7,7 +7,7 @@ use Rattle.outputs.specs.Outputs.{Placed}
 use Rattle.outputs.specs.declared.Wrote.the-variants.{Done}
 use Rattle.record_format.specs.Fields.{Field, laid}
 use Rattle.record_format.specs.Runs.{sideFields}
-use Rattle.record_parts.proofs.Writings.{side-none, side-one}
+use Rattle.record_parts.proofs.putting.Writings.{side-none, side-one}
 use Rattle.record_parts.proofs.putting.put_side.Statement.{statement}
 use Rattle.record_parts.proofs.putting.put_side.Tie as tie
 

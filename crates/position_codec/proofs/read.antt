@@ -1,0 +1,3 @@
+-- Laws of how the functions of `read` go.
+pub mod PositionFound
+pub mod State

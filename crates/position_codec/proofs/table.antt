@@ -1,0 +1,3 @@
+-- Laws of how the functions of `table` go.
+pub mod Residues
+pub mod Numbers

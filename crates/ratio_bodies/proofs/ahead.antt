@@ -1,0 +1,2 @@
+-- Laws of how the functions of `ahead` go.
+pub mod FirstByte

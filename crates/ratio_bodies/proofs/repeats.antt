@@ -1,0 +1,2 @@
+-- Laws of how the functions of `repeats` go.
+pub mod Repeated

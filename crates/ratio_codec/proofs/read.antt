@@ -1,0 +1,2 @@
+-- Laws of how the functions of `read` go.
+pub mod References

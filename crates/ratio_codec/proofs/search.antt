@@ -1,0 +1,3 @@
+-- Laws of how the functions of `search` go.
+pub mod Find
+pub mod Scanned

@@ -1,0 +1,2 @@
+-- Laws of how the functions of `write` go.
+pub mod Chosen

@@ -1,0 +1,2 @@
+-- Laws of how the functions of `pairs` go.
+pub mod Blocks

@@ -1,0 +1,2 @@
+-- Laws of how the functions of `search` go.
+pub mod Searching

@@ -1,0 +1,2 @@
+-- Laws of how the functions of `mover` go.
+pub mod Movings

@@ -1,0 +1,186 @@
+-- What is accepted: by any reading, bytes that begin with the fields of the rate, the side, the count and the positions that it answers; by
+-- strict reading, bytes that begin with the record of a run that the writer accepts.
+use mathlib.Core.Path.{_≡_, sym, ap, _∙_, subst}
+use mathlib.Core.Bool.{true, not}
+use mathlib.Core.List.{List, [], _∷_, _++_, append-assoc}
+use mathlib.Core.Option.{Option, none, some}
+use Prim.Native.Nat.{ℕ, _≤_, _^_}
+use borrow.Author.Tests.{ltb-false, not-false}
+use lib.Dec.{ltb, lit<}
+use lib.ListN.{length, drop}
+use Rattle.lists.specs.Below.{Below}
+use Rattle.bits.specs.Digits.{bytesOf}
+use Rattle.limits.specs.Rates.{isRate}
+use Rattle.limits.specs.Points.{maxPoints}
+use Rattle.limits.specs.Sides.{maxSide}
+use Rattle.refusals.specs.Tests.{Test, test, firstOf}
+use Rattle.refusals.proofs.Tests.{first-clear}
+use Rattle.position_format.specs.Positions.{codedPositions, validPositions}
+use Rattle.position_format.specs.Tables.{tableOf, pointsOf}
+use Rattle.position_format.proofs.Positions.{read-only}
+use Rattle.ratio_format.specs.Bodies.{codedRatios, strictRatios}
+use Rattle.ratio_format.proofs.Bodies.Strict.{strict-only-body, strict-below}
+use Rattle.record_format.specs.Fields.{Field, fieldOf, tagAt, bodyAt, nextAt, laid}
+use Rattle.record_format.specs.Runs.{Run, run, rateTag, countTag, positionsTag, ratiosTag, rateSize, countSize, sideFields, frontFields, recordOf}
+use Rattle.record_format.specs.Reading.{recordAnswer, readTests, readStrict, readWith, rateAt, sideAt, countAt, positionsAt, ratiosAt, rateIn, sideIn, countIn, formIn, positionsIn, ratiosIn, missing, otherRate, sideTests, countTests, frontTests, roomTests, positionsTests, ratiosTests}
+use Rattle.record_format.proofs.Fields.{Follow, pastAll, past-append, follow-laid, follow-append}
+use Rattle.record_format.proofs.Reading.{FieldSound, field-clear, sound-follows, sound-below, sound-number, missing-some, front-flat, answer-clear}
+use Rattle.record_format.proofs.Runs.{tag-named, flatFields, record-flat}
+use Rattle.record_format.proofs.Reading.Sides.{SideSound, side-clear, side-follows}
+use Rattle.record_format.proofs.Writing.{Fitting}
+
+-- what the tests of the front say of bytes to which none applies
+pub record FrontSound (s : List ℕ) : Type 0 where
+  pub rate : FieldSound s (rateTag ∷ []) (some rateSize) rateAt
+  pub listed : isRate (rateIn s) ≡ true
+  pub side : SideSound s
+  pub count : FieldSound s (countTag ∷ []) (some countSize) (countAt s)
+  pub few : countIn s ≤ maxPoints
+
+-- and which others are left
+pub front-clear : (e : ℕ) (s : List ℕ) (ts : List Test) → firstOf (frontTests e s ++ ts) .number ≡ 0 → FrontSound s × (firstOf ts .number ≡ 0)
+front-clear e s ts clear =
+    let from-side = sideTests s ++ (countTests s ++ ts) in
+    let flat = sym (ap (λ (l : List Test). firstOf l .number) (front-flat e s ts)) ∙ clear in
+    let a = field-clear s (rateTag ∷ []) (some rateSize) rateAt (test (not (isRate (rateIn s))) 13 rateAt ∷ test (otherRate e (rateIn s)) 14 rateAt ∷ from-side) flat in
+    let a13 = first-clear _ _ (lit< tt) (a .1) in
+    let a14 = first-clear _ _ (lit< tt) (a13 .1) in
+    let a20 = side-clear s (countTests s ++ ts) (a14 .1) in
+    let b = field-clear s (countTag ∷ []) (some countSize) (countAt s) (test (ltb maxPoints (countIn s)) 15 (countAt s) ∷ ts) (a20 .1) in
+    let b15 = first-clear _ _ (lit< tt) (b .1) in
+    (record { rate = a .0; listed = not-false _ (a13 .0); side = a20 .0; count = b .0; few = ltb-false _ _ (b15 .0) }, b15 .1)
+
+-- what the tests of reading say of bytes to which none applies, by the reading k of the ratios' field
+record Read (k : ℕ → List ℕ → Option (List ℕ)) (s : List ℕ) : Type 0 where
+  front : FrontSound s
+  positions : FieldSound s (positionsTag (formIn s) ∷ []) none (positionsAt s)
+  few : countIn s ≤ pointsOf (formIn s)
+  points : (ts : List ℕ) × (positionsIn s ≡ some ts)
+  ratios : FieldSound s (ratiosTag ∷ []) none (ratiosAt s)
+  values : (vs : List ℕ) × (ratiosIn k s ≡ some vs)
+
+passed : (k : ℕ → List ℕ → Option (List ℕ)) (e : ℕ) (s : List ℕ) (m n : ℕ) → firstOf (readTests k e s m n) .number ≡ 0 → Read k s
+passed k e s m n clear =
+    let f = front-clear e s (roomTests s m n ++ (positionsTests s ++ ratiosTests k s)) clear in
+    let f16 = first-clear _ _ (lit< tt) (f .1) in
+    let head = first-clear _ _ (lit< tt) (f16 .1) in
+    let tag = first-clear _ _ (lit< tt) (head .1) in
+    let c15 = first-clear _ _ (lit< tt) (tag .1) in
+    let body = first-clear _ _ (lit< tt) (c15 .1) in
+    let c17 = first-clear _ _ (lit< tt) (body .1) in
+    let d = field-clear s (ratiosTag ∷ []) none (ratiosAt s) (test (missing (ratiosIn k s)) 18 (ratiosAt s) ∷ []) (c17 .1) in
+    let d18 = first-clear _ _ (lit< tt) (d .1) in
+    record {
+      front = f .0;
+      positions = record { head = ltb-false _ _ (head .0); tagged = tag-named (tagAt s (positionsAt s)) (not-false _ (tag .0)); stated = tt; whole = ltb-false _ _ (body .0) };
+      few = ltb-false _ _ (c15 .0);
+      points = missing-some (positionsIn s) (c17 .0);
+      ratios = d .0;
+      values = missing-some (ratiosIn k s) (d18 .0);
+    }
+
+-- ---- the front
+
+-- rate and side, and then fields from the count's on
+front-follows : (s : List ℕ) → Below 256 s → FrontSound s → (fs : List Field) → Follow s (countAt s) fs
+    → Follow s rateAt (fieldOf rateTag (bytesOf rateSize (rateIn s)) ∷ (sideFields (sideIn s) ++ fs))
+front-follows s bytes h fs later =
+    let d = side-follows s bytes (h .side) in
+    (sound-follows bytes (h .rate) _ (sound-number bytes (h .rate)), follow-append s (sideAt s) (sideFields (sideIn s)) fs (d .follows) (subst (λ (p : ℕ). Follow s p fs) (sym (d .past)) later))
+
+-- so the bytes begin with the front that is read in them
+pub front-splits : (s : List ℕ) → Below 256 s → FrontSound s → s ≡ laid (frontFields (rateIn s) (sideIn s) (countIn s)) ++ drop (positionsAt s) s
+front-splits s bytes h =
+    let count = fieldOf countTag (bytesOf countSize (countIn s)) in
+    let d = side-follows s bytes (h .side) in
+    let past : pastAll s (sideAt s) (sideFields (sideIn s) ++ (count ∷ [])) ≡ positionsAt s = past-append s (sideAt s) (sideFields (sideIn s)) (count ∷ []) ∙ ap (nextAt s) (d .past) in
+    follow-laid s rateAt (frontFields (rateIn s) (sideIn s) (countIn s)) (front-follows s bytes h (count ∷ []) (sound-follows bytes (h .count) _ (sound-number bytes (h .count)), tt))
+    ∙ ap (λ (p : ℕ). laid (frontFields (rateIn s) (sideIn s) (countIn s)) ++ drop p s) past
+
+-- and with the positions, as they are read in their form
+positions-follow : (s : List ℕ) → Below 256 s → (k : ℕ → List ℕ → Option (List ℕ)) → (h : Read k s) → (fs : List Field) → Follow s (ratiosAt s) fs
+    → Follow s rateAt
+    (fieldOf rateTag (bytesOf rateSize (rateIn s))
+    ∷ (sideFields (sideIn s)
+    ++ (fieldOf countTag (bytesOf countSize (length (h .points .0))) ∷ fieldOf (positionsTag (formIn s)) (codedPositions (tableOf (formIn s)) (h .points .0)) ∷ fs)))
+positions-follow s bytes k h fs later =
+    let p = read-only (tableOf (formIn s)) (countIn s) (bodyAt s (positionsAt s)) (h .points .0) (h .points .1) in
+    front-follows s bytes (h .front) _
+    (sound-follows bytes (h .front .count) _ (sound-number bytes (h .front .count) ∙ ap (bytesOf countSize) (sym (p .2))), (sound-follows bytes (h .positions) _ (p .0), later))
+
+-- the front and the positions of bytes that are not refused
+pub record FrontStands (s : List ℕ) : Type 0 where
+  pub listed : isRate (rateIn s) ≡ true
+  pub sided : sideIn s ≤ maxSide
+  pub points : List ℕ
+  pub read : positionsIn s ≡ some points
+  pub many : countIn s ≡ length points
+  pub few : length points ≤ pointsOf (formIn s)
+  pub valid : validPositions (tableOf (formIn s)) points ≡ true
+  pub rest : List ℕ
+  pub splits : s ≡ laid (frontFields (rateIn s) (sideIn s) (length points) ++ (fieldOf (positionsTag (formIn s)) (codedPositions (tableOf (formIn s)) points) ∷ [])) ++ rest
+
+pub front-stands : (k : ℕ → List ℕ → Option (List ℕ)) (e : ℕ) (s : List ℕ) (m n : ℕ) → Below 256 s → firstOf (readTests k e s m n) .number ≡ 0 → FrontStands s
+front-stands k e s m n bytes clear =
+    let h = passed k e s m n clear in
+    let ps = h .points .0 in
+    let p = read-only (tableOf (formIn s)) (countIn s) (bodyAt s (positionsAt s)) ps (h .points .1) in
+    let body = fieldOf (positionsTag (formIn s)) (codedPositions (tableOf (formIn s)) ps) in
+    let count = fieldOf countTag (bytesOf countSize (length ps)) in
+    let flat = fieldOf rateTag (bytesOf rateSize (rateIn s)) ∷ (sideFields (sideIn s) ++ (count ∷ body ∷ [])) in
+    let follow : Follow s rateAt flat = positions-follow s bytes k h [] tt in
+    record {
+      listed = h .front .listed;
+      sided = side-follows s bytes (h .front .side) .sided;
+      points = ps;
+      read = h .points .1;
+      many = sym (p .2);
+      few = subst (λ (c : ℕ). c ≤ pointsOf (formIn s)) (sym (p .2)) (h .few);
+      valid = p .1;
+      rest = drop (pastAll s rateAt flat) s;
+      splits = follow-laid s rateAt flat follow
+          ∙ ap (λ (l : List Field). laid (fieldOf rateTag (bytesOf rateSize (rateIn s)) ∷ l) ++ drop (pastAll s rateAt flat) s) (sym (append-assoc (sideFields (sideIn s)) (count ∷ []) (body ∷ [])));
+    }
+
+-- ---- the whole record, by strict reading
+
+-- a run whose record the bytes s begin with
+pub record Begins (s : List ℕ) : Type 0 where
+  pub own : Run
+  pub fits : Fitting own
+  pub ratios : Below (2 ^ 64) (own .ratios)
+  pub rest : List ℕ
+  pub splits : s ≡ recordOf own ++ rest
+
+begins : (s : List ℕ) → Below 256 s → Read strictRatios s → Begins s
+begins s bytes h =
+    let ts = h .points .0 in
+    let vs = h .values .0 in
+    let p = read-only (tableOf (formIn s)) (countIn s) (bodyAt s (positionsAt s)) ts (h .points .1) in
+    let q = strict-only-body (countIn s) (bodyAt s (ratiosAt s)) vs (h .values .1) in
+    let r = run (rateIn s) (sideIn s) (formIn s) ts vs in
+    let follow : Follow s rateAt (flatFields r) = positions-follow s bytes strictRatios h (fieldOf ratiosTag (codedRatios vs) ∷ []) (sound-follows bytes (h .ratios) _ (q .0), tt) in
+    record {
+      own = r;
+      fits = record {
+        listed = h .front .listed;
+        sided = side-follows s bytes (h .front .side) .sided;
+        paired = q .1 ∙ sym (p .2);
+        few = subst (λ (k : ℕ). k ≤ pointsOf (formIn s)) (sym (p .2)) (h .few);
+        valid = p .1;
+      };
+      ratios = strict-below (countIn s) (bodyAt s (ratiosAt s)) vs (sound-below bytes (h .ratios)) (h .values .1);
+      rest = drop (pastAll s rateAt (flatFields r)) s;
+      splits = follow-laid s rateAt (flatFields r) follow ∙ ap (λ (l : List ℕ). l ++ drop (pastAll s rateAt (flatFields r)) s) (sym (record-flat r));
+    }
+
+-- bytes that strict reading's tests do not refuse begin with a run's record
+pub clear-begins : (e : ℕ) (s : List ℕ) (m n : ℕ) → Below 256 s → firstOf (readTests strictRatios e s m n) .number ≡ 0 → Begins s
+clear-begins e s m n bytes h = begins s bytes (passed strictRatios e s m n h)
+
+-- and so do those that it accepts
+pub accepted-begins : (e : ℕ) (s ts vs : List ℕ) → Below 256 s → readStrict e s ts vs .answer .number ≡ 0 → Begins s
+unfolding readWith
+accepted-begins e s ts vs bytes h =
+    clear-begins e s (length ts) (length vs) bytes
+    (answer-clear (readTests strictRatios e s (length ts) (length vs)) (recordAnswer strictRatios s ts vs) ts vs h)

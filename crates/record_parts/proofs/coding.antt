@@ -1,0 +1,2 @@
+-- Laws of how the functions of `coding` go.
+pub mod Codings

@@ -1,0 +1,2 @@
+-- Laws of how the functions of `points` go.
+pub mod ReadPoints

@@ -1,0 +1,2 @@
+-- Laws of how the functions of `putting` go.
+pub mod Writings

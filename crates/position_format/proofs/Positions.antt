@@ -3,6 +3,7 @@ pub mod After
 pub mod Raw
 pub mod Sizes
 pub mod Valid
+pub mod Every
 use mathlib.Core.Bool.{Bool, true, false, cond}
 use mathlib.Core.List.{List, [], _∷_, _++_, append-assoc}
 use mathlib.Core.Option.{none, some}

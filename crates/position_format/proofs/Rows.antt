@@ -1,6 +1,7 @@
 -- The rows of a table: what the coding needs of them as a test, and that a row's bits give the step back.
 pub mod Signs
 pub mod Codes
+pub mod Extended
 pub mod Decoding
 pub mod Prefixes
 pub mod Ranges

@@ -5,8 +5,8 @@ use mathlib.Core.List.{List, [], _∷_}
 use mathlib.Core.Path.{_≡_, refl, ap}
 use Prim.Native.Nat.{ℕ, _^_, _≤_, _<_}
 use native.Mathlib.Omega.{arith}
-use borrow.Author.Tests.{eqb-true, leb-true}
-use lib.Dec.{leb, eqb}
+use borrow.Author.Tests.{eqb-true, leb-true, ltb-true}
+use lib.Dec.{ltb, leb, eqb}
 use lib.IntN.{pos, natAbs}
 use lib.ListN.{length, getD}
 use Rattle.lists.specs.Compare.{both, begins, same}
@@ -34,9 +34,15 @@ abbrev zeroFirst : List Row → Bool
 zeroFirst [] = false
 zeroFirst (r ∷ rs) = both (same (r .prefix) (0 ∷ [])) (eqb (r .width) 0)
 
+-- a row's bits and both its ends fit a word of 64 bits
+abbrev inWord : Row → Bool
+inWord r = both (leb (r .width) 64) (both (ltb (natAbs (r .high)) (2 ^ 63)) (leb (natAbs (r .low)) (2 ^ 63)))
+
 -- codes have at most m bits, prefixes at most 5, and rows of at most 57 bits are even around 0
 abbrev soundTable : ℕ → List Row → Bool
-soundTable m rs = both (both (goodTable rs) (widening rs)) (both (both (lengths 1 m rs) (shortPrefixes 5 rs)) (both (evenUpTo 57 rs) (zeroFirst rs)))
+soundTable m rs =
+    both (both (goodTable rs) (widening rs))
+    (both (both (lengths 1 m rs) (shortPrefixes 5 rs)) (both (both (evenUpTo 57 rs) (zeroFirst rs)) (every inWord rs)))
 
 -- the most bits of a code in each form
 abbrev pub mostBits : Form → ℕ
@@ -57,6 +63,7 @@ pub record Sound (m : ℕ) (rs : List Row) : Type 0 where
   pub short : shortPrefixes 5 rs ≡ true
   pub even : evenUpTo 57 rs ≡ true
   pub zero-first : zeroFirst rs ≡ true
+  pub words : every inWord rs ≡ true
 
 pub form-sound : (f : Form) → Sound (mostBits f) (tableOf f)
 form-sound f =
@@ -65,8 +72,9 @@ form-sound f =
     let a = both-true (goodTable rs) _ (p .0) in
     let q = both-true (both (lengths 1 (mostBits f) rs) (shortPrefixes 5 rs)) _ (p .1) in
     let b = both-true (lengths 1 (mostBits f) rs) _ (q .0) in
-    let c = both-true (evenUpTo 57 rs) _ (q .1) in
-    record { good = a .0; widens = a .1; lengths = b .0; short = b .1; even = c .0; zero-first = c .1 }
+    let c = both-true (both (evenUpTo 57 rs) (zeroFirst rs)) _ (q .1) in
+    let d = both-true (evenUpTo 57 rs) _ (c .0) in
+    record { good = a .0; widens = a .1; lengths = b .0; short = b .1; even = d .0; zero-first = d .1; words = c .1 }
 
 pub table-good : (f : Form) → goodTable (tableOf f) ≡ true
 table-good f = form-sound f .good
@@ -74,11 +82,22 @@ table-good f = form-sound f .good
 pub prefix-short : (q : ℕ) (rs : List Row) → shortPrefixes q rs ≡ true → (i : ℕ) → i < length rs → length (getD rs i noRow .prefix) ≤ q
 prefix-short q rs e i h = leb-true (length (getD rs i noRow .prefix)) q (every-at (λ (r : Row). leb (length (r .prefix)) q) rs noRow e i h)
 
+pub record InWord (r : Row) : Type 0 where
+  pub narrow : r .width ≤ 64
+  pub high-fits : natAbs (r .high) < 2 ^ 63
+  pub low-fits : natAbs (r .low) ≤ 2 ^ 63
+
+pub row-words : (rs : List Row) → every inWord rs ≡ true → (i : ℕ) → i < length rs → InWord (getD rs i noRow)
+row-words rs e i h =
+    let p = both-true (leb (getD rs i noRow .width) 64) _ (every-at inWord rs noRow e i h) in
+    let q = both-true (ltb (natAbs (getD rs i noRow .high)) (2 ^ 63)) _ (p .1) in
+    record { narrow = leb-true _ _ (p .0); high-fits = ltb-true _ _ (q .0); low-fits = leb-true _ _ (q .1) }
+
 -- ---- the step 0
 
 -- the first row is that of the step 0, and its code is one bit
 pub record Zero (rs : List Row) : Type 0 where
-  pub some : 0 < length rs
+  pub nonempty : 0 < length rs
   pub width : getD rs 0 noRow .width ≡ 0
   pub reads : reading (getD rs 0 noRow) 0 ≡ pos 0
   pub first : rowOf rs (pos 0) ≡ 0
@@ -98,7 +117,7 @@ zero-row m (r ∷ rs) s =
     let high : natAbs (r .high) ≡ 0 = omega (arith, f .size) in
     let held : holds r (pos 0) ≡ true = rw (holds-ends r g (pos 0), low, high) in
     record {
-      some = omega arith;
+      nonempty = omega arith;
       width = w;
       reads = rw (reading-ends r g 0, high);
       first = rw held;

@@ -22,7 +22,7 @@ use Rattle.position_format.proofs.Rows.{goodTable, good-full, reading-held}
 use Rattle.position_format.proofs.Rows.Ranges.{widening, row-before, row-first}
 use Rattle.position_format.proofs.Rows.Codes.{inTable-row, row-inTable, length-code, lengths, code-within}
 use Rattle.position_format.proofs.Tables.{shortPrefixes, prefix-short}
-use Rattle.position_format.proofs.Tables.WideRows.{rows-count, same-range, old-row, old-index}
+use Rattle.position_format.proofs.Tables.WideRows.{same-range, form-row, form-first}
 use Rattle.position_format.proofs.Rows.Decoding.{code-begins, prefix-one, front-step, front-table, front-code}
 use Rattle.position_codec.specs.declared.table.GotStep.{GotStep}
 use Rattle.position_codec.specs.declared.table.GotStep.the-variants.{Step, Nothing}
@@ -67,14 +67,13 @@ module _ (rs : List Row) (good : goodTable rs ≡ true) (wide : widening rs ≡ 
 -- ---- the same by the table of a form, of which the wide table has every row
 
 pub read-form : (f : Form) (i : ℕ) → i < length (tableOf f) → (n x : ℕ) (g : GotStep) → ReadBy wideRows i n x g → ReadBy (tableOf f) i n x g
-read-form Wide i h n x g e = e
-read-form Old i h n x (Step z m) e =
-    (e .0 ∙ sym (ap (λ (r : Row). reading r x) (same-range Old i h)), old-row z i (omega (arith, rows-count)) (e .1), e .2)
-read-form Old i h n x Nothing e =
+read-form f i h n x (Step z m) e =
+    (e .0 ∙ sym (ap (λ (r : Row). reading r x) (same-range f i h)), form-first f z i h (e .1), e .2)
+read-form f i h n x Nothing e =
     λ is.
-    let same : reading (getD rows i noRow) x ≡ reading (getD wideRows i noRow) x = ap (λ (r : Row). reading r x) (same-range Old i h) in
-    let z = reading (getD rows i noRow) x in
-    e (ap (rowOf wideRows) (sym same) ∙ old-index z (row-inTable rows z (omega arith)) ∙ is)
+    let same : reading (getD (tableOf f) i noRow) x ≡ reading (getD wideRows i noRow) x = ap (λ (r : Row). reading r x) (same-range f i h) in
+    let z = reading (getD (tableOf f) i noRow) x in
+    e (ap (rowOf wideRows) (sym same) ∙ sym (form-row f z (row-inTable (tableOf f) z (omega arith))) ∙ is)
 
 -- ---- prefixes of at most q bits
 

@@ -19,8 +19,9 @@ use Rattle.position_format.specs.declared.Form.{Form}
 use Rattle.position_format.specs.declared.Form.the-variants.{Old, Wide}
 use Rattle.position_format.specs.Rows.{Row, row, rows, wideRows, neg, codeLength, noRow}
 use Rattle.position_format.specs.Tables.{tableOf}
-use Rattle.position_format.proofs.Rows.Signs.{at-least}
-use Rattle.position_format.proofs.Tables.WideRows.{ranged, ranged-at}
+use Rattle.position_format.proofs.Rows.Extended.{ranged, ranged-at}
+use Rattle.position_format.proofs.Tables.{form-sound, InWord, row-words}
+use Rattle.position_format.proofs.Tables.WideRows.{wide-count}
 use Rattle.position_codec.specs.Codes.{byteOf, PrefixIs}
 use Rattle.position_codec.specs.Found.{Leads}
 
@@ -78,25 +79,9 @@ row-at i h =
     let e : 0 + i ≡ i = omega arith in
     sym (ranged-at wideRows i) ∙ ap (λ (rs : List Row). getD rs i noRow) ranges-are ∙ from-at 0 6 i h ∙ ap rangeFrom e
 
--- widths have at most 64 bits, the highest step is not below 0, and both ends fit 64 bits
-abbrev fits : ℕ → Bool
-fits i = both (both (leb (widthOf i) 64) (leZ (pos 0) (highOf i))) (both (ltb (natAbs (highOf i)) (2 ^ 63)) (leb (natAbs (lowOf i)) (2 ^ 63)))
-
-pub record Ends (i : ℕ) : Type 0 where
-  pub narrow : widthOf i ≤ 64
-  pub high : highOf i ≡ pos (natAbs (highOf i))
-  pub high-fits : natAbs (highOf i) < 2 ^ 63
-  pub low-fits : natAbs (lowOf i) ≤ 2 ^ 63
-
-pub row-ends : (i : ℕ) → i < 6 → Ends i
-row-ends i h =
-    let p = both-true (both (leb (widthOf i) 64) (leZ (pos 0) (highOf i))) _ (all-at 6 fits refl i h) in
-    let q = both-true (leb (widthOf i) 64) _ (p .0) in
-    let r = both-true (ltb (natAbs (highOf i)) (2 ^ 63)) _ (p .1) in
-    record { narrow = leb-true _ _ (q .0); high = at-least (highOf i) (q .1); high-fits = ltb-true _ _ (r .0); low-fits = leb-true _ _ (r .1) }
-
-pub row-narrow : (i : ℕ) → i < 6 → getD wideRows i noRow .width ≤ 64
-row-narrow i h = omega (arith, ap (λ (r : Row). r .width) (row-at i h), row-ends i h .narrow)
+-- they fit a word
+pub row-fits : (i : ℕ) → i < 6 → InWord (getD wideRows i noRow)
+row-fits i h = row-words wideRows (form-sound Wide .words) i (omega (arith, wide-count))
 
 -- ---- the prefixes, and the row that five bits lead to, of each table
 

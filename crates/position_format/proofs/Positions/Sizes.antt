@@ -3,7 +3,7 @@ use mathlib.Core.Bool.{true}
 use mathlib.Core.List.{List, [], _∷_, _++_}
 use mathlib.Core.Path.{_≡_}
 use Prim.Native.Nat.{ℕ, suc, _+_, _-_, _*_, _/_, _≤_}
-use native.Mathlib.Nat.{mul-suc}
+use native.Mathlib.Nat.{mul-suc, mul-le-mul-left, mul-le-mul-right}
 use native.Mathlib.Omega.{arith}
 use borrow.Author.Tests.{not-false}
 use lib.IntN.{ℤ}
@@ -15,7 +15,7 @@ use Rattle.lists.specs.Lists.{firstIndex}
 use Rattle.limits.specs.Points.{maxPoints}
 use Rattle.position_format.specs.declared.Form.{Form}
 use Rattle.position_format.specs.declared.Form.the-variants.{Old, Wide}
-use Rattle.position_format.specs.Rows.{Row, rows, wideRows, inTable, code}
+use Rattle.position_format.specs.Rows.{Row, inTable, code}
 use Rattle.position_format.specs.Steps.{stepsFrom, steps, outside}
 use Rattle.position_format.specs.Positions.{stepBits, positionBits, codedPositions, validPositions}
 use Rattle.position_format.specs.Tables.{tableOf, pointsOf}
@@ -54,19 +54,30 @@ module _ (lo hi : ℕ) (rs : List Row) (within : lengths lo hi rs ≡ true) wher
       let k : suc (suc (length ts)) - 2 ≡ length zs = omega (arith, length-from a b ts) in
       rw (k, length-raw a b (stepBits rs zs)) (omega (arith, steps-most zs (valid-parts rs (a ∷ b ∷ ts) v .1)))
 
+  -- and of up to n positions, with their bytes
+  pub bits-up-to : (n : ℕ) (ts : List ℕ) → validPositions rs ts ≡ true → length ts ≤ n → length (positionBits rs ts) ≤ 128 + hi * (n - 2)
+  bits-up-to n ts v h =
+      let few : length ts - 2 ≤ n - 2 = omega arith in
+      omega (arith, bits-most ts v, mul-le-mul-left hi few)
+
+  pub bytes-up-to : (n : ℕ) (ts : List ℕ) → validPositions rs ts ≡ true → length ts ≤ n → length (codedPositions rs ts) ≤ (128 + hi * (n - 2) + 7) / 8
+  bytes-up-to n ts v h = omega (arith, length-coded rs ts, bits-up-to n ts v h)
+
 -- ---- the tables of the forms
 
--- no form has more points than a run can have
+-- no form has more points than a run can have, and no code more bits than the wide table's longest
 pub points-few : (f : Form) → pointsOf f ≤ maxPoints
 points-few Old = omega arith
 points-few Wide = omega arith
 
+bits-widest : (f : Form) → mostBits f ≤ mostBits Wide
+bits-widest Old = omega arith
+bits-widest Wide = omega arith
+
 -- the bits of as many positions as a run can have
-pub bits-few : (f : Form) (ts : List ℕ) → validPositions (tableOf f) ts ≡ true → length ts ≤ maxPoints → length (positionBits (tableOf f) ts) ≤ 282614
-bits-few Old ts v h = omega (arith, bits-most 1 36 rows (form-sound Old .lengths) ts v)
-bits-few Wide ts v h = omega (arith, bits-most 1 69 wideRows (form-sound Wide .lengths) ts v)
+pub bits-few : (f : Form) (ts : List ℕ) → validPositions (tableOf f) ts ≡ true → length ts ≤ maxPoints → length (positionBits (tableOf f) ts) ≤ 128 + mostBits Wide * (maxPoints - 2)
+bits-few f ts v h = omega (arith, bits-up-to 1 (mostBits f) (tableOf f) (form-sound f .lengths) maxPoints ts v h, mul-le-mul-right (maxPoints - 2) (bits-widest f))
 
 -- and their bytes, by the number of points of a run in the form
 pub form-size : (f : Form) (ts : List ℕ) → validPositions (tableOf f) ts ≡ true → length ts ≤ pointsOf f → length (codedPositions (tableOf f) ts) ≤ (128 + mostBits f * (pointsOf f - 2) + 7) / 8
-form-size Old ts v h = omega (arith, length-coded rows ts, bits-most 1 36 rows (form-sound Old .lengths) ts v)
-form-size Wide ts v h = omega (arith, length-coded wideRows ts, bits-most 1 69 wideRows (form-sound Wide .lengths) ts v)
+form-size f = bytes-up-to 1 (mostBits f) (tableOf f) (form-sound f .lengths) (pointsOf f)

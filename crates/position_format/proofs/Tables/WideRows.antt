@@ -1,35 +1,33 @@
 -- The wide table: every step between positions in range has a code by it, by the same row as in document 01's table where that holds the step, and
 -- else by the row of 64 bits.
-use mathlib.Core.Bool.{Bool, true, false, cond, not}
+use mathlib.Core.Bool.{Bool, true, false, cond}
 use mathlib.Core.List.{List, [], _∷_, _++_, map}
 use mathlib.Core.Path.{_≡_, refl, sym, ap, ap₂, _∙_}
-use Prim.Native.Nat.{ℕ, zero, suc, _+_, _-_, _^_, _≤_, _<_}
+use Prim.Native.Nat.{ℕ, zero, suc, _-_, _^_, _≤_, _<_}
 use native.Mathlib.Omega.{arith}
-use borrow.Author.Tests.{le-leb, ltb-false}
-use lib.IntN.{ℤ, pos, negsuc, negℤ, _-ℤ_}
-use lib.ListN.{length, getD, take}
+use borrow.Author.Tests.{le-leb}
+use lib.IntN.{ℤ, pos, negsuc}
+use lib.ListN.{length, getD, take, drop}
 use lib.Seq.{getD-take}
 use lib.Signed.{mag}
 use Rattle.lists.specs.Lists.{firstIndex}
-use Rattle.lists.proofs.Lists.{first-le}
 use Rattle.bits.specs.Digits.{bitsOf}
-use Rattle.limits.specs.Points.{maxPosition, tooHigh, firstHigh}
-use Rattle.integers.proofs.Integers.{mag-abs, abs-neg, abs-diff, abs-add}
+use Rattle.limits.specs.Points.{firstHigh}
 use Rattle.position_format.specs.declared.Form.{Form}
 use Rattle.position_format.specs.declared.Form.the-variants.{Old, Wide}
-use Rattle.position_format.specs.Rows.{Row, row, rows, wideRows, holds, inTable, residue, codeIn, code, noRow, rowOf}
-use Rattle.position_format.specs.Steps.{stepOf, stepsFrom, steps, outside}
+use Rattle.position_format.specs.Rows.{Row, rows, wideRows, holds, inTable, residue, codeIn, code, noRow, rowOf}
+use Rattle.position_format.specs.Steps.{stepOf}
 use Rattle.position_format.specs.Positions.{validPositions, readPositions}
 use Rattle.position_format.specs.Tables.{tableOf, EveryStep, OldSteps, EscapedSteps, ReadsCoded}
 use Rattle.position_format.proofs.Rows.Signs.{neg-le-pos, neg-le-neg}
-use Rattle.lists.proofs.Lists.Tests.{none-cons, cons-none, first-in-front, first-past-front}
-use Rattle.position_format.proofs.Rows.Codes.{inTable-row, row-inTable, inTable-test, code-row}
+use Rattle.position_format.proofs.Rows.Codes.{inTable-row, row-inTable, code-row}
+use Rattle.position_format.proofs.Rows.Extended.{ranged, extended-range, extended-index, extended-past, extended-row}
 use Rattle.position_format.proofs.Rows.Ranges.{in-last}
 use Rattle.position_format.proofs.Positions.{read-coded, read-only}
+use Rattle.position_format.proofs.Positions.Every.{step-mag, step-held, valid-every}
 use Rattle.position_format.proofs.Tables.{form-sound, table-good}
-use Rattle.position_format.proofs.Positions.Valid.{valid-of}
 
--- ---- the row of a step
+-- ---- computed
 
 -- how many rows each table has
 pub rows-count : length rows ≡ 5
@@ -40,86 +38,47 @@ pub wide-count : length wideRows ≡ 6
 unfolding wideRows rows
 wide-count = refl
 
-pub form-count : (f : Form) → length (tableOf f) ≤ 6
-form-count Old = omega (arith, rows-count)
-form-count Wide = omega (arith, wide-count)
-
--- the rows of the wide table but the last, and that one
-abbrev firstRows : List Row
-firstRows = take 5 wideRows
+-- the first rows of the wide table have the ranges of document 01's, and one row follows
+ranges-same : map ranged (take (length rows) wideRows) ≡ map ranged rows
+unfolding wideRows rows
+ranges-same = refl
 
 abbrev lastRow : Row
 lastRow = getD wideRows 5 noRow
 
--- which row is the first that holds a step goes by the ranges of the rows alone, which are those of document 01's table
-abbrev pub ranged : Row → Row
-ranged r = row [] (r .width) (r .low) (r .high)
-
-by-range : (rs : List Row) (z : ℤ) → rowOf (map ranged rs) z ≡ rowOf rs z
-unfolding firstIndex
-by-range [] z = refl
-by-range (r ∷ rs) z = ap (λ (n : ℕ). cond (holds r z) zero (suc n)) (by-range rs z)
-
-ranges-same : map ranged firstRows ≡ map ranged rows
+last-alone : drop (length rows) wideRows ≡ lastRow ∷ []
 unfolding wideRows rows
-ranges-same = refl
+last-alone = refl
 
-old-same : (z : ℤ) → rowOf firstRows z ≡ rowOf rows z
-old-same z = sym (by-range firstRows z) ∙ ap (λ (rs : List Row). rowOf rs z) ranges-same ∙ by-range rows z
+-- ---- the row of a step
 
-pub ranged-at : (rs : List Row) (i : ℕ) → getD (map ranged rs) i noRow ≡ ranged (getD rs i noRow)
-ranged-at [] i = refl
-ranged-at (r ∷ rs) zero = refl
-ranged-at (r ∷ rs) (suc i) = ranged-at rs i
+pub form-count : (f : Form) → length (tableOf f) ≤ 6
+form-count Old = omega (arith, rows-count)
+form-count Wide = omega (arith, wide-count)
 
 -- each row of either table has the range and the width of the wide table's row of its index
 pub same-range : (f : Form) (i : ℕ) → i < length (tableOf f) → ranged (getD (tableOf f) i noRow) ≡ ranged (getD wideRows i noRow)
-same-range Old i h =
-    sym (ranged-at rows i) ∙ ap (λ (rs : List Row). getD rs i noRow) (sym ranges-same) ∙ ranged-at firstRows i
-    ∙ ap ranged (getD-take 5 wideRows i noRow (omega (arith, rows-count)))
+same-range Old i h = extended-range rows wideRows ranges-same i h
 same-range Wide i h = refl
-
-wide-is : firstRows ++ (lastRow ∷ []) ≡ wideRows
-unfolding wideRows rows
-wide-is = refl
-
-first-count : length firstRows ≡ 5
-unfolding wideRows rows
-first-count = refl
 
 -- a row of document 01's table that holds z has the same index in the wide one
 pub old-index : (z : ℤ) → inTable rows z ≡ true → rowOf wideRows z ≡ rowOf rows z
-old-index z e =
-    let h = inTable-row rows z e in
-    ap (λ (rs : List Row). rowOf rs z) (sym wide-is)
-    ∙ first-in-front (λ (r : Row). holds r z) firstRows (lastRow ∷ []) (omega (arith, old-same z, rows-count, first-count))
-    ∙ old-same z
-
--- and where it holds none the wide one's is past them
-past-old : (z : ℤ) → inTable rows z ≡ false → rowOf wideRows z ≡ 5 + rowOf (lastRow ∷ []) z
-past-old z e =
-    let none : rowOf rows z ≡ 5 = omega (arith, rows-count, first-le (λ (r : Row). holds r z) rows, ltb-false (rowOf rows z) (length rows) (inTable-test rows z ∙ e)) in
-    ap (λ (rs : List Row). rowOf rs z) (sym wide-is)
-    ∙ first-past-front (λ (r : Row). holds r z) firstRows (lastRow ∷ []) (omega (arith, old-same z, first-count))
-    ∙ ap (λ (n : ℕ). n + rowOf (lastRow ∷ []) z) first-count
-
--- so one of the first five rows is the first that holds z in both tables, or in neither
-pub old-row : (z : ℤ) (i : ℕ) → i < 5 → rowOf wideRows z ≡ i → rowOf rows z ≡ i
-old-row z i h e = go (inTable rows z) refl
-  where
-    go : (t : Bool) → inTable rows z ≡ t → rowOf rows z ≡ i
-    go true q = sym (old-index z q) ∙ e
-    go false q = absurd (omega (arith, past-old z q))
-
--- the last of them holds what document 01's table holds
-pub old-test : (z : ℤ) → holds (getD wideRows 4 noRow) z ≡ inTable rows z
-old-test z =
-    let sound = form-sound Old in
-    sym (in-last rows (sound .good) (sound .widens) z 4 rows-count ∙ ap (λ (r : Row). holds r z) (same-range Old 4 (omega (arith, rows-count))))
+old-index = extended-index rows wideRows ranges-same
 
 pub form-row : (f : Form) (z : ℤ) → inTable (tableOf f) z ≡ true → rowOf (tableOf f) z ≡ rowOf wideRows z
 form-row Old z e = sym (old-index z e)
 form-row Wide z e = refl
+
+-- a row of either table is the first that holds z in it where it is so in the wide one
+pub form-first : (f : Form) (z : ℤ) (i : ℕ) → i < length (tableOf f) → rowOf wideRows z ≡ i → rowOf (tableOf f) z ≡ i
+form-first Old z i h e = extended-row rows wideRows ranges-same z i h e
+form-first Wide z i h e = e
+
+-- document 01's table holds what its last row holds
+pub old-test : (z : ℤ) → holds (getD wideRows 4 noRow) z ≡ inTable rows z
+old-test z =
+    let sound = form-sound Old in
+    sym (in-last rows (sound .good) (sound .widens) z 4 rows-count ∙ ap (λ (r : Row). holds r z) (same-range Old 4 (omega (arith, rows-count))))
 
 -- the first four rows are the same, and the fifth differs in its prefix alone
 first-rows : take 4 wideRows ≡ take 4 rows
@@ -159,53 +118,23 @@ last-holds (negsuc n) h = rw (neg-le-neg (2 ^ 63) n h)
 -- so where document 01's table holds none of it, that is the row
 pub last-row : (z : ℤ) → mag z < 2 ^ 63 → inTable rows z ≡ false → rowOf wideRows z ≡ 5
 unfolding firstIndex
-last-row z h e = past-old z e ∙ ap (λ (t : Bool). 5 + cond t zero (suc zero)) (last-holds z h)
+last-row z h e =
+    let one : rowOf (lastRow ∷ []) z ≡ 0 = ap (λ (t : Bool). cond t zero (suc zero)) (last-holds z h) in
+    omega (arith, extended-past rows wideRows ranges-same z e, ap (λ (l : List Row). rowOf l z) last-alone, rows-count)
 
 -- and there is one in the wide table
 pub wide-holds : (z : ℤ) → mag z < 2 ^ 63 → inTable wideRows z ≡ true
-wide-holds z h = row-inTable wideRows z (go (inTable rows z) refl)
-  where
-    go : (t : Bool) → inTable rows z ≡ t → rowOf wideRows z < length wideRows
-    go true e = omega (arith, old-index z e, inTable-row rows z e, rows-count, wide-count)
-    go false e = omega (arith, last-row z h e, wide-count)
+wide-holds z h =
+    let sound = form-sound Wide in
+    in-last wideRows (sound .good) (sound .widens) z 5 wide-count ∙ last-holds z h
 
 -- ---- steps between positions in range
 
-step-mag : (a b t : ℕ) → a ≤ maxPosition → b ≤ maxPosition → t ≤ maxPosition → mag (stepOf a b t) < 2 ^ 63
-step-mag a b t a≤ b≤ t≤ =
-    let x = pos t -ℤ pos b in
-    let y = pos b -ℤ pos a in
-    omega (arith, mag-abs (stepOf a b t), abs-add x (negℤ y), abs-neg y, abs-diff t b maxPosition t≤ b≤, abs-diff b a maxPosition b≤ a≤)
-
--- each has a code
-wide-step : (a b t : ℕ) → a ≤ maxPosition → b ≤ maxPosition → t ≤ maxPosition → inTable wideRows (stepOf a b t) ≡ true
-wide-step a b t a≤ b≤ t≤ = wide-holds (stepOf a b t) (step-mag a b t a≤ b≤ t≤)
-
-from-inside : (a b : ℕ) (ts : List ℕ) → a ≤ maxPosition → b ≤ maxPosition → firstIndex tooHigh ts ≡ length ts → firstIndex (outside wideRows) (stepsFrom a b ts) ≡ length (stepsFrom a b ts)
-unfolding stepsFrom firstIndex
-from-inside a b [] ha hb e = refl
-from-inside a b (t ∷ ts) ha hb e =
-    let c = none-cons tooHigh t ts e in
-    let ht : t ≤ maxPosition = ltb-false maxPosition t (c .0) in
-    cons-none (outside wideRows) (stepOf a b t) (stepsFrom b t ts) (ap not (wide-step a b t ha hb ht)) (from-inside b t ts hb ht (c .1))
-
-none-outside : (ts : List ℕ) → firstIndex tooHigh ts ≡ length ts → firstIndex (outside wideRows) (steps ts) ≡ length (steps ts)
-unfolding steps firstIndex
-none-outside [] e = refl
-none-outside (a ∷ []) e = refl
-none-outside (a ∷ b ∷ ts) e =
-    let c = none-cons tooHigh a (b ∷ ts) e in
-    let d = none-cons tooHigh b ts (c .1) in
-    from-inside a b ts (ltb-false maxPosition a (c .0)) (ltb-false maxPosition b (d .0)) (d .1)
-
--- so positions in range are valid
 pub wide-valid : (ts : List ℕ) → length ts ≤ firstHigh ts → validPositions wideRows ts ≡ true
-wide-valid ts h =
-    let e : firstHigh ts ≡ length ts = omega (arith, first-le tooHigh ts) in
-    valid-of wideRows ts e (none-outside ts e)
+wide-valid = valid-every wideRows wide-holds
 
 pub every-step : EveryStep
-every-step = (wide-step, wide-valid)
+every-step = (step-held wideRows wide-holds, wide-valid)
 
 -- and what document 01's table does not hold is escaped
 escaped-code : (z : ℤ) → codeIn lastRow z ≡ (1 ∷ 1 ∷ 1 ∷ 1 ∷ 1 ∷ []) ++ bitsOf 64 (residue 64 z)
@@ -215,7 +144,7 @@ escaped-code z = refl
 pub escaped-steps : EscapedSteps
 escaped-steps a b t a≤ b≤ t≤ e =
     let z = stepOf a b t in
-    code-row noRow z wideRows (wide-step a b t a≤ b≤ t≤)
+    code-row noRow z wideRows (step-held wideRows wide-holds a b t a≤ b≤ t≤)
     ∙ ap (λ (i : ℕ). codeIn (getD wideRows i noRow) z) (last-row z (step-mag a b t a≤ b≤ t≤) e)
     ∙ escaped-code z
 

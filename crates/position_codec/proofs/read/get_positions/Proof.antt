@@ -45,7 +45,7 @@ returns c =
 loop-holds : tie.Need-loop-holds Inv-loop μ-loop
 loop-holds c = let s = c .before .before .before in state-start (tableOf (s .args .form)) (table-good (s .args .form)) (s .args .count) (s .args .body .now) (s .args .out .now) (s .pre .0)
 
--- at the loop's head: the start, and that the offset is in the body
+-- where the loop is entered: the start, and that the offset is in the body
 abbrev start : tie.At-loop Inv-loop μ-loop → tie.Start Inv-loop μ-loop
 start c = c .before .before .before .before
 
@@ -57,11 +57,11 @@ inside c =
 
 get-point-requires : tie.Need-get-point-requires Inv-loop μ-loop
 get-point-requires c κs =
-    let head = c .before in
-    let s = start head in
+    let turn = c .before in
+    let s = start turn in
     let a = s .args in
-    let l = head .loop in (
-      inside head,
+    let l = turn .loop in (
+      inside turn,
       state-raw (tableOf (a .form)) (table-good (a .form)) (a .count) (a .body .now) (a .out .now) (s .pre .0) (l .out) (l .at) (l .a) (l .b) (l .i) (l .inv),
       state-far (tableOf (a .form)) (table-good (a .form)) (a .count) (a .body .now) (a .out .now) (s .pre .0) (l .out) (l .at) (l .a) (l .b) (l .i) (l .inv),
       l .inv .a-small,
@@ -80,20 +80,20 @@ same-length c = search needs
 returns-2 : tie.Need-returns-2 Inv-loop μ-loop
 returns-2 c =
     let got = c .before .before in
-    let head = got .before .before in
-    let s = start head in
+    let turn = got .before .before in
+    let s = start turn in
     let a = s .args in
-    let l = head .loop in
+    let l = turn .loop in
     off (a .form) (a .count) (a .body .now) _ _
     (state-none (tableOf (a .form)) (table-good (a .form)) (a .count) (a .body .now) (a .out .now) (s .pre .0) (l .out) (l .at) (l .a) (l .b) (l .i) (l .inv) (got .before .loop-test .taken)
     (subst (λ (r : GotPoint). PointFound (tableOf (a .form)) (l .i) (l .a) (l .b) (drop (l .at) (bits (a .body .now))) r) (c .enum-told .given .1) (got .get-point .ensures)))
 
--- in a turn: the loop's test, its head, the position read, and how many bits it takes
+-- in a turn: the loop's test, its turn, the position read, and how many bits it takes
 abbrev tested : tie.After-known-told Inv-loop μ-loop → tie.In-loop Inv-loop μ-loop
 tested c = c .before .before .before .before
 
-abbrev head : tie.After-known-told Inv-loop μ-loop → tie.At-loop Inv-loop μ-loop
-head c = tested c .before
+abbrev turn : tie.After-known-told Inv-loop μ-loop → tie.At-loop Inv-loop μ-loop
+turn c = tested c .before
 
 abbrev position : tie.After-known-told Inv-loop μ-loop → ℕ
 position c = c .before .t .given .0 .0
@@ -102,12 +102,12 @@ abbrev size : tie.After-known-told Inv-loop μ-loop → ℕ
 size c = c .before .t .given .0 .1 .0
 
 -- the state after it
-next : (c : tie.After-known-told Inv-loop μ-loop) → let a = start (head c) .args in let l = head c .loop in
+next : (c : tie.After-known-told Inv-loop μ-loop) → let a = start (turn c) .args in let l = turn c .loop in
     State (tableOf (a .form)) (a .count) (a .body .now) (a .out .now) (set (l .out) (l .i) (position c)) (l .at + size c) (l .b) (position c) (l .i + 1)
 next c =
-    let s = start (head c) in
+    let s = start (turn c) in
     let a = s .args in
-    let l = head c .loop in
+    let l = turn c .loop in
     let f : Stands (tableOf (a .form)) (l .i) (l .a) (l .b) (drop (l .at) (bits (a .body .now))) (position c) × (size c ≡ length (nextBits (tableOf (a .form)) (l .i) (l .a) (l .b) (position c))) =
     subst (λ (r : GotPoint). PointFound (tableOf (a .form)) (l .i) (l .a) (l .b) (drop (l .at) (bits (a .body .now))) r) (c .before .t .given .1) (c .before .before .before .get-point .ensures) in
     state-more (tableOf (a .form)) (table-good (a .form)) (a .count) (a .body .now) (a .out .now) (s .pre .0) (l .out) (l .at) (l .a) (l .b) (l .i) (l .inv) (tested c .loop-test .taken) (position c) (size c) (f .0) (f .1)
@@ -116,12 +116,12 @@ mul-out : tie.Need-mul-out Inv-loop μ-loop
 mul-out c = omega arith
 
 slice-write-out : tie.Need-slice-write-out Inv-loop μ-loop
-slice-write-out c = omega (arith, start (head c) .pre .0, head c .loop .inv .length-is, tested c .loop-test .taken)
+slice-write-out c = omega (arith, start (turn c) .pre .0, turn c .loop .inv .length-is, tested c .loop-test .taken)
 
 add-at : tie.Need-add-at Inv-loop μ-loop
 add-at c =
-    let a = start (head c) .args in
-    omega (arith, read-inside (tableOf (a .form)) (table-good (a .form)) (a .count) (a .body .now) _ _ (next c .read), head c .before .if1 .left)
+    let a = start (turn c) .args in
+    omega (arith, read-inside (tableOf (a .form)) (table-good (a .form)) (a .count) (a .body .now) _ _ (next c .read), turn c .before .if1 .left)
 
 add-i : tie.Need-add-i Inv-loop μ-loop
 add-i c = omega arith
@@ -140,12 +140,12 @@ same-length-2 c = search needs
 
 returns-3 : tie.Need-returns-3 Inv-loop μ-loop
 returns-3 c =
-    let head = c .before .before in
-    let s = start head in
+    let turn = c .before .before in
+    let s = start turn in
     let a = s .args in
-    let l = head .loop in
+    let l = turn .loop in
     state-end (tableOf (a .form)) (table-good (a .form)) (a .count) (a .body .now) (a .out .now) (s .pre .0) (l .out) (l .at) (l .a) (l .b) (l .i) (l .inv) (c .before .loop-test .left)
-    (below-of 256 (a .body .now) (λ j. head .before .before .before .shared-slice-known .given j .fits)) (c .is-fill .result) (c .is-fill .ensures)
+    (below-of 256 (a .body .now) (λ j. turn .before .before .before .shared-slice-known .given j .fits)) (c .is-fill .result) (c .is-fill .ensures)
 
 pub get-positions-spec : {M : Type 1} → statement M
 get-positions-spec =

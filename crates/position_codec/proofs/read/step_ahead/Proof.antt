@@ -20,7 +20,7 @@ use Rattle.position_format.proofs.Tables.{mostBits, form-sound, zero-row}
 use Rattle.position_format.proofs.Tables.WideRows.{same-range, form-count}
 use Rattle.position_codec.specs.declared.table.GotStep.{GotStep}
 use Rattle.position_codec.specs.Found.{Leads, ReadBy, StepFound}
-use Rattle.position_codec.proofs.table.Numbers.{row-narrow, lead-zero}
+use Rattle.position_codec.proofs.table.Numbers.{row-fits, lead-zero}
 use Rattle.position_codec.proofs.Found.StepFound.{field-word, field-body, lead-ahead, read-form, found-few, found-by, found-zero}
 use Rattle.position_codec.proofs.read.step_ahead.Statement.{statement}
 use Rattle.position_codec.proofs.read.step_ahead.Tie as tie
@@ -144,7 +144,7 @@ returns-3 c = found (short (c .before)) (c .before .field-ahead .result) (field-
 field-at-requires : tie.Need-field-at-requires
 field-at-requires c κs =
     let k = c .before in
-    (start (led k) .pre .0, fits k .0, room k, fits k .1, omega (arith, k .width-of .ensures, row-narrow (row (led k)) (inside (led k))))
+    (start (led k) .pre .0, fits k .0, room k, fits k .1, omega (arith, k .width-of .ensures, row-fits (row (led k)) (inside (led k)) .narrow))
 
 -- a longer one
 abbrev long : tie.After-field-at → tie.After-width-of

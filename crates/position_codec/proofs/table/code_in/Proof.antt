@@ -11,7 +11,7 @@ use Rattle.position_format.specs.Tables.{tableOf}
 use Rattle.position_format.proofs.Rows.Codes.{inTable-row}
 use Rattle.position_format.proofs.Tables.WideRows.{same-range, form-count}
 use Rattle.position_codec.proofs.Codes.{coded-by}
-use Rattle.position_codec.proofs.table.Numbers.{row-narrow}
+use Rattle.position_codec.proofs.table.Numbers.{row-fits}
 use Rattle.position_codec.proofs.table.code_in.Statement.{statement}
 use Rattle.position_codec.proofs.table.code_in.Tie as tie
 
@@ -42,7 +42,7 @@ modulo-requires : tie.Need-modulo-requires
 modulo-requires c κs =
     let words = c .before .before in
     let s = start words in
-    omega (arith, words .before .width-of .ensures, row-narrow (s .args .row) (small s))
+    omega (arith, words .before .width-of .ensures, row-fits (s .args .row) (small s) .narrow)
 
 returns : tie.Need-returns
 returns c =
@@ -54,7 +54,7 @@ returns c =
     let w = words .before .width-of in
     let p = rw (sym (c .before .before .byte-of .ensures), sym (c .before .byte-of2 .ensures)) at (words .prefixes-of .ensures i (inside s)) in
     coded-by (tableOf f) z (s .pre .0) i (s .pre .1) _ _ (w .result) (c .modulo .result)
-    (p .prefixed) (p .short) (p .fits) (omega (arith, w .ensures, row-narrow i (small s)))
+    (p .prefixed) (p .short) (p .fits) (omega (arith, w .ensures, row-fits i (small s) .narrow))
     (p .bits) (ap (λ (r : Row). r .width) (same-range f i (inside s)) ∙ sym (w .ensures))
     (c .modulo .ensures ∙ ap (residue (w .result)) (toZ-ofZ w64 z (s .fits .z)))
 

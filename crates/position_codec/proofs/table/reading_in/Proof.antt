@@ -1,18 +1,19 @@
 -- `reading_in` meets its contract: by the row's highest step.
-use mathlib.Core.Path.{ap, sym, subst, _∙_}
-use Prim.Native.Nat.{ℕ, _≤_, _^_}
+use mathlib.Core.Bool.{true}
+use mathlib.Core.Path.{_≡_, ap, sym, subst, _∙_}
+use Prim.Native.Nat.{ℕ, _<_, _^_}
 use native.Mathlib.Omega.{arith}
 use borrow.Author.Needs.{needs}
 use lib.Dec.{T}
-use lib.IntN.{ℤ, natAbs}
+use lib.IntN.{ℤ, pos, natAbs}
 use lib.ListN.{getD}
 use lib.Signed.{nonNeg}
 use Rattle.position_format.specs.declared.Form.the-variants.{Wide}
 use Rattle.position_format.specs.Rows.{Row, wideRows, noRow}
-use Rattle.position_format.proofs.Rows.{good-full}
-use Rattle.position_format.proofs.Tables.{form-sound}
+use Rattle.position_format.proofs.Rows.{full, good-full, full-is}
+use Rattle.position_format.proofs.Tables.{form-sound, InWord}
 use Rattle.position_format.proofs.Tables.WideRows.{wide-count}
-use Rattle.position_codec.proofs.table.Numbers.{highOf, Ends, row-at, row-narrow, row-ends}
+use Rattle.position_codec.proofs.table.Numbers.{highOf, row-at, row-fits}
 use Rattle.position_codec.proofs.table.Residues.{Fitted, reading-low, some-bits, lacks-from, lacks-small, below-fits, reading-high}
 use Rattle.position_codec.proofs.table.reading_in.Statement.{statement}
 use Rattle.position_codec.proofs.table.reading_in.Tie as tie
@@ -24,21 +25,24 @@ row s = getD wideRows (s .args .row) noRow
 abbrev top : tie.Start → ℕ
 top s = natAbs (highOf (s .args .row))
 
-ends : (s : tie.Start) → Ends (s .args .row)
-ends s = row-ends (s .args .row) (s .pre .0)
+words : (s : tie.Start) → InWord (row s)
+words s = row-fits (s .args .row) (s .pre .0)
+
+-- it is the row's, and not below 0
+high-is : (s : tie.Start) → row s .high ≡ highOf (s .args .row)
+high-is s = ap (λ (r : Row). r .high) (row-at (s .args .row) (s .pre .0))
+
+full-row : (s : tie.Start) → full (row s) ≡ true
+full-row s = good-full noRow wideRows (form-sound Wide .good) (s .args .row) (omega (arith, s .pre .0, wide-count))
+
+top-is : (s : tie.Start) → row s .high ≡ pos (top s)
+top-is s = full-is (row s) (full-row s) .high ∙ ap (λ (z : ℤ). pos (natAbs z)) (high-is s)
+
+top-fits : (s : tie.Start) → top s < 2 ^ 63
+top-fits s = rw (ap natAbs (high-is s)) at (words s .high-fits)
 
 fitted : (s : tie.Start) → Fitted (row s) (top s)
-fitted s =
-    let i = s .args .row in
-    let e = ends s in
-    let is = row-at i (s .pre .0) in
-    record {
-      full = good-full noRow wideRows (form-sound Wide .good) i (omega (arith, s .pre .0, wide-count));
-      width = row-narrow i (s .pre .0);
-      high = ap (λ (r : Row). r .high) is ∙ e .high;
-      high-fits = e .high-fits;
-      low-fits = subst (λ (r : Row). natAbs (r .low) ≤ 2 ^ 63) (sym is) (e .low-fits);
-    }
+fitted s = record { full = full-row s; width = words s .narrow; high = top-is s; high-fits = top-fits s; low-fits = words s .low-fits }
 
 mul-high : tie.Need-mul-high
 mul-high c = search needs
@@ -48,11 +52,11 @@ array-copy-out-high c = search needs
 
 cast-high : tie.Need-cast-high
 cast-high c =
-    let e = ends (c .before) in
-    (subst (λ (z : ℤ). T (nonNeg z)) (sym (e .high)) tt, record { fits = omega (arith, e .high-fits) })
+    let s = c .before in
+    (subst (λ (z : ℤ). T (nonNeg z)) (sym (top-is s) ∙ high-is s) tt, record { fits = omega (arith, top-fits s) })
 
 cast-result : tie.Need-cast-result
-cast-result c = record { sfits = omega (arith, c .if1 .taken, ends (c .before .before) .high-fits) }
+cast-result c = record { sfits = omega (arith, c .if1 .taken, top-fits (c .before .before)) }
 
 returns : tie.Need-returns
 returns c = let s = c .before .before in reading-low (row s) (top s) (fitted s) (s .args .x) (s .pre .1) (c .if1 .taken)

@@ -29,22 +29,22 @@ step-at-requires c κs = omega arith
 in-table-requires : tie.Need-in-table-requires Inv-loop μ-loop
 in-table-requires c κs = search needs
 
--- where the table has been asked: the loop's head and the positions
-abbrev head : tie.After-in-table Inv-loop μ-loop → tie.At-loop Inv-loop μ-loop
-head c = c .before .before .before
+-- where the table has been asked: the loop's turn and the positions
+abbrev turn : tie.After-in-table Inv-loop μ-loop → tie.At-loop Inv-loop μ-loop
+turn c = c .before .before .before
 
 abbrev positions : tie.At-loop Inv-loop μ-loop → List ℕ
 positions c = c .before .before .args .positions .now
 
 -- the test is whether the table holds the step at point i
-tested : (c : tie.After-in-table Inv-loop μ-loop) → c .in-table .result ≡ inTable rows (stepHere (positions (head c)) (head c .loop .i))
+tested : (c : tie.After-in-table Inv-loop μ-loop) → c .in-table .result ≡ inTable rows (stepHere (positions (turn c)) (turn c .loop .i))
 tested c = c .in-table .ensures ∙ ap (inTable rows) (toZ-ofZ w64 (c .before .step-at .result) (record { sfits = c .before .step-at .ok }) ∙ c .before .step-at .ensures)
 
 returns : tie.Need-returns Inv-loop μ-loop
 returns c =
     let asked = c .before in
-    let ts = positions (head asked) in
-    let l = head asked .loop in
+    let ts = positions (turn asked) in
+    let l = turn asked .loop in
     outside-here rows ts (l .i) (l .inv .0) (asked .before .before .loop-test .taken) (l .inv .1) (asked .in-table .result) (tested asked) (c .if1 .taken)
 
 add-i : tie.Need-add-i Inv-loop μ-loop
@@ -56,16 +56,16 @@ loop-less c = omega arith
 loop-again : tie.Need-loop-again Inv-loop μ-loop
 loop-again c =
     let asked = c .before in
-    let ts = positions (head asked) in
-    let l = head asked .loop in
+    let ts = positions (turn asked) in
+    let l = turn asked .loop in
     let h = outside-later rows ts (l .i) (l .inv .0) (asked .before .before .loop-test .taken) (l .inv .1) (asked .in-table .result) (tested asked) (c .if1 .left) in
     (omega arith, omega (arith, h))
 
 returns-2 : tie.Need-returns-2 Inv-loop μ-loop
 returns-2 c =
-    let head = c .before in
-    let l = head .loop in
-    outside-none rows (positions head) (l .i) (l .inv .0) (c .loop-test .left) (l .inv .1)
+    let turn = c .before in
+    let l = turn .loop in
+    outside-none rows (positions turn) (l .i) (l .inv .0) (c .loop-test .left) (l .inv .1)
 
 pub first-outside-spec : {M : Type 1} → statement M
 first-outside-spec =

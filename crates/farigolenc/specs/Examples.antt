@@ -1,9 +1,10 @@
 -- Document 02, No. 7: differences and their numbers, as one table, proved from the definitions by one statement.
 --   Example, example    a difference, and its numbers as they should be
 --   kindIs, differs     numbers of a kind and of a difference, each of them written out
+--   floatZero, kindless   0 as a float, and the numbers of no kind
 --   noNumbers           all of them 0
 --   examples            the rows; examples-hold: each is as it is given
---   first, second, refused   what strict reading answered of two records, and of one that was refused
+--   first, second, refusedAnswer   what strict reading answered of two records, and of one that was refused
 --   overall-hold        the numbers of two records that differ in every property and in their counts
 --   refused-hold        those of a refusal of the second record
 use mathlib.Core.Bool.{true, false}
@@ -33,8 +34,8 @@ abbrev example : Difference → DifferenceAnswer → Example
 example d n = record { difference = d; expected = n }
 
 -- 0 as a float
-abbrev zero : Float
-zero = fin false 0 (pos 0)
+abbrev floatZero : Float
+floatZero = fin false 0 (pos 0)
 
 -- the kind, whether it is a negative infinity, the value and the bits
 abbrev kindIs : ℕ → ℕ → Float → ℕ → KindAnswer
@@ -45,28 +46,28 @@ abbrev differs : ℕ → ℕ → ℕ → ℕ → KindAnswer → KindAnswer → D
 differs w i a b k l = record { what = w; index = i; first = a; second = b; «first_kind» = k; «second_kind» = l }
 
 -- no kind
-abbrev none : KindAnswer
-none = kindIs 0 0 zero 0
+abbrev kindless : KindAnswer
+kindless = kindIs 0 0 floatZero 0
 
 -- no difference
 abbrev noNumbers : DifferenceAnswer
-noNumbers = differs 0 0 0 0 none none
+noNumbers = differs 0 0 0 0 kindless kindless
 
 -- each property; a position; ratios of each kind on each side, infinities of both signs among them; the points that only the longer run has; and none
 pub examples : List Example
 examples =
-    example (InProperty Rate 96000 88200) (differs 1 0 96000 88200 none none)
-    ∷ example (InProperty Side 0 4) (differs 2 0 0 4 none none)
-    ∷ example (InProperty Count 3 5) (differs 3 0 3 5 none none)
-    ∷ example (InProperty Form 3 5) (differs 4 0 3 5 none none)
-    ∷ example (Position 7 960 961) (differs 5 7 960 961 none none)
+    example (InProperty Rate 96000 88200) (differs 1 0 96000 88200 kindless kindless)
+    ∷ example (InProperty Side 0 4) (differs 2 0 0 4 kindless kindless)
+    ∷ example (InProperty Count 3 5) (differs 3 0 3 5 kindless kindless)
+    ∷ example (InProperty Form 3 5) (differs 4 0 3 5 kindless kindless)
+    ∷ example (Position 7 960 961) (differs 5 7 960 961 kindless kindless)
     ∷ example (Ratio 7 0x3FE0000000000000 (kindOf 0x3FE0000000000000) 0x7FF8000000000000 (kindOf 0x7FF8000000000000))
-    (differs 6 7 0x3FE0000000000000 0x7FF8000000000000 (kindIs 0 0 (fin false 1 (negsuc 0)) 0) (kindIs 2 0 zero 0x7FF8000000000000))
+    (differs 6 7 0x3FE0000000000000 0x7FF8000000000000 (kindIs 0 0 (fin false 1 (negsuc 0)) 0) (kindIs 2 0 floatZero 0x7FF8000000000000))
     ∷ example (Ratio 8 0xFFF0000000000000 (kindOf 0xFFF0000000000000) 0x7FF0000000000000 (kindOf 0x7FF0000000000000))
-    (differs 6 8 0xFFF0000000000000 0x7FF0000000000000 (kindIs 1 1 zero 0) (kindIs 1 0 zero 0))
+    (differs 6 8 0xFFF0000000000000 0x7FF0000000000000 (kindIs 1 1 floatZero 0) (kindIs 1 0 floatZero 0))
     ∷ example (Ratio 9 0xFFF8000000000001 (kindOf 0xFFF8000000000001) 0x8000000000000000 (kindOf 0x8000000000000000))
-    (differs 6 9 0xFFF8000000000001 0x8000000000000000 (kindIs 2 0 zero 0xFFF8000000000001) (kindIs 0 0 (fin true 0 (pos 0)) 0))
-    ∷ example (More 2) (differs 7 0 2 0 none none)
+    (differs 6 9 0xFFF8000000000001 0x8000000000000000 (kindIs 2 0 floatZero 0xFFF8000000000001) (kindIs 0 0 (fin true 0 (pos 0)) 0))
+    ∷ example (More 2) (differs 7 0 2 0 kindless kindless)
     ∷ example Equal noNumbers
     ∷ []
 
@@ -84,8 +85,8 @@ abbrev second : ReadAnswer
 second = record { number = 0; place = 0; rate = 88200; side = 0; count = 5; form = 5; used = 62 }
 
 -- of one that was refused by 10 at 7
-abbrev refused : ReadAnswer
-refused = record { number = 10; place = 7; rate = 0; side = 0; count = 0; form = 0; used = 0 }
+abbrev refusedAnswer : ReadAnswer
+refusedAnswer = record { number = 10; place = 7; rate = 0; side = 0; count = 0; form = 0; used = 0 }
 
 -- each difference in its own place
 pub overall-hold : overallNumbers (overallOf first second)
@@ -93,17 +94,17 @@ pub overall-hold : overallNumbers (overallOf first second)
       number = 0;
       place = 0;
       which = 0;
-      rate = differs 1 0 96000 88200 none none;
-      side = differs 2 0 4 0 none none;
-      count = differs 3 0 3 5 none none;
-      form = differs 4 0 3 5 none none;
-      more = differs 7 0 2 0 none none;
+      rate = differs 1 0 96000 88200 kindless kindless;
+      side = differs 2 0 4 0 kindless kindless;
+      count = differs 3 0 3 5 kindless kindless;
+      form = differs 4 0 3 5 kindless kindless;
+      more = differs 7 0 2 0 kindless kindless;
     }
 unfolding ofBits ofFields overallOf
 overall-hold = refl
 
 -- no difference beside a refusal
-pub refused-hold : overallNumbers (overallOf first refused)
+pub refused-hold : overallNumbers (overallOf first refusedAnswer)
     ≡ record { number = 10; place = 7; which = 2; rate = noNumbers; side = noNumbers; count = noNumbers; form = noNumbers; more = noNumbers }
 unfolding ofBits ofFields overallOf
 refused-hold = refl

@@ -1,4 +1,5 @@
 -- A ratio's kind as numbers: document 01, "Kinds and span", for each case of the enum.
+--   positiveZero    0 as a float
 --   kindNumbers k   kind 0 with the value of a number, 1 with the sign of an infinity, 2 with the bits of a not-a-number; all else is 0
 use mathlib.Core.Bool.{cond}
 use lib.Ieee.{Float, binary64, ofBits}

@@ -1,4 +1,5 @@
-// The calls for a host program in C; include/farigolenc.h declares them. Each passes a call of the library on, with the same contract.
+// The calls for a host program in C; include/farigolenc.h declares them. Each passes a call of the library on: what that answers by an enum it answers
+// in numbers, and a form is named by its tag.
 ghost use mathlib.Core.Path.{_≡_};
 ghost use Prim.Native.Nat.{_^_, _<_};
 ghost use Rattle.kind.specs.Kinds.{kindOf};

@@ -23,9 +23,9 @@ use Rattle.refusals.proofs.Tests.{first-here}
 use Rattle.span.specs.declared.SpanAnswer.{SpanAnswer}
 use Rattle.span.specs.Spans.{roundedDown, firstPosition, lastPosition, dividend, milliseconds, spanTests, spanAnswer, spanned}
 use Rattle.span.specs.Claims.{SpanAccepted, AcceptsOnly, spanOf, IsFloor, RoundsDown, ZeroShort, towardZero, answerWith, Exact, SameSpan, OneLess, SpanFits}
-use Rattle.span.proofs.Spans.Rounding.{toward-neg, down-exact, down-inexact, down-abs, floor}
+use Rattle.span.proofs.Spans.Rounding.{toward-neg, down-exact, down-inexact, down-abs, down-floor}
 use Rattle.integers.proofs.Negation.{neg-less, neg-times, abs-times}
-use Rattle.span.proofs.Spans.{forward, backward, milliseconds-short, no-rate, many-points, high-point, no-refusal}
+use Rattle.span.proofs.Spans.{dividend-forward, dividend-backward, milliseconds-short, spanned-no-rate, spanned-many, spanned-high, spanned-accepted}
 
 -- ---- which spans there are
 
@@ -37,14 +37,14 @@ by-answer : (P : SpanAnswer → Type 0) (r : ℕ) (ts : List ℕ)
 by-answer P r ts refusal good = go (isRate r) refl (ltb maxPoints (length ts)) refl (ltb (firstHigh ts) (length ts)) refl
   where
     go : (b : Bool) → isRate r ≡ b → (c : Bool) → ltb maxPoints (length ts) ≡ c → (d : Bool) → ltb (firstHigh ts) (length ts) ≡ d → P (spanned r ts)
-    go false e c f d g = subst P (sym (no-rate r ts e)) (refusal 1 0 (omega arith))
-    go true e true f d g = subst P (sym (many-points r ts e (ltb-true maxPoints (length ts) f))) (refusal 3 0 (omega arith))
+    go false e c f d g = subst P (sym (spanned-no-rate r ts e)) (refusal 1 0 (omega arith))
+    go true e true f d g = subst P (sym (spanned-many r ts e (ltb-true maxPoints (length ts) f))) (refusal 3 0 (omega arith))
     go true e false f true g =
-        subst P (sym (high-point r ts e (ltb-false maxPoints (length ts) f) (ltb-true (firstHigh ts) (length ts) g))) (refusal 4 (firstHigh ts) (omega arith))
+        subst P (sym (spanned-high r ts e (ltb-false maxPoints (length ts) f) (ltb-true (firstHigh ts) (length ts) g))) (refusal 4 (firstHigh ts) (omega arith))
     go true e false f false g =
         let few = ltb-false maxPoints (length ts) f in
         let low = ltb-false (firstHigh ts) (length ts) g in
-        subst P (sym (no-refusal r ts e few low)) (good (record { listed = e; few = few; low = high-below ts low }))
+        subst P (sym (spanned-accepted r ts e few low)) (good (record { listed = e; few = few; low = high-below ts low }))
 
 pub accepts-only : AcceptsOnly
 accepts-only r ts = by-answer (λ (a : SpanAnswer). a .number ≡ 0 → SpanAccepted r ts) r ts (λ n p h e. absurd (omega arith)) (λ t e. t)
@@ -57,7 +57,7 @@ module _ (r : ℕ) (ts : List ℕ) (t : SpanAccepted r ts) where
   rate⁺ = omega (arith, rate-low r (t .listed))
 
   answer : spanned r ts ≡ spanOf (milliseconds r ts)
-  answer = no-refusal r ts (t .listed) (t .few) (none-high ts (t .low))
+  answer = spanned-accepted r ts (t .listed) (t .few) (none-high ts (t .low))
 
 last-is : (a b : ℕ) (mid : List ℕ) → lastPosition (a ∷ (mid ++ (b ∷ []))) ≡ b
 last-is a b mid = getD-at (a ∷ mid) b [] 0 (length (a ∷ (mid ++ (b ∷ []))) - 1) (omega (arith, length-append mid (b ∷ [])))
@@ -65,7 +65,7 @@ last-is a b mid = getD-at (a ∷ mid) b [] 0 (length (a ∷ (mid ++ (b ∷ [])))
 pub rounds-down : RoundsDown
 rounds-down r a b mid t =
     let ts = a ∷ (mid ++ (b ∷ [])) in
-    (milliseconds r ts, answer r ts t, subst (λ (l : ℕ). IsFloor (milliseconds r ts) ((pos l -ℤ pos a) *ℤ pos 1000) r) (last-is a b mid) (floor r (rate⁺ r ts t) (dividend ts)))
+    (milliseconds r ts, answer r ts t, subst (λ (l : ℕ). IsFloor (milliseconds r ts) ((pos l -ℤ pos a) *ℤ pos 1000) r) (last-is a b mid) (down-floor r (rate⁺ r ts t) (dividend ts)))
 
 pub zero-short : ZeroShort
 zero-short r ts t h = answer r ts t ∙ ap spanOf (milliseconds-short r ts h)
@@ -78,11 +78,11 @@ module _ (r : ℕ) (ts : List ℕ) where
   back = firstPosition ts - lastPosition ts
 
   same-forward : firstPosition ts ≤ lastPosition ts → milliseconds r ts ≡ towardZero (dividend ts) r
-  same-forward h = rw (forward (firstPosition ts) (lastPosition ts) h) refl
+  same-forward h = rw (dividend-forward (firstPosition ts) (lastPosition ts) h) refl
 
   module _ (h : lastPosition ts < firstPosition ts) where
     divided : dividend ts ≡ negℤ (pos (back * 1000))
-    divided = backward (firstPosition ts) (lastPosition ts) h
+    divided = dividend-backward (firstPosition ts) (lastPosition ts) h
 
     toward-back : towardZero (dividend ts) r ≡ negℤ (pos (back * 1000 / r))
     toward-back = ap (λ (z : ℤ). towardZero z r) divided ∙ toward-neg (back * 1000) r

@@ -23,18 +23,18 @@ use Rattle.refusals.proofs.Tests.{first-end, first-skip, first-here}
 
 -- what is divided, by the order of the two positions
 module _ (first last : ℕ) where
-  pub forward : first ≤ last → (pos last -ℤ pos first) *ℤ pos 1000 ≡ pos ((last - first) * 1000)
-  forward h = ap (λ (z : ℤ). z *ℤ pos 1000) (diff-pos last first h)
+  pub dividend-forward : first ≤ last → (pos last -ℤ pos first) *ℤ pos 1000 ≡ pos ((last - first) * 1000)
+  dividend-forward h = ap (λ (z : ℤ). z *ℤ pos 1000) (diff-pos last first h)
 
-  pub backward : last < first → (pos last -ℤ pos first) *ℤ pos 1000 ≡ negℤ (pos ((first - last) * 1000))
-  backward h =
+  pub dividend-backward : last < first → (pos last -ℤ pos first) *ℤ pos 1000 ≡ negℤ (pos ((first - last) * 1000))
+  dividend-backward h =
       let e : suc (first - suc last) ≡ first - last = omega arith in
       ap (λ (z : ℤ). z *ℤ pos 1000) (diff-neg last first h) ∙ ap (λ (x : ℕ). negℤ (pos (x * 1000))) e
 
 same : (t r : ℕ) → roundedDown ((pos t -ℤ pos t) *ℤ pos 1000) r ≡ pos 0
 same t r =
     let e : (t - t) * 1000 ≡ 0 = omega arith in
-    ap (λ (z : ℤ). roundedDown z r) (forward t t (omega arith)) ∙ ap (λ (x : ℕ). pos (x / r)) e ∙ ap pos (zero-div r)
+    ap (λ (z : ℤ). roundedDown z r) (dividend-forward t t (omega arith)) ∙ ap (λ (x : ℕ). pos (x / r)) e ∙ ap pos (zero-div r)
 
 -- of no points or one it is 0
 pub milliseconds-short : (r : ℕ) (ts : List ℕ) → length ts ≤ 1 → milliseconds r ts ≡ pos 0
@@ -49,16 +49,16 @@ module _ (r : ℕ) (ts : List ℕ) where
   unfolding spanned
   answered e = ap (λ (f : Refusal). spanAnswer f (milliseconds r ts)) e
 
-  pub no-rate : isRate r ≡ false → spanned r ts ≡ record { number = 1; place = 0; milliseconds = pos 0 }
-  no-rate e = answered (first-here _ _ (ap not e))
+  pub spanned-no-rate : isRate r ≡ false → spanned r ts ≡ record { number = 1; place = 0; milliseconds = pos 0 }
+  spanned-no-rate e = answered (first-here _ _ (ap not e))
 
   module _ (rate : isRate r ≡ true) where
-    pub many-points : maxPoints < length ts → spanned r ts ≡ record { number = 3; place = 0; milliseconds = pos 0 }
-    many-points h = answered (first-skip _ _ (ap not rate) ∙ first-here _ _ (lt-ltb _ _ h))
+    pub spanned-many : maxPoints < length ts → spanned r ts ≡ record { number = 3; place = 0; milliseconds = pos 0 }
+    spanned-many h = answered (first-skip _ _ (ap not rate) ∙ first-here _ _ (lt-ltb _ _ h))
 
     module _ (few : length ts ≤ maxPoints) where
-      pub high-point : firstHigh ts < length ts → spanned r ts ≡ record { number = 4; place = firstHigh ts; milliseconds = pos 0 }
-      high-point h = answered (first-skip _ _ (ap not rate) ∙ first-skip _ _ (le-ltb _ _ few) ∙ first-here _ _ (lt-ltb _ _ h))
+      pub spanned-high : firstHigh ts < length ts → spanned r ts ≡ record { number = 4; place = firstHigh ts; milliseconds = pos 0 }
+      spanned-high h = answered (first-skip _ _ (ap not rate) ∙ first-skip _ _ (le-ltb _ _ few) ∙ first-here _ _ (lt-ltb _ _ h))
 
-      pub no-refusal : length ts ≤ firstHigh ts → spanned r ts ≡ record { number = 0; place = 0; milliseconds = milliseconds r ts }
-      no-refusal h = answered (first-skip _ _ (ap not rate) ∙ first-skip _ _ (le-ltb _ _ few) ∙ first-skip _ _ (le-ltb _ _ h) ∙ first-end)
+      pub spanned-accepted : length ts ≤ firstHigh ts → spanned r ts ≡ record { number = 0; place = 0; milliseconds = milliseconds r ts }
+      spanned-accepted h = answered (first-skip _ _ (ap not rate) ∙ first-skip _ _ (le-ltb _ _ few) ∙ first-skip _ _ (le-ltb _ _ h) ∙ first-end)

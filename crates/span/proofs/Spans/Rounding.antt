@@ -18,6 +18,10 @@ toward-neg (suc x) r = refl
 module _ (r : ℕ) (r⁺ : 0 < r) where
   -- ---- below 0, by whether the division is exact
 
+  pub down-inexact : (x : ℕ) → (x % r ≡ 0 → ⊥) → roundedDown (negℤ (pos x)) r ≡ negsuc (x / r)
+  down-inexact zero n = absurd (n (zero-mod r))
+  down-inexact (suc a) n = ap negsuc (div-eq-of-lt-le r (omega (arith, div-add-mod' (suc a) r)) (omega (arith, div-add-mod' (suc a) r, mod-lt (suc a) r⁺)))
+
   -- one less than a multiple of r lies in the one before
   whole : (a q : ℕ) → suc a ≡ suc q * r → a / r ≡ q
   whole a q e = div-eq-of-lt-le r (omega arith) (omega arith)
@@ -29,10 +33,6 @@ module _ (r : ℕ) (r⁺ : 0 < r) where
       go : (q : ℕ) → q * r + suc a % r ≡ suc a → negsuc (a / r) ≡ negℤ (pos q)
       go zero f = absurd (omega arith)
       go (suc q) f = ap negsuc (whole a q (omega arith))
-
-  pub down-inexact : (x : ℕ) → (x % r ≡ 0 → ⊥) → roundedDown (negℤ (pos x)) r ≡ negsuc (x / r)
-  down-inexact zero n = absurd (n (zero-mod r))
-  down-inexact (suc a) n = ap negsuc (div-eq-of-lt-le r (omega (arith, div-add-mod' (suc a) r)) (omega (arith, div-add-mod' (suc a) r, mod-lt (suc a) r⁺)))
 
   -- ---- its size
 
@@ -50,13 +50,13 @@ module _ (r : ℕ) (r⁺ : 0 < r) where
       go zero e = absurd (omega arith)
       go (suc n) e = let f : n ≡ suc n - 1 = omega arith in ap negsuc f
 
-  pub floor : (z : ℤ) → IsFloor (roundedDown z r) z r
-  floor (pos x) = (leZ-yes (le→leb (x / r * r) x (div-mul-le-self x r)), below)
+  pub down-floor : (z : ℤ) → IsFloor (roundedDown z r) z r
+  down-floor (pos x) = (leZ-yes (le→leb (x / r * r) x (div-mul-le-self x r)), below)
     where
       below : (n : ℤ) → (n *ℤ pos r) ≤ℤ pos x → n ≤ℤ pos (x / r)
       below (pos n) h = leZ-yes (le→leb n (x / r) (le-div-iff-mul-le r⁺ .1 (leb→le (n * r) x (h .le))))
       below (negsuc n) h = leZ-yes tt
-  floor (negsuc a) = (rw (times (a / r)) (leZ-yes (le→leb a (suc (a / r) * r - 1) (omega (arith, past)))), below)
+  down-floor (negsuc a) = (rw (times (a / r)) (leZ-yes (le→leb a (suc (a / r) * r - 1) (omega (arith, past)))), below)
     where
       past : a < suc (a / r) * r
       past = div-lt-iff-lt-mul r⁺ .0 (omega arith)

@@ -10,7 +10,7 @@ use Rattle.span.specs.Spans.{roundedDown}
 use Rattle.span.proofs.Spans.Parts.{remainder-is, rest-small}
 use Rattle.span.proofs.Spans.Rounding.{down-exact, down-inexact}
 use Rattle.integers.proofs.Negation.{neg-fits, neg-back, less-fits, less-back}
-use Rattle.span.proofs.Spans.{forward, backward}
+use Rattle.span.proofs.Spans.{dividend-forward, dividend-backward}
 use Rattle.span.proofs.between.Statement.{statement}
 use Rattle.span.proofs.between.Tie as tie
 
@@ -25,7 +25,7 @@ returns c =
     let a = c .before .before .args in
     toZ-pos w64 (c .scaled .result) (omega arith)
     ∙ ap pos (c .scaled .ensures .0)
-    ∙ sym (ap (λ (z : ℤ). roundedDown z (a .rate)) (forward (a .first) (a .last) (c .before .if1 .taken)))
+    ∙ sym (ap (λ (z : ℤ). roundedDown z (a .rate)) (dividend-forward (a .first) (a .last) (c .before .if1 .taken)))
 
 sub-d : tie.Need-sub-d
 sub-d c = search needs
@@ -60,7 +60,7 @@ divided : (k : tie.After-scaled2)
     roundedDown (negℤ (pos ((a .first - a .last) * 1000))) (a .rate) ≡ roundedDown ((pos (a .last) -ℤ pos (a .first)) *ℤ pos 1000) (a .rate)
 divided k =
     let a = k .before .before .args in
-    sym (ap (λ (z : ℤ). roundedDown z (a .rate)) (backward (a .first) (a .last) (k .before .if1 .left)))
+    sym (ap (λ (z : ℤ). roundedDown z (a .rate)) (dividend-backward (a .first) (a .last) (k .before .if1 .left)))
 
 returns-2 : tie.Need-returns-2
 returns-2 c =

@@ -15,7 +15,7 @@ use Rattle.limits.proofs.Rates.{rate-low, rate-high}
 use Rattle.limits.proofs.Points.{high-none}
 use Rattle.span.specs.declared.SpanAnswer.{SpanAnswer}
 use Rattle.span.specs.Spans.{milliseconds, spanned}
-use Rattle.span.proofs.Spans.{milliseconds-short, no-rate, many-points, high-point, no-refusal}
+use Rattle.span.proofs.Spans.{milliseconds-short, spanned-no-rate, spanned-many, spanned-high, spanned-accepted}
 use Rattle.span.proofs.span.Statement.{statement}
 use Rattle.span.proofs.span.Tie as tie
 
@@ -38,7 +38,7 @@ is-rate-requires c κs = search needs
 returns : tie.Need-returns
 returns c =
     let a = start (c .before) .args in
-    sym (no-rate (a .rate) (a .positions .now) (sym (c .before .is-rate .ensures) ∙ not-true _ (c .if1 .taken)))
+    sym (spanned-no-rate (a .rate) (a .positions .now) (sym (c .before .is-rate .ensures) ∙ not-true _ (c .if1 .taken)))
 
 -- past the first test the rate is in the list
 rate-known : (c : tie.Else1) → isRate (start (c .before) .args .rate) ≡ true
@@ -47,7 +47,7 @@ rate-known c = sym (c .before .is-rate .ensures) ∙ not-false _ (c .if1 .left)
 returns-2 : tie.Need-returns-2
 returns-2 c =
     let a = start (c .before .before) .args in
-    sym (many-points (a .rate) (a .positions .now) (rate-known (c .before)) (c .if2 .taken))
+    sym (spanned-many (a .rate) (a .positions .now) (rate-known (c .before)) (c .if2 .taken))
 
 first-high-requires : tie.Need-first-high-requires
 first-high-requires c κs = search needs
@@ -60,7 +60,7 @@ returns-3 c =
     let high = c .before in
     let a = begun high .args in
     rw (high .first-high .ensures)
-    (sym (high-point (a .rate) (a .positions .now) (rate-known (rated high)) (few high .if2 .left) (omega arith)))
+    (sym (spanned-high (a .rate) (a .positions .now) (rate-known (rated high)) (few high .if2 .left) (omega arith)))
 
 -- past the last test no position is too high
 none-high : (c : tie.Else3) → let ts = begun (c .before) .args .positions .now in length ts ≤ firstHigh ts
@@ -76,7 +76,7 @@ accepted : (c : tie.Else3)
 accepted c =
     let high = c .before in
     let a = begun high .args in
-    no-refusal (a .rate) (a .positions .now) (rate-known (rated high)) (few high .if2 .left) (none-high c)
+    spanned-accepted (a .rate) (a .positions .now) (rate-known (rated high)) (few high .if2 .left) (none-high c)
 
 returns-4 : tie.Need-returns-4
 returns-4 c =

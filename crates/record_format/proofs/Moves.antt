@@ -28,7 +28,7 @@ use Rattle.position_format.proofs.Tables.WideRows.{wide-valid}
 use Rattle.ratio_format.specs.Bodies.{codedRatios, strictRatios}
 use Rattle.ratio_format.proofs.Bodies.Strict.{strict-coded}
 use Rattle.record_format.specs.Fields.{Field, fieldOf, headSize, fieldBytes, laid, tagAt}
-use Rattle.record_format.specs.Runs.{Run, positionsTag, ratiosTag, frontFields, recordOf}
+use Rattle.record_format.specs.Runs.{Run, positionsTag, ratiosTag, countSize, frontFields, recordOf}
 use Rattle.record_format.specs.Reading.{positionsAt, ratiosAt, endAt, countIn, formIn, frontTests, manyTests, contentsTests, positionsTestsBy, positionsTests, ratiosTests, readTests}
 use Rattle.record_format.specs.Moves.{otherForm, inForm, runIn, sourceTests, targetTests, moveTests, Move, refusedMove, recordMove, moveOf}
 use Rattle.record_format.specs.Claims.{positionsPlace}
@@ -55,8 +55,8 @@ tags-other Wide t e = rw e
 -- and the tag of f is not the other's
 tag-not-other : (f : Form) (t : ℕ) → eqb t (positionsTag f) ≡ true → member t (positionsTag (otherForm f) ∷ []) ≡ false
 unfolding member
-tag-not-other Old t e = rw (eqb-true t 3 e)
-tag-not-other Wide t e = rw (eqb-true t 5 e)
+tag-not-other Old t e = rw (eqb-true t (positionsTag Old) e)
+tag-not-other Wide t e = rw (eqb-true t (positionsTag Wide) e)
 
 -- ---- the tests of the record
 
@@ -251,10 +251,10 @@ module _ (f : Form) (r : Run) (fit : Fitting r) (words : Below (2 ^ 64) (r .rati
   other-tag g e = go f g e
     where
       go : (f g : Form) → g ≡ otherForm f → eqb (positionsTag g) (positionsTag f) ≡ false
-      go Old Old e = absurd (let z : _≡_ {A = ℕ} 3 5 = ap positionsTag e in omega arith)
+      go Old Old e = absurd (let z : _≡_ {A = ℕ} (positionsTag Old) (positionsTag Wide) = ap positionsTag e in omega arith)
       go Old Wide e = refl
       go Wide Old e = refl
-      go Wide Wide e = absurd (let z : _≡_ {A = ℕ} 5 3 = ap positionsTag e in omega arith)
+      go Wide Wide e = absurd (let z : _≡_ {A = ℕ} (positionsTag Wide) (positionsTag Old) = ap positionsTag e in omega arith)
 
   other-head : headOf f s ≡ false
   other-head =
@@ -309,7 +309,7 @@ module _ (f : Form) (r : Run) (o : List ℕ) where
 
 pub form-first : FormFirst
 form-first f r d n rest o listed sided few long tagged =
-    let counts : n < 256 ^ 2 = omega arith in
+    let counts : n < 256 ^ countSize = omega arith in
     let s = input r d n rest listed sided counts in
     let all = front-all r d n rest listed sided counts in
     let size = input-length r d n rest listed sided counts in

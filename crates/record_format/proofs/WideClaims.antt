@@ -26,8 +26,8 @@ use Rattle.position_format.specs.Positions.{validPositions, readPositions}
 use Rattle.position_format.specs.Tables.{tableOf, pointsOf}
 use Rattle.position_format.proofs.Positions.Sizes.{points-few}
 use Rattle.position_format.proofs.Tables.WideRows.{wide-valid}
-use Rattle.record_format.specs.Fields.{Field, fieldOf, headSize, fieldBytes, laid, tagAt, lengthAt, bodyAt, nextAt, fieldTests}
-use Rattle.record_format.specs.Runs.{Run, run, positionsTag, formOf, ratiosTag, frontFields, recordOf}
+use Rattle.record_format.specs.Fields.{Field, fieldOf, lengthSize, headSize, fieldBytes, laid, tagAt, lengthAt, bodyAt, nextAt, fieldTests}
+use Rattle.record_format.specs.Runs.{Run, run, positionsTag, formOf, ratiosTag, countSize, frontFields, recordOf}
 use Rattle.record_format.specs.Writing.{runTests}
 use Rattle.record_format.specs.Reading.{recordAnswer, readTests, readWith, rateAt, countAt, positionsAt, ratiosAt, endAt, countIn, formIn, positionsIn, ratiosIn, missing, listOf, lacksRoom, positionsTests, ratiosTests}
 use Rattle.record_format.specs.SideClaims.{Expects, refusedBy}
@@ -43,7 +43,7 @@ use Rattle.record_format.proofs.Claims.{no-other, prefix-free}
 -- ---- the forms' numbers
 
 pub form-numbers : FormNumbers
-form-numbers = (refl, λ t d. rw (ne-eqb t 5 d), refl, refl)
+form-numbers = (refl, λ t d. rw (ne-eqb t (positionsTag Wide) d), refl, refl)
 
 -- ---- writing
 
@@ -75,7 +75,7 @@ forms-apart r q a b d = prefix-free r q a b (λ e. d (ap (λ (x : Run). x .form)
 
 -- ---- reading past the front, which stands at the front of the bytes s
 
-module _ (k : ℕ → List ℕ → Option (List ℕ)) (e r d n : ℕ) (s ts vs : List ℕ) (listed : isRate r ≡ true) (o : Expects e r) (sided : d ≤ 26) (counts : n < 256 ^ 2)
+module _ (k : ℕ → List ℕ → Option (List ℕ)) (e r d n : ℕ) (s ts vs : List ℕ) (listed : isRate r ≡ true) (o : Expects e r) (sided : d ≤ maxSide) (counts : n < 256 ^ countSize)
     (all : StandAll s rateAt (frontFields r d n)) where
   abbrev tests : List Test
   tests = readTests k e s (length ts) (length vs)
@@ -96,7 +96,7 @@ module _ (k : ℕ → List ℕ → Option (List ℕ)) (e r d n : ℕ) (s ts vs :
   past-rate : firstOf tests ≡ firstOf (test (ltb maxPoints n) 15 (countAt s) ∷ test (lacksRoom (length ts) (length vs) n) 16 (countAt s) ∷ (positionsTests s ++ ratiosTests k s))
   past-rate = front-tests s r d n listed sided counts all k e (length ts) (length vs) ∙ first-skip _ _ (no-other e r o)
 
-  fifteen : 4096 < n → readWith k e s ts vs ≡ refusedBy 15 (countPlace d) ts vs
+  fifteen : maxPoints < n → readWith k e s ts vs ≡ refusedBy 15 (countPlace d) ts vs
   fifteen h = refuses 15 (countPlace d) (λ z. omega arith) (past-rate ∙ first-here _ _ (lt-ltb _ _ h) ∙ ap (refusal 15) at-count)
 
   lacking : (length ts < n) ⊎ (length vs < n) → lacksRoom (length ts) (length vs) n ≡ true
@@ -107,7 +107,7 @@ module _ (k : ℕ → List ℕ → Option (List ℕ)) (e r d n : ℕ) (s ts vs :
       go true = refl
       go false = lt-ltb (length vs) n h
 
-  module _ (few : n ≤ 4096) where
+  module _ (few : n ≤ maxPoints) where
     sixteen : (length ts < n) ⊎ (length vs < n) → readWith k e s ts vs ≡ refusedBy 16 (countPlace d) ts vs
     sixteen h =
         refuses 16 (countPlace d) (λ z. omega arith) (past-rate ∙ first-skip _ _ (le-ltb _ _ few) ∙ first-here _ _ (lacking h) ∙ ap (refusal 16) at-count)
@@ -125,23 +125,23 @@ module _ (k : ℕ → List ℕ → Option (List ℕ)) (e r d n : ℕ) (s ts vs :
         abbrev good : List ℕ
         good = positionsTag Old ∷ positionsTag Wide ∷ []
 
-        eleven : (tag ≡ 3 → ⊥) → (tag ≡ 5 → ⊥) → readWith k e s ts vs ≡ refusedBy 11 (positionsPlace d) ts vs
+        eleven : (tag ≡ positionsTag Old → ⊥) → (tag ≡ positionsTag Wide → ⊥) → readWith k e s ts vs ≡ refusedBy 11 (positionsPlace d) ts vs
         unfolding member
-        eleven three five =
+        eleven old wide =
             refuses 11 (positionsPlace d) (λ z. omega arith)
             (past-room ∙ first-skip _ _ (le-ltb _ _ head)
-            ∙ first-here _ _ (ap (λ (t : ℕ). not (member t good)) tagged ∙ rw (ne-eqb tag 3 three, ne-eqb tag 5 five))
+            ∙ first-here _ _ (ap (λ (t : ℕ). not (member t good)) tagged ∙ rw (ne-eqb tag (positionsTag Old) old, ne-eqb tag (positionsTag Wide) wide))
             ∙ ap (refusal 11) at-positions)
 
-        fifteen-wide : tag ≡ 5 → 3500 < n → readWith k e s ts vs ≡ refusedBy 15 (countPlace d) ts vs
+        fifteen-wide : tag ≡ positionsTag Wide → pointsOf Wide < n → readWith k e s ts vs ≡ refusedBy 15 (countPlace d) ts vs
         unfolding member
-        fifteen-wide five many =
-            let is = tagged ∙ five in
+        fifteen-wide wide many =
+            let is = tagged ∙ wide in
             refuses 15 (countPlace d) (λ z. omega arith)
             (past-room
             ∙ sym
             (positions-many s (ratiosTests k s) head (ap (λ (t : ℕ). member t good) is)
-            (ap (λ (t : ℕ). ltb (pointsOf (formOf t)) (countIn s)) is ∙ ap (ltb 3500) counted ∙ lt-ltb 3500 n many))
+            (ap (λ (t : ℕ). ltb (pointsOf (formOf t)) (countIn s)) is ∙ ap (ltb (pointsOf Wide)) counted ∙ lt-ltb (pointsOf Wide) n many))
             ∙ ap (refusal 15) at-count)
 
         -- that of a form, where there are not too many points for it
@@ -179,16 +179,16 @@ module _ (k : ℕ → List ℕ → Option (List ℕ)) (e r d n : ℕ) (s ts vs :
         ten-ratios h = refuses 10 (ratiosAt s) (λ z. omega arith) (past-positions ∙ first-here _ _ (lt-ltb _ _ h))
 
         module _ (head : ratiosAt s + headSize ≤ length s) (tag : ℕ) (tagged : tagAt s (ratiosAt s) ≡ tag) where
-          eleven-ratios : (tag ≡ 4 → ⊥) → readWith k e s ts vs ≡ refusedBy 11 (ratiosAt s) ts vs
+          eleven-ratios : (tag ≡ ratiosTag → ⊥) → readWith k e s ts vs ≡ refusedBy 11 (ratiosAt s) ts vs
           unfolding member
-          eleven-ratios four =
+          eleven-ratios other =
               refuses 11 (ratiosAt s) (λ z. omega arith)
-              (past-positions ∙ first-skip _ _ (le-ltb _ _ head) ∙ first-here _ _ (ap (λ (t : ℕ). not (member t (ratiosTag ∷ []))) tagged ∙ rw (ne-eqb tag 4 four)))
+              (past-positions ∙ first-skip _ _ (le-ltb _ _ head) ∙ first-here _ _ (ap (λ (t : ℕ). not (member t (ratiosTag ∷ []))) tagged ∙ rw (ne-eqb tag ratiosTag other)))
 
-          module _ (four : tag ≡ 4) where
+          module _ (named : tag ≡ ratiosTag) where
             ratios-good : member (tagAt s (ratiosAt s)) (ratiosTag ∷ []) ≡ true
             unfolding member
-            ratios-good = ap (λ (t : ℕ). member t (ratiosTag ∷ [])) (tagged ∙ four)
+            ratios-good = ap (λ (t : ℕ). member t (ratiosTag ∷ [])) (tagged ∙ named)
 
             ten-ratios-body : length s < nextAt s (ratiosAt s) → readWith k e s ts vs ≡ refusedBy 10 (ratiosAt s) ts vs
             ten-ratios-body h =
@@ -228,29 +228,29 @@ count-first k e r d n rest ts vs listed o sided counts =
 
 pub tag-first : TagFirst
 tag-first k e r d n rest ts vs listed o sided few first second =
-    let counts : n < 256 ^ 2 = omega arith in
+    let counts : n < 256 ^ countSize = omega arith in
     let s = input r d n rest listed sided counts in
     let all = front-all r d n rest listed sided counts in
     let size = input-length r d n rest listed sided counts in
     let tag = tag-there r d n rest listed sided counts in (
       λ h. ten-head k e r d n s ts vs listed o sided counts all few first second (omega arith),
-      λ long three five. eleven k e r d n s ts vs listed o sided counts all few first second (omega arith) (tagAt rest 0) tag three five,
-      λ long five more. fifteen-wide k e r d n s ts vs listed o sided counts all few first second (omega arith) (tagAt rest 0) tag five more,
+      λ long old wide. eleven k e r d n s ts vs listed o sided counts all few first second (omega arith) (tagAt rest 0) tag old wide,
+      λ long wide more. fifteen-wide k e r d n s ts vs listed o sided counts all few first second (omega arith) (tagAt rest 0) tag wide more,
     )
 
 pub body-by-form : BodyByForm
 unfolding nextAt
 body-by-form k e r d n f rest ts vs listed o sided points first second =
-    let few : n ≤ 4096 = omega (arith, points-few f) in
-    let counts : n < 256 ^ 2 = omega arith in (
+    let few : n ≤ maxPoints = omega (arith, points-few f) in
+    let counts : n < 256 ^ countSize = omega arith in (
       λ l small cut.
-          let x = (positionsTag f ∷ bytesOf 2 l) ++ rest in
+          let x = (positionsTag f ∷ bytesOf lengthSize l) ++ rest in
           let s = input r d n x listed sided counts in
           let all = front-all r d n x listed sided counts in
           let at = front-length r d n x listed sided counts in
           let h = subst (λ (p : ℕ). (tagAt s p ≡ positionsTag f) × (lengthAt s p ≡ l)) at (head-stands (frontBytes r d n) (positionsTag f) l rest small) in
           let size = input-length r d n x listed sided counts in
-          let long : length x ≡ 3 + length rest = length-append (positionsTag f ∷ bytesOf 2 l) rest ∙ omega (arith, length-digits 256 2 l) in
+          let long : length x ≡ headSize + length rest = length-append (positionsTag f ∷ bytesOf lengthSize l) rest ∙ omega (arith, length-digits 256 lengthSize l) in
           ten-body k e r d n s ts vs listed o sided counts all few first second (omega arith) (positionsTag f) (h .0) f refl points (omega (arith, h .1)),
       λ body small unread.
           let x = fieldBytes (fieldOf (positionsTag f) body) ++ rest in
@@ -263,7 +263,7 @@ body-by-form k e r d n f rest ts vs listed o sided points first second =
     )
 
 -- the front and positions in a form, and then any bytes
-module _ (r d : ℕ) (f : Form) (ps rest : List ℕ) (listed : isRate r ≡ true) (sided : d ≤ 26) (points : length ps ≤ pointsOf f) (valid : validPositions (tableOf f) ps ≡ true) where
+module _ (r d : ℕ) (f : Form) (ps rest : List ℕ) (listed : isRate r ≡ true) (sided : d ≤ maxSide) (points : length ps ≤ pointsOf f) (valid : validPositions (tableOf f) ps ≡ true) where
   abbrev front : List Field
   front = frontFields r d (length ps)
 
@@ -273,10 +273,10 @@ module _ (r d : ℕ) (f : Form) (ps rest : List ℕ) (listed : isRate r ≡ true
   abbrev whole : List ℕ
   whole = before ++ rest
 
-  few-points : length ps ≤ 4096
+  few-points : length ps ≤ maxPoints
   few-points = omega (arith, points-few f)
 
-  counts-points : length ps < 256 ^ 2
+  counts-points : length ps < 256 ^ countSize
   counts-points = omega (arith, few-points)
 
   stood : StandAll whole rateAt (front ++ (fieldOfPoints f ps ∷ []))
@@ -318,36 +318,36 @@ ratios-by-reading k e r d f ps rest ts vs listed o sided points valid first seco
           let size = whole-length r d f ps rest listed sided points valid in
           ten-ratios k e r d n s ts vs listed o sided counts (parts r d f ps rest listed sided points valid .0) few first second f ps refl points valid (points-stand r d f ps rest listed sided points valid) (omega arith)
           ∙ ap (λ (p : ℕ). refusedBy 10 p ts vs) (sym at),
-      λ long four.
+      λ long other.
           let s = b ++ rest in
           let at = before-length r d f ps rest listed sided points valid in
           let size = whole-length r d f ps rest listed sided points valid in
           eleven-ratios k e r d n s ts vs listed o sided counts (parts r d f ps rest listed sided points valid .0) few first second f ps refl points valid (points-stand r d f ps rest listed sided points valid)
-          (omega arith) (tagAt rest 0) (ratios-tag r d f ps rest listed sided points valid) four
+          (omega arith) (tagAt rest 0) (ratios-tag r d f ps rest listed sided points valid) other
           ∙ ap (λ (p : ℕ). refusedBy 11 p ts vs) (sym at),
       λ l small cut.
-          let x = (4 ∷ bytesOf 2 l) ++ rest in
+          let x = (ratiosTag ∷ bytesOf lengthSize l) ++ rest in
           let s = b ++ x in
           let at = before-length r d f ps x listed sided points valid in
           let size = whole-length r d f ps x listed sided points valid in
-          let h = subst (λ (p : ℕ). (tagAt s p ≡ 4) × (lengthAt s p ≡ l)) at (head-stands b 4 l rest small) in
-          let long : length x ≡ 3 + length rest = length-append (4 ∷ bytesOf 2 l) rest ∙ omega (arith, length-digits 256 2 l) in
+          let h = subst (λ (p : ℕ). (tagAt s p ≡ ratiosTag) × (lengthAt s p ≡ l)) at (head-stands b ratiosTag l rest small) in
+          let long : length x ≡ headSize + length rest = length-append (ratiosTag ∷ bytesOf lengthSize l) rest ∙ omega (arith, length-digits 256 lengthSize l) in
           ten-ratios-body k e r d n s ts vs listed o sided counts (parts r d f ps x listed sided points valid .0) few first second f ps refl points valid (points-stand r d f ps x listed sided points valid)
-          (omega arith) 4 (h .0) refl (omega (arith, h .1))
+          (omega arith) ratiosTag (h .0) refl (omega (arith, h .1))
           ∙ ap (λ (p : ℕ). refusedBy 10 p ts vs) (sym at),
       λ body small.
-          let x = fieldBytes (fieldOf 4 body) ++ rest in
+          let x = fieldBytes (fieldOf ratiosTag body) ++ rest in
           let s = b ++ x in
           let at = before-length r d f ps x listed sided points valid in
-          let h = subst (λ (p : ℕ). FieldStands s p (fieldOf 4 body)) at (stands b (fieldOf 4 body) rest (omega arith)) in
+          let h = subst (λ (p : ℕ). FieldStands s p (fieldOf ratiosTag body)) at (stands b (fieldOf ratiosTag body) rest (omega arith)) in
           let p = parts r d f ps x listed sided points valid .0 in
           let q = points-stand r d f ps x listed sided points valid in (
             λ unread.
-                eighteen k e r d n s ts vs listed o sided counts p few first second f ps refl points valid q (h .head) 4 (h .tagged) refl (h .whole) (ap (k n) (h .within) ∙ unread)
+                eighteen k e r d n s ts vs listed o sided counts p few first second f ps refl points valid q (h .head) ratiosTag (h .tagged) refl (h .whole) (ap (k n) (h .within) ∙ unread)
                 ∙ ap (λ (y : ℕ). refusedBy 18 y ts vs) (sym at),
             λ qs read.
-                let used : endAt s ≡ length b + 3 + length body = h .next ∙ omega (arith, at, length-field (fieldOf 4 body)) in
-                found k e r d n s ts vs listed o sided counts p few first second f ps refl points valid q (h .head) 4 (h .tagged) refl (h .whole) qs (ap (k n) (h .within) ∙ read)
+                let used : endAt s ≡ length b + headSize + length body = h .next ∙ omega (arith, at, length-field (fieldOf ratiosTag body)) in
+                found k e r d n s ts vs listed o sided counts p few first second f ps refl points valid q (h .head) ratiosTag (h .tagged) refl (h .whole) qs (ap (k n) (h .within) ∙ read)
                 ∙ ap
                 (λ (u : ℕ).
                 record {

@@ -38,8 +38,8 @@ use Rattle.position_format.specs.declared.Form.{Form}
 use Rattle.position_format.specs.Tables.{tableOf, pointsOf}
 use Rattle.position_format.specs.Positions.{codedPositions, validPositions}
 use Rattle.ratio_format.specs.Bodies.{codedRatios, openRatios}
-use Rattle.record_format.specs.Fields.{fieldOf, laid}
-use Rattle.record_format.specs.Runs.{Run, positionsTag, sideLength, frontFields, recordOf}
+use Rattle.record_format.specs.Fields.{fieldOf, headSize, laid}
+use Rattle.record_format.specs.Runs.{Run, positionsTag, rateSize, countSize, sideLength, frontFields, recordOf}
 use Rattle.record_format.specs.Writing.{runTests, accepts, writeAnswer, writeOutput}
 use Rattle.record_format.specs.Reading.{Answer, refusalAnswer, endAt, otherRate, lacksRoom, rateAt, readWith, readStrict, readOpen}
 use Rattle.record_format.specs.Moves.{moveOf}
@@ -69,11 +69,11 @@ joined (r ∷ rs) = recordOf r ++ joined rs
 
 -- where the count's field stands: past the rate's, and past the side's if there is one
 abbrev pub countPlace : ℕ → ℕ
-countPlace d = 7 + sideLength d
+countPlace d = headSize + rateSize + sideLength d
 
 -- and the positions', past the count's
 abbrev pub positionsPlace : ℕ → ℕ
-positionsPlace d = 12 + sideLength d
+positionsPlace d = countPlace d + (headSize + countSize)
 
 -- the tests that can apply to the record of an accepted run
 abbrev pub ownTests : Run → ℕ → ℕ → ℕ → List Test

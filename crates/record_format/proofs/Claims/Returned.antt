@@ -16,7 +16,7 @@ use Rattle.position_format.specs.Positions.{codedPositions}
 use Rattle.position_format.specs.Tables.{tableOf}
 use Rattle.ratio_format.specs.Bodies.{codedRatios}
 use Rattle.record_format.specs.Fields.{Field, fieldOf}
-use Rattle.record_format.specs.Runs.{Run, run, positionsTag, ratiosTag, frontFields, fieldsOf, recordOf}
+use Rattle.record_format.specs.Runs.{Run, run, positionsTag, ratiosTag, countSize, frontFields, fieldsOf, recordOf}
 use Rattle.record_format.specs.Claims.{ownTests, ownAnswer, runAnswer}
 use Rattle.record_format.specs.Reading.{Answer, refusalAnswer, recordAnswer, readTests, readWith, rateAt, positionsAt, ratiosAt, endAt, rateIn, sideIn, countIn, formIn, positionsIn, ratiosIn, missing, listOf, otherRate, lacksRoom, ratiosTests}
 use Rattle.record_format.proofs.Fields.{FieldStands, StandAll, laid-stand, pastAll, stand-past, small-append, stand-append, past-append}
@@ -49,7 +49,7 @@ module _ (r : Run) (fit : Fitting r) (rest : List ℕ) where
   parts : StandAll s rateAt front × StandAll s (pastAll s rateAt front) (positions-field ∷ ratios-field ∷ [])
   parts = stand-append s rateAt front (positions-field ∷ ratios-field ∷ []) all
 
-  counts : length (r .positions) < 256 ^ 2
+  counts : length (r .positions) < 256 ^ countSize
   counts = omega (arith, fitting-few r fit)
 
   past : pastAll s rateAt front ≡ positionsAt s

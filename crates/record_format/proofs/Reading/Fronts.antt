@@ -49,7 +49,7 @@ front-small rate side count = (
 
 -- ---- the front
 
-module _ (s : List ℕ) (rate side count : ℕ) (listed : isRate rate ≡ true) (sided : side ≤ maxSide) (counts : count < 256 ^ 2) (all : StandAll s rateAt (frontFields rate side count)) where
+module _ (s : List ℕ) (rate side count : ℕ) (listed : isRate rate ≡ true) (sided : side ≤ maxSide) (counts : count < 256 ^ countSize) (all : StandAll s rateAt (frontFields rate side count)) where
   abbrev count-field : Field
   count-field = fieldOf countTag (bytesOf countSize count)
 
@@ -115,7 +115,7 @@ module _ (s : List ℕ) (rate side count : ℕ) (listed : isRate rate ≡ true) 
 
 -- ---- the front, laid, and then any bytes
 
-module _ (r d n : ℕ) (rest : List ℕ) (listed : isRate r ≡ true) (sided : d ≤ maxSide) (counts : n < 256 ^ 2) where
+module _ (r d n : ℕ) (rest : List ℕ) (listed : isRate r ≡ true) (sided : d ≤ maxSide) (counts : n < 256 ^ countSize) where
   abbrev pub input : List ℕ
   input = frontBytes r d n ++ rest
 

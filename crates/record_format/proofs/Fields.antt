@@ -14,6 +14,7 @@ use Rattle.lists.specs.Below.{Below}
 use Rattle.lists.specs.Compare.{both}
 use Rattle.lists.proofs.Below.{below-take, below-drop}
 use Rattle.lists.proofs.Compare.{both-true}
+use Rattle.lists.proofs.Lists.{every, every-cons}
 use Rattle.bits.specs.Digits.{digitsOf, bytesOf, numberOf}
 use Rattle.bits.proofs.Digits.{length-digits, number-digits-lt, digits-number, number-lt}
 use Rattle.record_format.specs.Fields.{Field, fieldOf, tagSize, lengthSize, headSize, maxBody, fieldBytes, laid, tagAt, lengthAt, bodyAt, nextAt}
@@ -207,6 +208,15 @@ abbrev pub closed : (ℕ → Bool) → List Field → Bool
 closed last [] = false
 closed last (f ∷ []) = last (f .tag)
 closed last (f ∷ g ∷ fs) = both (not (last (f .tag))) (closed last (g ∷ fs))
+
+-- so do some fields of which none is a last one, and then such fields
+pub closed-append : (last : ℕ → Bool) (fs gs : List Field) → every (λ f. not (last (f .tag))) fs ≡ true → closed last gs ≡ true → closed last (fs ++ gs) ≡ true
+closed-append last [] gs a b = b
+closed-append last (f ∷ []) [] a b = absurd (false≢true b)
+closed-append last (f ∷ []) (g ∷ gs) a b = ap₂ both (every-cons (λ (f : Field). not (last (f .tag))) f [] a .0) b
+closed-append last (f ∷ h ∷ fs) gs a b =
+    let e = every-cons (λ (f : Field). not (last (f .tag))) f (h ∷ fs) a in
+    ap₂ both (e .0) (closed-append last (h ∷ fs) gs (e .1) b)
 
 -- so of two such lists, laid end to end, neither is a beginning of the other
 module _ (last : ℕ → Bool) where

@@ -24,11 +24,10 @@ use Rattle.refusals.specs.declared.Refusal.{Refusal}
 use Rattle.refusals.specs.Tests.{Test, test, firstOf, refused}
 use Rattle.refusals.proofs.Tests.{first-here, first-skip}
 use Rattle.position_format.specs.declared.Form.{Form}
-use Rattle.position_format.specs.declared.Form.the-variants.{Old, Wide}
 use Rattle.position_format.specs.Positions.{readPositions}
 use Rattle.position_format.specs.Tables.{tableOf, pointsOf}
 use Rattle.record_format.specs.Fields.{Field, fieldOf, tagSize, lengthSize, headSize, tagAt, lengthAt, bodyAt, nextAt, headTests, lengthTests, bodyTests, fieldTests}
-use Rattle.record_format.specs.Runs.{rateTag, sideTag, countTag, positionsTag, formOf, ratiosTag, rateSize, sideSize, countSize}
+use Rattle.record_format.specs.Runs.{rateTag, sideTag, countTag, positionsTags, formOf, ratiosTag, rateSize, sideSize, countSize, rateField}
 use Rattle.record_format.specs.Reading.{Answer, refusalAnswer, recordAnswer, readTests, readWith, rateAt, sideAt, hasSide, countAt, positionsAt, ratiosAt, endAt, rateIn, sideIn, countIn, formIn, positionsIn, ratiosIn, otherRate, lacksRoom, missing, contentsTests, sideTests, countTests, roomTests, manyTests, positionsTests, ratiosTests}
 use Rattle.record_format.specs.SideClaims.{rateBytes, sideBytes, Expects, refusedBy, RateRefused, RateFirst, HeadCut, TagRefused, LengthRefused, BodyCut, SideRefused, CountRefused, shifted, SideShifts}
 use Rattle.record_format.proofs.Fields.{FieldStands, length-field, stands, head-stands}
@@ -102,13 +101,13 @@ module _ (k : ℕ → List ℕ → Option (List ℕ)) (e r : ℕ) (rest ts vs : 
   from-side = sideTests s ++ from-count
 
   length-rate : length (rateBytes r) ≡ side-place
-  length-rate = length-field (fieldOf rateTag (bytesOf rateSize r)) ∙ ap (λ (n : ℕ). headSize + n) (length-digits 256 rateSize r)
+  length-rate = length-field (rateField r) ∙ ap (λ (n : ℕ). headSize + n) (length-digits 256 rateSize r)
 
   length-all : length s ≡ side-place + length rest
   length-all = length-append (rateBytes r) rest ∙ ap (λ (n : ℕ). n + length rest) length-rate
 
-  rate-stands : FieldStands s rateAt (fieldOf rateTag (bytesOf rateSize r))
-  rate-stands = stands [] (fieldOf rateTag (bytesOf rateSize r)) rest (omega (arith, length-digits 256 rateSize r))
+  rate-stands : FieldStands s rateAt (rateField r)
+  rate-stands = stands [] (rateField r) rest (omega (arith, length-digits 256 rateSize r))
 
   at-side : sideAt s ≡ side-place
   at-side = rate-stands .next ∙ omega (arith, length-rate)
@@ -456,13 +455,10 @@ module _ (s t : List ℕ) (long : length t ≡ length s + side-takes) (same : (p
         ap₂ (λ (f : Form) (c : ℕ). test (ltb (pointsOf f) c) 15 (countAt t) ∷ []) form-same count-same
         ∙ ap (λ (p : ℕ). test (ltb (pointsOf (formIn s)) (countIn s)) 15 p ∷ []) at
 
-    abbrev good : List ℕ
-    good = positionsTag Old ∷ positionsTag Wide ∷ []
-
     positions-shifted : positionsTests t ≡ map further (positionsTests s)
     positions-shifted =
         let read = readPositions (tableOf (formIn s)) (countIn s) in
-        both-shifted (headTests s good (positionsAt s)) (manyTests s ++ contentsTests s read 17 (positionsAt s)) (ap (headTests t good) at-positions ∙ heads-shifted (positionsAt s) late-positions good)
+        both-shifted (headTests s positionsTags (positionsAt s)) (manyTests s ++ contentsTests s read 17 (positionsAt s)) (ap (headTests t positionsTags) at-positions ∙ heads-shifted (positionsAt s) late-positions positionsTags)
         (both-shifted (manyTests s) (contentsTests s read 17 (positionsAt s)) many-shifted
         (ap (contentsTests t (readPositions (tableOf (formIn t)) (countIn t)) 17) at-positions
         ∙ coded-shifted (positionsAt s) late-positions (readPositions (tableOf (formIn t)) (countIn t)) read 17 reading-same))

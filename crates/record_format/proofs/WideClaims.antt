@@ -27,16 +27,16 @@ use Rattle.position_format.specs.Tables.{tableOf, pointsOf}
 use Rattle.position_format.proofs.Positions.Sizes.{points-few}
 use Rattle.position_format.proofs.Tables.WideRows.{wide-valid}
 use Rattle.record_format.specs.Fields.{Field, fieldOf, lengthSize, headSize, fieldBytes, laid, tagAt, lengthAt, bodyAt, nextAt, fieldTests}
-use Rattle.record_format.specs.Runs.{Run, run, positionsTag, formOf, ratiosTag, countSize, frontFields, recordOf}
+use Rattle.record_format.specs.Runs.{Run, run, positionsTag, positionsTags, formOf, ratiosTag, countSize, positionsField, frontFields, recordOf}
 use Rattle.record_format.specs.Writing.{runTests}
 use Rattle.record_format.specs.Reading.{recordAnswer, readTests, readWith, rateAt, countAt, positionsAt, ratiosAt, endAt, countIn, formIn, positionsIn, ratiosIn, missing, listOf, lacksRoom, positionsTests, ratiosTests}
 use Rattle.record_format.specs.SideClaims.{Expects, refusedBy}
 use Rattle.record_format.specs.Claims.{countPlace, positionsPlace}
-use Rattle.record_format.specs.WideClaims.{FormNumbers, RecordFields, wideTests, RefusesWide, AcceptsWide, FormsApart, frontBytes, CountFirst, TagFirst, BodyByForm, fieldOfPoints, RatiosByReading}
+use Rattle.record_format.specs.WideClaims.{FormNumbers, RecordFields, wideTests, RefusesWide, AcceptsWide, FormsApart, frontBytes, CountFirst, TagFirst, BodyByForm, RatiosByReading}
 use Rattle.record_format.proofs.Fields.{FieldStands, StandAll, length-field, stands, laid-stand, pastAll, stand-past, small-append, stand-append, past-append, head-stands}
-use Rattle.record_format.proofs.Reading.Fronts.{front-small, count-at, positions-at, front-past, rate-is, side-is, count-is, front-tests, input, front-all, front-length, input-length, tag-there, form-is, positions-are, positions-pass}
+use Rattle.record_format.proofs.Reading.Fronts.{count-at, positions-at, front-past, rate-is, side-is, count-is, front-tests, input, front-all, front-length, input-length, tag-there, form-is, positions-are, positions-pass}
 use Rattle.record_format.proofs.Reading.{refusal, body-short, field-good, positions-few, positions-many, answer-refused, answer-good}
-use Rattle.record_format.proofs.Runs.{form-of, tag-good, coded-size, form-bodies}
+use Rattle.record_format.proofs.Runs.{form-of, tag-good, front-small, coded-size, form-bodies}
 use Rattle.record_format.proofs.Writing.{fitting-accepted}
 use Rattle.record_format.proofs.Claims.{no-other, prefix-free}
 
@@ -122,15 +122,12 @@ module _ (k : ℕ → List ℕ → Option (List ℕ)) (e r d n : ℕ) (s ts vs :
 
       -- or it is whole, with a tag
       module _ (head : positionsAt s + headSize ≤ length s) (tag : ℕ) (tagged : tagAt s (positionsAt s) ≡ tag) where
-        abbrev good : List ℕ
-        good = positionsTag Old ∷ positionsTag Wide ∷ []
-
         eleven : (tag ≡ positionsTag Old → ⊥) → (tag ≡ positionsTag Wide → ⊥) → readWith k e s ts vs ≡ refusedBy 11 (positionsPlace d) ts vs
         unfolding member
         eleven old wide =
             refuses 11 (positionsPlace d) (λ z. omega arith)
             (past-room ∙ first-skip _ _ (le-ltb _ _ head)
-            ∙ first-here _ _ (ap (λ (t : ℕ). not (member t good)) tagged ∙ rw (ne-eqb tag (positionsTag Old) old, ne-eqb tag (positionsTag Wide) wide))
+            ∙ first-here _ _ (ap (λ (t : ℕ). not (member t positionsTags)) tagged ∙ rw (ne-eqb tag (positionsTag Old) old, ne-eqb tag (positionsTag Wide) wide))
             ∙ ap (refusal 11) at-positions)
 
         fifteen-wide : tag ≡ positionsTag Wide → pointsOf Wide < n → readWith k e s ts vs ≡ refusedBy 15 (countPlace d) ts vs
@@ -140,7 +137,7 @@ module _ (k : ℕ → List ℕ → Option (List ℕ)) (e r d n : ℕ) (s ts vs :
             refuses 15 (countPlace d) (λ z. omega arith)
             (past-room
             ∙ sym
-            (positions-many s (ratiosTests k s) head (ap (λ (t : ℕ). member t good) is)
+            (positions-many s (ratiosTests k s) head (ap (λ (t : ℕ). member t positionsTags) is)
             (ap (λ (t : ℕ). ltb (pointsOf (formOf t)) (countIn s)) is ∙ ap (ltb (pointsOf Wide)) counted ∙ lt-ltb (pointsOf Wide) n many))
             ∙ ap (refusal 15) at-count)
 
@@ -149,26 +146,26 @@ module _ (k : ℕ → List ℕ → Option (List ℕ)) (e r d n : ℕ) (s ts vs :
           formed : formIn s ≡ f
           formed = ap formOf (tagged ∙ named) ∙ form-of f
 
-          is-good : member (tagAt s (positionsAt s)) good ≡ true
-          is-good = ap (λ (t : ℕ). member t good) (tagged ∙ named) ∙ tag-good f
+          is-good : member (tagAt s (positionsAt s)) positionsTags ≡ true
+          is-good = ap (λ (t : ℕ). member t positionsTags) (tagged ∙ named) ∙ tag-good f
 
-          past-many : firstOf tests ≡ firstOf (fieldTests s good none (positionsAt s) ++ (test (missing (positionsIn s)) 17 (positionsAt s) ∷ ratiosTests k s))
+          past-many : firstOf tests ≡ firstOf (fieldTests s positionsTags none (positionsAt s) ++ (test (missing (positionsIn s)) 17 (positionsAt s) ∷ ratiosTests k s))
           past-many = past-room ∙ positions-few s (ratiosTests k s) (ap₂ (λ (x : Form) (c : ℕ). ltb (pointsOf x) c) formed counted ∙ le-ltb _ _ points)
 
           ten-body : length s < nextAt s (positionsAt s) → readWith k e s ts vs ≡ refusedBy 10 (positionsPlace d) ts vs
           ten-body h =
-              refuses 10 (positionsPlace d) (λ z. omega arith) (past-many ∙ sym (body-short s good none (positionsAt s) _ head is-good tt h) ∙ ap (refusal 10) at-positions)
+              refuses 10 (positionsPlace d) (λ z. omega arith) (past-many ∙ sym (body-short s positionsTags none (positionsAt s) _ head is-good tt h) ∙ ap (refusal 10) at-positions)
 
           seventeen : nextAt s (positionsAt s) ≤ length s → readPositions (tableOf f) n (bodyAt s (positionsAt s)) ≡ none → readWith k e s ts vs ≡ refusedBy 17 (positionsPlace d) ts vs
           seventeen h unread =
               refuses 17 (positionsPlace d) (λ z. omega arith)
               (past-many
-              ∙ field-good s good none (positionsAt s) _ head is-good tt h
+              ∙ field-good s positionsTags none (positionsAt s) _ head is-good tt h
               ∙ first-here _ _ (ap₂ (λ (x : Form) (c : ℕ). missing (readPositions (tableOf x) c (bodyAt s (positionsAt s)))) formed counted ∙ ap missing unread)
               ∙ ap (refusal 17) at-positions)
 
       -- positions that are read: the ratios' field is left
-      module _ (f : Form) (ps : List ℕ) (many : length ps ≡ n) (points : length ps ≤ pointsOf f) (valid : validPositions (tableOf f) ps ≡ true) (there : FieldStands s (positionsAt s) (fieldOfPoints f ps)) where
+      module _ (f : Form) (ps : List ℕ) (many : length ps ≡ n) (points : length ps ≤ pointsOf f) (valid : validPositions (tableOf f) ps ≡ true) (there : FieldStands s (positionsAt s) (positionsField f ps)) where
         as-counted : countIn s ≡ length ps
         as-counted = counted ∙ sym many
 
@@ -268,7 +265,7 @@ module _ (r d : ℕ) (f : Form) (ps rest : List ℕ) (listed : isRate r ≡ true
   front = frontFields r d (length ps)
 
   abbrev before : List ℕ
-  before = laid (front ++ (fieldOfPoints f ps ∷ []))
+  before = laid (front ++ (positionsField f ps ∷ []))
 
   abbrev whole : List ℕ
   whole = before ++ rest
@@ -279,24 +276,24 @@ module _ (r d : ℕ) (f : Form) (ps rest : List ℕ) (listed : isRate r ≡ true
   counts-points : length ps < 256 ^ countSize
   counts-points = omega (arith, few-points)
 
-  stood : StandAll whole rateAt (front ++ (fieldOfPoints f ps ∷ []))
+  stood : StandAll whole rateAt (front ++ (positionsField f ps ∷ []))
   stood =
-      laid-stand [] (front ++ (fieldOfPoints f ps ∷ [])) rest
-      (small-append front (fieldOfPoints f ps ∷ []) (front-small r d (length ps)) (omega (arith, coded-size f ps valid points, form-bodies f .0), tt))
+      laid-stand [] (front ++ (positionsField f ps ∷ [])) rest
+      (small-append front (positionsField f ps ∷ []) (front-small r d (length ps)) (omega (arith, coded-size f ps valid points, form-bodies f .0), tt))
 
-  parts : StandAll whole rateAt front × StandAll whole (pastAll whole rateAt front) (fieldOfPoints f ps ∷ [])
-  parts = stand-append whole rateAt front (fieldOfPoints f ps ∷ []) stood
+  parts : StandAll whole rateAt front × StandAll whole (pastAll whole rateAt front) (positionsField f ps ∷ [])
+  parts = stand-append whole rateAt front (positionsField f ps ∷ []) stood
 
   past : pastAll whole rateAt front ≡ positionsAt whole
   past = front-past whole r d (length ps) listed sided counts-points (parts .0)
 
-  points-stand : FieldStands whole (positionsAt whole) (fieldOfPoints f ps)
-  points-stand = subst (λ (p : ℕ). FieldStands whole p (fieldOfPoints f ps)) past (parts .1 .0)
+  points-stand : FieldStands whole (positionsAt whole) (positionsField f ps)
+  points-stand = subst (λ (p : ℕ). FieldStands whole p (positionsField f ps)) past (parts .1 .0)
 
   -- the ratios' field begins where these end
   before-length : length before ≡ ratiosAt whole
   before-length =
-      omega (arith, stand-past whole rateAt (front ++ (fieldOfPoints f ps ∷ [])) stood) ∙ past-append whole rateAt front (fieldOfPoints f ps ∷ []) ∙ ap (nextAt whole) past
+      omega (arith, stand-past whole rateAt (front ++ (positionsField f ps ∷ [])) stood) ∙ past-append whole rateAt front (positionsField f ps ∷ []) ∙ ap (nextAt whole) past
 
   whole-length : length whole ≡ ratiosAt whole + length rest
   whole-length = length-append before rest ∙ ap (λ (m : ℕ). m + length rest) before-length

@@ -10,8 +10,8 @@ use Rattle.ratio_format.specs.Bodies.{codedFrom, codedRatios}
 use Rattle.ratio_format.specs.Choice.{ratioForm}
 use Rattle.ratio_format.specs.Forms.{written}
 use Rattle.ratio_format.specs.Windows.{windowSize}
-use Rattle.record_format.specs.Fields.{fieldOf, bodyAt}
-use Rattle.record_format.specs.Runs.{Run, ratiosTag, recordOf}
+use Rattle.record_format.specs.Fields.{bodyAt}
+use Rattle.record_format.specs.Runs.{Run, ratiosField, recordOf}
 use Rattle.record_format.proofs.Fields.{length-field}
 use Rattle.record_format.proofs.Claims.Returned.{at-end, ratios-stand}
 use Rattle.record_format.proofs.Writing.{Fitting, fitting-few}
@@ -25,7 +25,7 @@ module _ (r : Run) (fit : Fitting r) (rest : List ℕ) where
 
   -- its body ends where the record ends
   pub body-end : bodyIn s + length (codedRatios (r .ratios)) ≡ length (recordOf r)
-  body-end = omega (arith, at-end r fit rest, ratios-stand r fit rest .next, length-field (fieldOf ratiosTag (codedRatios (r .ratios))))
+  body-end = omega (arith, at-end r fit rest, ratios-stand r fit rest .next, length-field (ratiosField (r .ratios)))
 
   -- so what stands after the offset where it begins is the body, and what follows the record
   pub body-within : take (length (codedRatios (r .ratios))) (drop (bodyIn s) s) ≡ codedRatios (r .ratios)

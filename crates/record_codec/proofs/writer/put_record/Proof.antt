@@ -6,11 +6,8 @@ use borrow.Author.Needs.{needs}
 use lib.ListN.{length}
 use Rattle.outputs.specs.Outputs.{Placed}
 use Rattle.outputs.specs.declared.Wrote.the-variants.{Done}
-use Rattle.position_format.specs.Positions.{codedPositions}
-use Rattle.position_format.specs.Tables.{tableOf}
-use Rattle.ratio_format.specs.Bodies.{codedRatios}
-use Rattle.record_format.specs.Fields.{Field, fieldOf, laid}
-use Rattle.record_format.specs.Runs.{Run, run, positionsTag, ratiosTag, frontFields, fieldsOf, recordOf}
+use Rattle.record_format.specs.Fields.{Field, laid}
+use Rattle.record_format.specs.Runs.{Run, run, positionsField, ratiosField, frontFields, fieldsOf, recordOf}
 use Rattle.record_parts.specs.Leads.{leadFields}
 use Rattle.record_parts.proofs.putting.Writings.{first-none, first-done, room-left, more-none, more-fits, more-done}
 use Rattle.record_codec.proofs.writer.put_record.Statement.{statement}
@@ -43,14 +40,14 @@ module _ (e : tie.Start) where
   lead = leadFields (e .args .rate) (e .args .side) (e .args .form) (e .args .positions .now)
 
   abbrev last : List Field
-  last = fieldOf ratiosTag (codedRatios (e .args .ratios .now)) ∷ []
+  last = ratiosField (e .args .ratios .now) ∷ []
 
   -- the last of them after all others
   last-then : fieldsOf given-run ≡ lead ++ last
   last-then =
       sym
       (append-assoc (frontFields (e .args .rate) (e .args .side) (length (e .args .positions .now)))
-      (fieldOf (positionsTag (e .args .form)) (codedPositions (tableOf (e .args .form)) (e .args .positions .now)) ∷ []) last)
+      (positionsField (e .args .form) (e .args .positions .now) ∷ []) last)
 
 module _ (k : tie.After-lead-end) where
   abbrev start : tie.Start

@@ -6,10 +6,8 @@ use borrow.Author.Needs.{needs}
 use lib.ListN.{length}
 use Rattle.outputs.specs.Outputs.{Placed}
 use Rattle.outputs.specs.declared.Wrote.the-variants.{Done}
-use Rattle.record_format.specs.Fields.{Field, fieldOf, laid}
-use Rattle.record_format.specs.Runs.{positionsTag, frontFields}
-use Rattle.position_format.specs.Positions.{codedPositions}
-use Rattle.position_format.specs.Tables.{tableOf}
+use Rattle.record_format.specs.Fields.{Field, laid}
+use Rattle.record_format.specs.Runs.{positionsField, frontFields}
 use Rattle.record_parts.specs.Leads.{leadFields}
 use Rattle.record_parts.proofs.putting.Writings.{first-none, first-done, room-left, more-none, more-fits, more-done}
 use Rattle.record_parts.proofs.putting.put_lead.Statement.{statement}
@@ -36,7 +34,7 @@ module _ (e : tie.Start) where
   front = frontFields (e .args .rate) (e .args .side) (length (e .args .positions .now))
 
   abbrev points : List Field
-  points = fieldOf (positionsTag (e .args .form)) (codedPositions (tableOf (e .args .form)) (e .args .positions .now)) ∷ []
+  points = positionsField (e .args .form) (e .args .positions .now) ∷ []
 
   abbrev all : List Field
   all = leadFields (e .args .rate) (e .args .side) (e .args .form) (e .args .positions .now)

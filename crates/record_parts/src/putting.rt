@@ -1,12 +1,12 @@
 // Fields put at the front of an output: those that hold a number, those of coded numbers, and the front of a record with its positions.
-ghost use mathlib.Core.List.{[], _∷_, _++_};
+ghost use mathlib.Core.List.{[], _∷_};
 ghost use mathlib.Core.Path.{_≡_};
 ghost use mathlib.Core.Bool.{true};
 ghost use Prim.Native.Nat.{_≤_};
-ghost use lib.ListN.{length, drop};
+ghost use lib.ListN.{length};
 ghost use Rattle.bits.specs.Digits.{bytesOf};
 ghost use Rattle.limits.specs.Points.{maxPoints};
-ghost use Rattle.outputs.specs.Outputs.{Placed, Left, Next};
+ghost use Rattle.outputs.specs.Outputs.{over, Placed, Left, Next};
 ghost use Rattle.position_format.specs.Positions.{validPositions};
 ghost use Rattle.position_format.specs.Tables.{tableOf};
 ghost use Rattle.record_format.specs.Fields.{fieldOf, headSize, laid};
@@ -16,6 +16,8 @@ ghost use Rattle.record_parts.specs.Leads.{leadFields};
 use super::coding::Coding;
 use super::coding::put_body;
 use super::coding::tag_of;
+use super::field::LENGTH_SIZE;
+use super::field::TAG_SIZE;
 use outputs::Wrote;
 use outputs::sum_of;
 use position_format::Form;
@@ -30,10 +32,10 @@ use record_format::SIDE_TAG;
 // The tag and the length of a field, at the front of the output.
 fn put_head(out: &mut [u8], tag: u8, n: usize)
     requires { ⌜ headSize ≤ length (now out) ⌝ }
-    ensures { λ _. ⌜ now (out .exit) ≡ tag ∷ (bytesOf 2 n ++ drop headSize (now (out .entry))) ⌝ }
+    ensures { λ _. ⌜ now (out .exit) ≡ over (tag ∷ bytesOf 2 n) (now (out .entry)) ⌝ }
 {
     out[0] = tag;
-    bits::put_bytes(out, 1, 2, n as u64);
+    bits::put_bytes(out, TAG_SIZE, LENGTH_SIZE, n as u64);
 }
 
 // A field that holds a number in n bytes, at the front of the output.

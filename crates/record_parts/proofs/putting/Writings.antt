@@ -3,7 +3,7 @@ use mathlib.Core.Path.{_≡_, refl, sym, ap, ap₂, _∙_, subst}
 use mathlib.Core.List.{List, [], _∷_, _++_, append-assoc, append-nil}
 use Prim.Native.Nat.{ℕ, zero, suc, _+_, _-_, _≤_, _<_}
 use native.Mathlib.Omega.{arith}
-use lib.ListN.{length, take, drop, set, length-drop}
+use lib.ListN.{length, take, drop, length-drop}
 use lib.Seq.{take-at, drop-at, drop-drop, length-take-le}
 use borrow.Rule.Slice.PartMut.{putMid}
 use Rattle.bits.specs.Digits.{bytesOf}
@@ -18,16 +18,19 @@ use Rattle.record_format.proofs.Fields.{length-field, length-laid, laid-append,
 
 -- ---- a head, and a field of a number
 
-pub head-on : (o bs : List ℕ) (tag : ℕ) → headSize ≤ length o → overAt (set o 0 tag) 1 2 bs ≡ tag ∷ (bs ++ drop headSize o)
-head-on [] bs tag h = absurd (omega arith)
-head-on (x ∷ o) bs tag h = refl
+-- a tag, and the length of a body of n bytes
+abbrev head-of : ℕ → ℕ → List ℕ
+head-of tag n = tag ∷ bytesOf 2 n
 
-module _ (o p q : List ℕ) (tag n x : ℕ) (h : p ≡ tag ∷ (bytesOf 2 n ++ drop headSize o)) (g : q ≡ overAt p headSize n (bytesOf n x)) where
-  abbrev lead : List ℕ
-  lead = tag ∷ bytesOf 2 n
+length-head : (tag n : ℕ) → length (head-of tag n) ≡ headSize
+length-head tag n = ap suc (length-digits 256 2 n)
 
-  led : length lead ≡ headSize
-  led = ap suc (length-digits 256 2 n)
+over-head : (tag n : ℕ) (o : List ℕ) → over (head-of tag n) o ≡ head-of tag n ++ drop headSize o
+over-head tag n o = ap (λ (k : ℕ). head-of tag n ++ drop k o) (length-head tag n)
+
+module _ (o p q : List ℕ) (tag n x : ℕ) (h : p ≡ over (tag ∷ bytesOf 2 n) o) (g : q ≡ overAt p headSize n (bytesOf n x)) where
+  headed : p ≡ head-of tag n ++ drop headSize o
+  headed = h ∙ over-head tag n o
 
   -- the body after the head
   pub number-on : q ≡ over (fieldBytes (fieldOf tag (bytesOf n x))) o
@@ -37,8 +40,8 @@ module _ (o p q : List ℕ) (tag n x : ℕ) (h : p ≡ tag ∷ (bytesOf 2 n ++ d
       let f : length (fieldBytes (fieldOf tag (bytesOf n x))) ≡ headSize + n = length-field (fieldOf tag (bytesOf n x)) ∙ ap (λ (k : ℕ). headSize + k) l in
       g
       ∙ ap₂ (λ (a b : List ℕ). a ++ (bytesOf n x ++ b))
-      (ap (take headSize) h ∙ take-at lead (drop headSize o) headSize led)
-      (ap (drop (headSize + n)) h ∙ sym (drop-drop n headSize (lead ++ drop headSize o)) ∙ ap (drop n) (drop-at lead (drop headSize o) headSize led) ∙ drop-drop n headSize o)
+      (ap (take headSize) headed ∙ take-at (head-of tag n) (drop headSize o) headSize (length-head tag n))
+      (ap (drop (headSize + n)) headed ∙ sym (drop-drop n headSize (head-of tag n ++ drop headSize o)) ∙ ap (drop n) (drop-at (head-of tag n) (drop headSize o) headSize (length-head tag n)) ∙ drop-drop n headSize o)
       ∙ ap₂ (λ (k m : ℕ). tag ∷ (bytesOf 2 k ++ (bytesOf n x ++ drop m o))) (sym l) (sym f)
       ∙ sym (append-assoc (tag ∷ bytesOf 2 (length (bytesOf n x))) (bytesOf n x) (drop (length (fieldBytes (fieldOf tag (bytesOf n x)))) o))
 
@@ -74,7 +77,7 @@ module _ (tag : ℕ) (body o q : List ℕ) (w : Wrote) (h : headSize ≤ length 
     pub field-fits : n + headSize ≤ length o
     field-fits = omega (arith, body-done .0, body-done .1, length-drop headSize o)
 
-    pub field-done : (r : List ℕ) (t : ℕ) → t ≡ tag → r ≡ t ∷ (bytesOf 2 n ++ drop headSize (putMid headSize (length o - headSize) o q)) → Placed (laid (fieldOf tag body ∷ [])) (Done (n + headSize)) o r
+    pub field-done : (r : List ℕ) (t : ℕ) → t ≡ tag → r ≡ over (t ∷ bytesOf 2 n) (putMid headSize (length o - headSize) o q) → Placed (laid (fieldOf tag body ∷ [])) (Done (n + headSize)) o r
     unfolding fieldBytes
     field-done r t tagged g =
         let f : headSize + length body ≡ length (fieldBytes (fieldOf tag body)) = sym (length-field (fieldOf tag body)) in
@@ -82,6 +85,7 @@ module _ (tag : ℕ) (body o q : List ℕ) (w : Wrote) (h : headSize ≤ length 
           omega (arith, body-done .0, f),
           omega (arith, field-fits, body-done .0, f),
           g
+              ∙ over-head t n (putMid headSize (length o - headSize) o q)
               ∙ ap (λ (x : ℕ). x ∷ (bytesOf 2 n ++ drop headSize (putMid headSize (length o - headSize) o q))) tagged
               ∙ ap (λ (l : List ℕ). tag ∷ (bytesOf 2 n ++ l))
               (ap (drop headSize) (put-rest headSize o q) ∙ drop-at (take headSize o) q headSize (length-take-le headSize o h) ∙ body-done .2 ∙ ap (λ (l : List ℕ). body ++ l) (drop-drop (length body) headSize o))

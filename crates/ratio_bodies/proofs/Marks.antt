@@ -13,7 +13,7 @@ use Rattle.lists.specs.Compare.{begins}
 use Rattle.ratio_format.specs.declared.Read.the-variants.{Ratio}
 use Rattle.ratio_format.specs.Windows.{windowSize, windowOf}
 use Rattle.ratio_format.specs.Choice.{find}
-use Rattle.ratio_format.specs.Forms.{coded}
+use Rattle.ratio_format.specs.RatioForms.{coded}
 use Rattle.ratio_format.specs.Open.{openRead}
 use Rattle.ratio_format.proofs.Windows.{window-few}
 use Rattle.ratio_format.proofs.Choice.{find-first}

@@ -4,7 +4,7 @@ ghost use Prim.Native.Nat.{_-_, _%_, _≤_, _<_};
 ghost use lib.ListN.{length, take, drop, getD, set};
 ghost use Rattle.lists.specs.Compare.{begins};
 ghost use Rattle.ratio_format.specs.Windows.{windowSize, windowOf};
-ghost use Rattle.ratio_format.specs.Forms.{coded};
+ghost use Rattle.ratio_format.specs.RatioForms.{coded};
 ghost use Rattle.ratio_format.specs.Open.{openRead};
 ghost use Rattle.ratio_format.specs.declared.Read.the-variants.{Ratio};
 ghost use Rattle.ratio_search.specs.BytePlanes.{slots, Planes};

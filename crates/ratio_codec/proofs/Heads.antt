@@ -21,12 +21,12 @@ use Rattle.ratio_format.specs.declared.Read.the-variants.{Ratio, Nothing}
 use Rattle.ratio_format.specs.Windows.{windowSize}
 use Rattle.ratio_format.specs.Zeros.{leadZeros, trailZeros}
 use Rattle.ratio_format.specs.Choice.{best, ratioForm}
-use Rattle.ratio_format.specs.Forms.{written, coded}
+use Rattle.ratio_format.specs.RatioForms.{written, coded}
 use Rattle.ratio_format.specs.Open.{openRead, openXor}
 use Rattle.ratio_format.proofs.Zeros.{trail-le, pos-256}
 use Rattle.ratio_format.proofs.Zeros.Sums.{xor-back}
-use Rattle.ratio_format.proofs.Choice.{form-cases, bestXor, best-at}
-use Rattle.ratio_codec.specs.Heads.{formHead}
+use Rattle.ratio_format.proofs.Choice.{ratio-form-cases, bestXor, best-at}
+use Rattle.ratio_codec.specs.Heads.{ratioFormHead}
 
 -- the tests of one byte and of two
 
@@ -132,10 +132,10 @@ module _ (v k : ℕ) (w : List ℕ) (hw : length w ≤ windowSize) where
       go false f = refl
       go true f = at (leb 8 (length r)) refl (ap (λ (x : ℕ). openRead w (x ∷ r)) (eqb-true 255 b f) ∙ e)
 
-  pub head-decides : (s : List ℕ) → Below 256 s → openRead w s ≡ Ratio v k → begins (coded v w) s ≡ begins (formHead (ratioForm v w)) s
+  pub head-decides : (s : List ℕ) → Below 256 s → openRead w s ≡ Ratio v k → begins (coded v w) s ≡ begins (ratioFormHead (ratioForm v w)) s
   unfolding coded written
   head-decides s hs e =
-      form-cases v w (λ (f : RatioForm). begins (written v f) s ≡ begins (formHead f) s)
+      ratio-form-cases v w (λ (f : RatioForm). begins (written v f) s ≡ begins (ratioFormHead f) s)
       (λ h. refl)
       (λ h g. let x = bestXor v w in xor-head (best v w .place) (trailZeros x) (8 - (leadZeros x + trailZeros x)) s hs (best-at v w (omega arith) .0) (omega (arith, trail-le x)) e)
       (λ h g. exception-head s hs e)

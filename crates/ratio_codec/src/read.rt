@@ -7,8 +7,8 @@ ghost use Rattle.bits.specs.Digits.{numberOf};
 ghost use Rattle.lists.specs.Compare.{begins};
 ghost use Rattle.ratio_format.specs.Windows.{windowSize};
 ghost use Rattle.ratio_format.specs.Open.{openXor, openRead, strictRead};
-ghost use Rattle.ratio_format.specs.Forms.{Fit};
-ghost use Rattle.ratio_codec.specs.Heads.{formHead};
+ghost use Rattle.ratio_format.specs.RatioForms.{Fit};
+ghost use Rattle.ratio_codec.specs.Heads.{ratioFormHead};
 use super::EXCEPTION;
 use super::XOR;
 use super::search::pass_equal;
@@ -110,7 +110,7 @@ fn has_two(s: &[u8], a: usize, b: usize) -> bool
 // Whether the bytes begin as the form does.
 pub fn has_head(f: RatioForm, s: &[u8]) -> bool
     requires { ⌜ Fit windowSize f ⌝ }
-    ensures { λ r. ⌜ r ≡ begins (formHead f) (now (s .entry)) ⌝ }
+    ensures { λ r. ⌜ r ≡ begins (ratioFormHead f) (now (s .entry)) ⌝ }
 {
     match f {
         RatioForm::Reference(place) => has_one(s, place),

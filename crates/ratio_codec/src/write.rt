@@ -7,7 +7,7 @@ ghost use Rattle.bits.specs.Digits.{bytesOf};
 ghost use Rattle.outputs.specs.Outputs.{Placed};
 ghost use Rattle.ratio_format.specs.Choice.{ratioForm};
 ghost use Rattle.ratio_format.specs.Windows.{windowSize};
-ghost use Rattle.ratio_format.specs.Forms.{written, coded, Fit};
+ghost use Rattle.ratio_format.specs.RatioForms.{written, coded, Fit};
 ghost use Rattle.ratio_window.specs.Searched.{Searched};
 use super::EXCEPTION;
 use super::XOR;
@@ -19,7 +19,7 @@ use ratio_window::Best;
 use ratio_window::trail_zeros;
 
 // The form of v, by what a search of the window found.
-pub fn form_of(b: Best, window: &[u64], v: u64) -> RatioForm
+pub fn ratio_form_of(b: Best, window: &[u64], v: u64) -> RatioForm
     requires { ⌜ Searched v (reverse (now window)) (b .place) (b .sum) ⌝ }
     ensures { λ r. ⌜ r ≡ ratioForm v (reverse (now (window .entry))) ⌝ }
 {
@@ -46,7 +46,7 @@ pub fn choose(window: &[u64], v: u64) -> RatioForm
     ensures { λ r. ⌜ r ≡ ratioForm v (reverse (now (window .entry))) ⌝ }
 {
     let b = search(window, v);
-    form_of(b, window, v)
+    ratio_form_of(b, window, v)
 }
 
 // The byte of a place.
@@ -88,7 +88,7 @@ fn put_exception(out: &mut [u8], v: u64) -> Wrote
 }
 
 // The bytes of v in the form f, of a window of our size.
-pub fn put_form(f: RatioForm, v: u64, out: &mut [u8]) -> Wrote
+pub fn put_ratio_form(f: RatioForm, v: u64, out: &mut [u8]) -> Wrote
     requires { ⌜ Fit windowSize f ⌝ }
     ensures { λ r. ⌜ Placed (written v f) r (now (out .entry)) (now (out .exit)) ⌝ }
 {
@@ -110,5 +110,5 @@ pub fn encode(window: &[u64], v: u64, out: &mut [u8]) -> Wrote
     ensures { λ r. ⌜ Placed (coded v (reverse (now (window .entry)))) r (now (out .entry)) (now (out .exit)) ⌝ }
 {
     let f = choose(window, v);
-    put_form(f, v, out)
+    put_ratio_form(f, v, out)
 }

@@ -24,12 +24,12 @@ use Rattle.ratio_format.specs.declared.Read.the-variants.{Ratio, Nothing
 use Rattle.ratio_format.specs.Zeros.{leadZeros, trailZeros, sumOf}
 use Rattle.ratio_format.specs.Windows.{windowSize}
 use Rattle.ratio_format.specs.Choice.{best, find, ratioForm}
-use Rattle.ratio_format.specs.Forms.{written, coded}
+use Rattle.ratio_format.specs.RatioForms.{written, coded}
 use Rattle.ratio_format.specs.Open.{openRead, openXor, strictRead, strictOf}
 use Rattle.ratio_format.proofs.Zeros.{trail-factor, middle-fits, raised-fits, zeros-most}
 use Rattle.ratio_format.proofs.Zeros.Sums.{xor-back}
-use Rattle.ratio_format.proofs.Choice.{best-at, best-most, find-at, find-lt, form-cases, best-xor, absent-small}
-use Rattle.ratio_format.proofs.Forms.{formLen, coded-is, coded-length}
+use Rattle.ratio_format.proofs.Choice.{best-at, best-most, find-at, find-lt, ratio-form-cases, best-xor, absent-small}
+use Rattle.ratio_format.proofs.RatioForms.{ratioFormLen, coded-is, coded-length}
 
 -- ---- what is read, by outcome
 
@@ -132,10 +132,10 @@ module _ (w rest : List ℕ) (small : length w ≤ windowSize) where
       rw (le-leb 8 (length (bytesOf 8 v ++ rest)) (rw (length-append, length-digits) (omega arith)), take-at (bytesOf 8 v) rest 8 (length-digits 256 8 v), number-digits-lt (lit< tt) 8 h)
 
 module _ (v : ℕ) (w rest : List ℕ) (hv : v < 2 ^ 64) (ha : Below (2 ^ 64) w) (hw : length w ≤ windowSize) where
-  by-form : openRead w (written v (ratioForm v w) ++ rest) ≡ Ratio v (formLen (ratioForm v w))
+  by-form : openRead w (written v (ratioForm v w) ++ rest) ≡ Ratio v (ratioFormLen (ratioForm v w))
   unfolding written
   by-form =
-      form-cases v w (λ (f : RatioForm). openRead w (written v f ++ rest) ≡ Ratio v (formLen f))
+      ratio-form-cases v w (λ (f : RatioForm). openRead w (written v f ++ rest) ≡ Ratio v (ratioFormLen f))
       (λ h. read-reference w rest hw v (find v w) h (find-at v w h))
       (λ h g.
       let b = best-at v w (omega arith) in
@@ -262,7 +262,7 @@ module _ (w s : List ℕ) (v k : ℕ) (hs : Below 256 s) (ha : Below (2 ^ 64) w)
   unfolding sumOf
   short-of (referred p h g e q) =
       rw coded-is
-      (form-cases v w (λ (f : RatioForm). formLen f ≤ k)
+      (ratio-form-cases v w (λ (f : RatioForm). ratioFormLen f ≤ k)
       (λ _. omega arith)
       (λ l _. absurd (omega (arith, find-lt v w p h (sym e))))
       (λ l _. absurd (omega (arith, find-lt v w p h (sym e)))))
@@ -273,7 +273,7 @@ module _ (w s : List ℕ) (v k : ℕ) (hs : Below 256 s) (ha : Below (2 ^ 64) w)
       let z : 8 - n ≤ sumOf v u = rw x (zeros-most m n t (part-lt n 2 s hs f) g) in
       let b = best-most v w p h in
       rw coded-is
-      (form-cases v w (λ (f : RatioForm). formLen f ≤ k)
+      (ratio-form-cases v w (λ (f : RatioForm). ratioFormLen f ≤ k)
       (λ _. omega arith)
       (λ _ i. omega (arith, best-xor v w i))
       (λ _ i. omega arith))

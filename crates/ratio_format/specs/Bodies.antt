@@ -22,7 +22,7 @@ use Rattle.lists.specs.Compare.{both, same}
 use Rattle.ratio_format.specs.declared.Read.{Read}
 use Rattle.ratio_format.specs.declared.Read.the-variants.{Ratio, Nothing}
 use Rattle.ratio_format.specs.Windows.{windowSize, push}
-use Rattle.ratio_format.specs.Forms.{coded}
+use Rattle.ratio_format.specs.RatioForms.{coded}
 use Rattle.ratio_format.specs.Open.{openRead, strictRead}
 
 -- each ratio goes into the window after it is coded

@@ -13,7 +13,7 @@ use Rattle.lists.specs.Compare.{begins}
 use Rattle.bits.specs.Digits.{numberOf}
 use Rattle.ratio_format.specs.declared.Read.{Read}
 use Rattle.ratio_format.specs.declared.Read.the-variants.{Ratio, Nothing}
-use Rattle.ratio_format.specs.Forms.{coded}
+use Rattle.ratio_format.specs.RatioForms.{coded}
 
 -- the counts' sum is at most 8, a length of 0 is allowed, and the middle is put at its height and xored with u
 unfoldable pub openXor : ℕ → List ℕ → Read

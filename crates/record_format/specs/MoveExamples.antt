@@ -26,7 +26,7 @@ use Rattle.position_format.specs.Steps.{stepsFrom, steps}
 use Rattle.position_format.specs.Positions.{stepBits, positionBits, codedPositions, validPositions, stepAt, decodedSteps, decodedBits, decoded, readPositions}
 use Rattle.ratio_format.specs.Zeros.{zerosAt, leadZeros, trailZeros, sumOf}
 use Rattle.ratio_format.specs.Choice.{find, best, ratioForm}
-use Rattle.ratio_format.specs.Forms.{written, coded}
+use Rattle.ratio_format.specs.RatioForms.{written, coded}
 use Rattle.ratio_format.specs.Open.{openXor, openRead}
 use Rattle.ratio_format.specs.Bodies.{codedFrom, openFrom, strictRatios}
 use Rattle.record_format.specs.Fields.{fieldBytes, laid, tagAt, lengthAt, bodyAt, nextAt}

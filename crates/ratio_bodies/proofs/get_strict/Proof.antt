@@ -11,7 +11,7 @@ use lib.ListN.{length, getD, take, drop, set, replicate}
 use Rattle.lists.specs.Compare.{begins}
 use Rattle.ratio_format.specs.declared.Read.the-variants.{Ratio, Nothing}
 use Rattle.ratio_format.specs.Windows.{windowSize, windowOf}
-use Rattle.ratio_format.specs.Forms.{coded}
+use Rattle.ratio_format.specs.RatioForms.{coded}
 use Rattle.ratio_format.specs.Open.{openRead, strictRead}
 use Rattle.ratio_format.proofs.Open.{strict-nothing, strict-good, strict-other}
 use Rattle.ratio_format.proofs.Bodies.Taken.{strict-within}

@@ -14,7 +14,7 @@ use Rattle.bits.specs.Digits.{numberOf}
 use Rattle.ratio_format.specs.declared.Read.the-variants.{Ratio, Nothing}
 use Rattle.ratio_format.specs.Windows.{windowSize}
 use Rattle.ratio_format.specs.Choice.{find, ratioForm}
-use Rattle.ratio_format.specs.Forms.{written, coded}
+use Rattle.ratio_format.specs.RatioForms.{written, coded}
 use Rattle.ratio_format.specs.Open.{openRead, openXor, strictRead}
 use Rattle.ratio_format.proofs.Choice.{find-at, find-lt}
 use Rattle.ratio_format.proofs.Open.{open-reference, strict-good, strict-other}

@@ -12,7 +12,7 @@ use Rattle.lists.proofs.Below.{below-drop}
 use Rattle.ratio_format.specs.declared.Read.{Read}
 use Rattle.ratio_format.specs.declared.Read.the-variants.{Ratio, Nothing}
 use Rattle.ratio_format.specs.Windows.{windowSize, push}
-use Rattle.ratio_format.specs.Forms.{coded}
+use Rattle.ratio_format.specs.RatioForms.{coded}
 use Rattle.ratio_format.specs.Open.{openRead}
 use Rattle.ratio_format.specs.Bodies.{codedFrom, openFrom, before, atEnd, onRatio}
 use Rattle.ratio_format.proofs.Windows.{push-length, push-below}

@@ -16,7 +16,7 @@ use Rattle.lists.proofs.Below.{below-drop}
 use Rattle.ratio_format.specs.declared.Read.{Read}
 use Rattle.ratio_format.specs.declared.Read.the-variants.{Ratio, Nothing}
 use Rattle.ratio_format.specs.Windows.{windowSize, push}
-use Rattle.ratio_format.specs.Forms.{coded}
+use Rattle.ratio_format.specs.RatioForms.{coded}
 use Rattle.ratio_format.specs.Open.{openRead, strictRead}
 use Rattle.ratio_format.specs.Bodies.{codedFrom, codedRatios, before, openRatios, strictRatios, Taken, noneTaken, andTaken, onTaken, takenFrom, openTaken, strictTaken, wholeTaken}
 use Rattle.ratio_format.proofs.Windows.{push-length, push-below}

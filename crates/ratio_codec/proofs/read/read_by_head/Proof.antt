@@ -8,9 +8,9 @@ use Rattle.lists.proofs.Below.{below-of}
 use Rattle.ratio_format.specs.declared.RatioForm.{RatioForm}
 use Rattle.ratio_format.specs.declared.Read.the-variants.{Ratio}
 use Rattle.ratio_format.specs.Windows.{windowSize}
-use Rattle.ratio_format.specs.Forms.{coded}
+use Rattle.ratio_format.specs.RatioForms.{coded}
 use Rattle.ratio_format.proofs.Open.{strict-nothing, strict-good, strict-other}
-use Rattle.ratio_codec.specs.Heads.{formHead}
+use Rattle.ratio_codec.specs.Heads.{ratioFormHead}
 use Rattle.ratio_codec.proofs.write.Chosen.{chosen-fit}
 use Rattle.ratio_codec.proofs.Heads.{head-decides}
 use borrow.Author.Needs.{needs}
@@ -74,7 +74,7 @@ module _ (c : tie.After-has-head) where
   says =
       let k = read .before .shared-slice-known2 in
       let h : length (reverse l) ≤ windowSize = rw length-reverse (start .pre) in
-      c .has-head .ensures ∙ ap (λ (f : RatioForm). begins (formHead f) s) (c .before .choose .ensures)
+      c .has-head .ensures ∙ ap (λ (f : RatioForm). begins (ratioFormHead f) s) (c .before .choose .ensures)
       ∙ sym (head-decides v n (reverse l) h s (below-of 256 s (λ i. k .given i .fits)) (sym (read .read-open .ensures) ∙ is))
 
 returns-2 : tie.Need-returns-2

@@ -22,7 +22,7 @@ use Rattle.ratio_format.specs.Windows.{windowSize}
 use Rattle.ratio_format.specs.Zeros.{leadZeros, trailZeros}
 use Rattle.ratio_format.specs.Choice.{best, ratioForm}
 use Rattle.ratio_format.specs.RatioForms.{written, coded}
-use Rattle.ratio_format.specs.Open.{openRead, openXor}
+use Rattle.ratio_format.specs.Open.{openOne, openXor}
 use Rattle.ratio_format.proofs.Zeros.{trail-le, pos-256}
 use Rattle.ratio_format.proofs.Zeros.Sums.{xor-back}
 use Rattle.ratio_format.proofs.Choice.{ratio-form-cases, bestXor, best-at}
@@ -80,9 +80,9 @@ module _ (v k : ℕ) (w : List ℕ) (hw : length w ≤ windowSize) where
   never e = let z : _≡_ {A = ℕ} 0 1 = cc in absurd (omega arith)
 
   -- after the head of an xor form the middle stands as it is written
-  xor-middle : (p t n : ℕ) (r : List ℕ) → Below 256 r → p < length w → t + n ≤ 8 → openRead w ((p + 128) ∷ (t * 16 + n) ∷ r) ≡ Ratio v k
+  xor-middle : (p t n : ℕ) (r : List ℕ) → Below 256 r → p < length w → t + n ≤ 8 → openOne w ((p + 128) ∷ (t * 16 + n) ∷ r) ≡ Ratio v k
       → begins (bytesOf n (bitXor v (getD w p 0) / 256 ^ t)) r ≡ true
-  unfolding openRead openXor
+  unfolding openOne openXor
   xor-middle p t n r hr h g e =
       let a : p + 128 - 128 ≡ p = omega arith in
       let b : (t * 16 + n) / 16 ≡ t = omega arith in
@@ -101,7 +101,7 @@ module _ (v k : ℕ) (w : List ℕ) (hw : length w ≤ windowSize) where
           ap (λ (x : ℕ). begins (bytesOf n x) r) y ∙ begins-number n r hr (leb-true n (length r) f)
       go false f e = never e
 
-  xor-head : (p t n : ℕ) (s : List ℕ) → Below 256 s → p < length w → t + n ≤ 8 → openRead w s ≡ Ratio v k
+  xor-head : (p t n : ℕ) (s : List ℕ) → Below 256 s → p < length w → t + n ≤ 8 → openOne w s ≡ Ratio v k
       → begins ((p + 128) ∷ (t * 16 + n) ∷ bytesOf n (bitXor v (getD w p 0) / 256 ^ t)) s ≡ begins ((p + 128) ∷ (t * 16 + n) ∷ []) s
   unfolding begins Below
   xor-head p t n [] hs h g e = refl
@@ -114,11 +114,11 @@ module _ (v k : ℕ) (w : List ℕ) (hw : length w ≤ windowSize) where
       go true f false i = refl
       go true f true i =
           xor-middle p t n r (hs .1 .1) h g
-          (ap₂ (λ (x y : ℕ). openRead w (x ∷ y ∷ r)) (eqb-true (p + 128) b f) (eqb-true (t * 16 + n) c i) ∙ e)
+          (ap₂ (λ (x y : ℕ). openOne w (x ∷ y ∷ r)) (eqb-true (p + 128) b f) (eqb-true (t * 16 + n) c i) ∙ e)
 
   -- and after that of an exception the ratio
-  exception-head : (s : List ℕ) → Below 256 s → openRead w s ≡ Ratio v k → begins (255 ∷ bytesOf 8 v) s ≡ begins (255 ∷ []) s
-  unfolding begins openRead Below
+  exception-head : (s : List ℕ) → Below 256 s → openOne w s ≡ Ratio v k → begins (255 ∷ bytesOf 8 v) s ≡ begins (255 ∷ []) s
+  unfolding begins openOne Below
   exception-head [] hs e = refl
   exception-head (b ∷ r) hs e = go (eqb 255 b) refl
     where
@@ -130,9 +130,9 @@ module _ (v k : ℕ) (w : List ℕ) (hw : length w ≤ windowSize) where
 
       go : (x : Bool) → eqb 255 b ≡ x → both x (begins (bytesOf 8 v) r) ≡ both x true
       go false f = refl
-      go true f = at (leb 8 (length r)) refl (ap (λ (x : ℕ). openRead w (x ∷ r)) (eqb-true 255 b f) ∙ e)
+      go true f = at (leb 8 (length r)) refl (ap (λ (x : ℕ). openOne w (x ∷ r)) (eqb-true 255 b f) ∙ e)
 
-  pub head-decides : (s : List ℕ) → Below 256 s → openRead w s ≡ Ratio v k → begins (coded v w) s ≡ begins (ratioFormHead (ratioForm v w)) s
+  pub head-decides : (s : List ℕ) → Below 256 s → openOne w s ≡ Ratio v k → begins (coded v w) s ≡ begins (ratioFormHead (ratioForm v w)) s
   unfolding coded written
   head-decides s hs e =
       ratio-form-cases v w (λ (f : RatioForm). begins (written v f) s ≡ begins (ratioFormHead f) s)

@@ -14,7 +14,7 @@ use Rattle.bits.specs.Digits.{numberOf}
 use Rattle.ratio_format.specs.declared.Read.{Read}
 use Rattle.ratio_format.specs.declared.Read.the-variants.{Ratio, Nothing}
 use Rattle.ratio_format.specs.Windows.{windowSize, windowOf}
-use Rattle.ratio_format.specs.Open.{openRead, openXor}
+use Rattle.ratio_format.specs.Open.{openOne, openXor}
 use Rattle.ratio_format.proofs.Open.{xor-high, xor-good, open-reference, open-far, open-xor, open-away, open-exception}
 use Rattle.ratio_format.proofs.Windows.{window-few}
 use Rattle.ratio_codec.proofs.read.References.{Named}
@@ -53,7 +53,7 @@ pub ahead-some : (at : ℕ) (l : List ℕ) → at + 10 ≤ length l → length (
 ahead-some at l h e = omega (arith, length-drop at l)
 
 pub ahead-exception : (w : List ℕ) (at : ℕ) (l : List ℕ) → at + 10 ≤ length l → (v : ℕ) → getD l at 0 ≡ 255
-    → v ≡ numberOf 256 (take 8 (drop (at + 1) l)) → Ratio v 9 ≡ openRead w (drop at l)
+    → v ≡ numberOf 256 (take 8 (drop (at + 1) l)) → Ratio v 9 ≡ openOne w (drop at l)
 ahead-exception w at l h v b e =
     open-exception w (drop at l) v (omega (arith, rest-first at l, b)) (omega (arith, length-drop at l)) (rw (drop-drop 1 at l) e)
 
@@ -67,17 +67,17 @@ module _ (rs : List ℕ) (i : ℕ) (room : i ≤ length rs) where
 
   module _ (s : List ℕ) (b : ℕ) (is : getD s 0 0 ≡ b) (filled : length s ≡ 0 → ⊥) (byte : b < 256) (plain : b ≡ 255 → ⊥) where
     -- no ratio stands at the place
-    place-none : length w ≤ b % 128 → Nothing ≡ openRead w s
+    place-none : length w ≤ b % 128 → Nothing ≡ openOne w s
     place-none h = go (ltb b 128) refl
       where
-        go : (t : Bool) → ltb b 128 ≡ t → Nothing ≡ openRead w s
+        go : (t : Bool) → ltb b 128 ≡ t → Nothing ≡ openOne w s
         go true e = let l = ltb-true b 128 e in open-far w s filled (omega arith) (omega arith)
         go false e = let l = ltb-false b 128 e in open-away w s filled (omega arith) (omega arith) (omega arith)
 
-    pub place-far : i ≤ b % 128 → Nothing ≡ openRead w s
+    pub place-far : i ≤ b % 128 → Nothing ≡ openOne w s
     place-far h = place-none (omega (arith, most))
 
-    pub place-past : b % 128 ≡ windowSize → Nothing ≡ openRead w s
+    pub place-past : b % 128 ≡ windowSize → Nothing ≡ openOne w s
     place-past e = place-none (omega (arith, most))
 
     -- one does
@@ -88,12 +88,12 @@ module _ (rs : List ℕ) (i : ℕ) (room : i ≤ length rs) where
       holds : (p : ℕ) → p ≡ b % 128 → (p < length w) × (v ≡ getD w p 0)
       holds p e = rw e (window-has windowSize rs i room (b % 128) few in-list, at ∙ sym (window-at windowSize rs i room (b % 128) few in-list))
 
-      pub place-reference : b < 128 → Ratio v 1 ≡ openRead w s
+      pub place-reference : b < 128 → Ratio v 1 ≡ openOne w s
       place-reference l =
           let h = holds (getD s 0 0) (omega arith) in
           open-reference w s v filled (omega arith) (h .0) (h .1)
 
-      pub place-xor : 128 ≤ b → (r : Read) → r ≡ openXor v (drop 1 s) → r ≡ openRead w s
+      pub place-xor : 128 ≤ b → (r : Read) → r ≡ openXor v (drop 1 s) → r ≡ openOne w s
       place-xor l r e =
           let h = holds (getD s 0 0 - 128) (omega arith) in
           open-xor w s v r filled (omega arith) (omega arith) (h .0) (h .1) e

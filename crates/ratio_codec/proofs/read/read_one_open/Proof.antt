@@ -1,4 +1,4 @@
--- `read_open` meets its contract: a law for each outcome.
+-- `read_one_open` meets its contract: a law for each outcome.
 use mathlib.Core.List.{reverse}
 use mathlib.Core.Path.{sym, ap, _∙_}
 use Prim.Native.Nat.{_-_}
@@ -9,8 +9,8 @@ use Rattle.ratio_format.proofs.Open.{open-empty, open-reference, open-far, open
 use Rattle.ratio_format.proofs.Windows.{reverse-back}
 use Rattle.outputs.proofs.Outputs.Parts.{rest-is}
 use borrow.Author.Needs.{needs}
-use Rattle.ratio_codec.proofs.read.read_open.Statement.{statement}
-use Rattle.ratio_codec.proofs.read.read_open.Tie as tie
+use Rattle.ratio_codec.proofs.read.read_one_open.Statement.{statement}
+use Rattle.ratio_codec.proofs.read.read_one_open.Tie as tie
 
 returns : tie.Need-returns
 returns c =
@@ -111,8 +111,8 @@ returns-7 c =
     let a = some .before .before .before .args in
     open-cut (reverse (a .window .now)) (a .s .now) (some .if1 .left) (c .before .if4 .left) (c .if6 .left)
 
-pub read-open-spec : {M : Type 1} → statement M
-read-open-spec =
+pub read-one-open-spec : {M : Type 1} → statement M
+read-one-open-spec =
     tie.close
     (tie.spec
     returns

@@ -17,7 +17,7 @@ use Rattle.lists.specs.Below.{Below}
 use Rattle.lists.proofs.Below.{below-at}
 use Rattle.ratio_format.specs.declared.RatioForm.{RatioForm}
 use Rattle.ratio_format.specs.declared.RatioForm.the-variants.{Reference, Xor, Exception}
-use Rattle.ratio_format.specs.Zeros.{leadZeros, trailZeros, sumOf}
+use Rattle.ratio_format.specs.Zeros.{equalSum, leadZeros, trailZeros, sumOf}
 use Rattle.ratio_format.specs.RatioForms.{Fit}
 use Rattle.ratio_format.specs.Choice.{Best, newer, best, find, ratioForm, xorForm}
 use Rattle.ratio_format.proofs.Zeros.{trail-le, middle-fits}
@@ -109,7 +109,7 @@ find-le v (u ∷ w) = go (find-le v w) (eqb v u)
 -- Of a window of n ratios with the best sum s at place p, and the ratio's own smallest place f: the ratio is in the window, s is 16 and
 -- p is f; or it is not, and s is below 8.
 abbrev pub FoundAt : ℕ → ℕ → ℕ → ℕ → Type 0
-FoundAt s p f n = ((s ≡ 16) × (f ≡ p) × (f < n)) ⊎ ((s < 8) × (f ≡ n))
+FoundAt s p f n = ((s ≡ equalSum) × (f ≡ p) × (f < n)) ⊎ ((s < 8) × (f ≡ n))
 
 pub found : (v : ℕ) (w : List ℕ) → v < 2 ^ 64 → Below (2 ^ 64) w → FoundAt (best v w .sum) (best v w .place) (find v w) (length w)
 unfolding best find Below
@@ -128,7 +128,7 @@ found v (u ∷ w) hv ha = go (found v w hv (ha .1)) (eqb v u) refl
     go : FoundAt (best v w .sum) (best v w .place) (find v w) (length w) → (t : Bool) → eqb v u ≡ t
         → FoundAt (newer (sumOf v u) (best v w) .sum) (newer (sumOf v u) (best v w) .place) (cond t 0 (find v w + 1)) (suc (length w))
     go ih true e =
-        let q : sumOf v u ≡ 16 = ap (sumOf v) (sym (eqb-true v u e)) ∙ sum-same v in
+        let q : sumOf v u ≡ equalSum = ap (sumOf v) (sym (eqb-true v u e)) ∙ sum-same v in
         rw (le-leb (best v w .sum) (sumOf v u) (⊎-elim (λ a. omega arith) (λ b. omega arith) ih)) (inl (q, refl, omega arith))
     go (inl a) false e = rw (lt-leb (best v w .sum) (sumOf v u) (omega (arith, other e))) (inl (a .0, omega arith, omega arith))
     go (inr b) false e = late (b .0) (b .1) (other e) (leb (best v w .sum) (sumOf v u))
@@ -139,7 +139,7 @@ xorOf b x = Xor (b .place) (trailZeros x) (8 - b .sum) (x / 256 ^ trailZeros x)
 
 -- the form, by the best alone
 module _ (v : ℕ) (w : List ℕ) (hv : v < 2 ^ 64) (ha : Below (2 ^ 64) w) where
-  pub ratio-form-reference : best v w .sum ≡ 16 → ratioForm v w ≡ Reference (best v w .place)
+  pub ratio-form-reference : best v w .sum ≡ equalSum → ratioForm v w ≡ Reference (best v w .place)
   unfolding ratioForm
   ratio-form-reference e =
       ⊎-elim
@@ -147,10 +147,10 @@ module _ (v : ℕ) (w : List ℕ) (hv : v < 2 ^ 64) (ha : Below (2 ^ 64) w) wher
       (λ b. absurd (omega arith))
       (found v w hv ha)
 
-  small : (best v w .sum ≡ 16 → ⊥) → (best v w .sum < 8) × (ltb (find v w) (length w) ≡ false)
+  small : (best v w .sum ≡ equalSum → ⊥) → (best v w .sum < 8) × (ltb (find v w) (length w) ≡ false)
   small n = ⊎-elim (λ a. absurd (n (a .0))) (λ b. (b .0, le-ltb (find v w) (length w) (omega arith))) (found v w hv ha)
 
-  pub ratio-form-xor : (best v w .sum ≡ 16 → ⊥) → 2 ≤ best v w .sum
+  pub ratio-form-xor : (best v w .sum ≡ equalSum → ⊥) → 2 ≤ best v w .sum
       → ratioForm v w ≡ xorOf (best v w) (bitXor v (getD w (best v w .place) 0))
   unfolding ratioForm sumOf
   ratio-form-xor n h =
@@ -162,7 +162,7 @@ module _ (v : ℕ) (w : List ℕ) (hv : v < 2 ^ 64) (ha : Below (2 ^ 64) w) wher
   ratio-form-exception h = rw (small (λ e. omega arith) .1, lt-leb 2 (best v w .sum) h)
 
   -- a sum other than 16 is below 8
-  pub sum-small : (best v w .sum ≡ 16 → ⊥) → best v w .sum < 8
+  pub sum-small : (best v w .sum ≡ equalSum → ⊥) → best v w .sum < 8
   sum-small n = small n .0
 
 -- What holds of the form: by cases of the choice.

@@ -24,7 +24,7 @@ use Rattle.ratio_format.specs.declared.Read.the-variants.{Ratio, Nothing
 use Rattle.ratio_format.specs.Zeros.{leadZeros, trailZeros, sumOf}
 use Rattle.ratio_format.specs.Windows.{windowSize}
 use Rattle.ratio_format.specs.Choice.{best, find, ratioForm}
-use Rattle.ratio_format.specs.RatioForms.{written, coded}
+use Rattle.ratio_format.specs.RatioForms.{xorByte, exceptionByte, written, coded}
 use Rattle.ratio_format.specs.Open.{openOne, openXor, strictOne, strictOf}
 use Rattle.ratio_format.proofs.Zeros.{trail-factor, middle-fits, raised-fits, zeros-most}
 use Rattle.ratio_format.proofs.Zeros.Sums.{xor-back}
@@ -63,36 +63,36 @@ module _ (w : List ℕ) where
   open-empty [] e = refl
   open-empty (c ∷ s) e = absurd (omega arith)
 
-  pub open-reference : (s : List ℕ) (v : ℕ) → (length s ≡ 0 → ⊥) → getD s 0 0 < 128 → getD s 0 0 < length w → v ≡ getD w (getD s 0 0) 0 → Ratio v 1 ≡ openOne w s
+  pub open-reference : (s : List ℕ) (v : ℕ) → (length s ≡ 0 → ⊥) → getD s 0 0 < xorByte → getD s 0 0 < length w → v ≡ getD w (getD s 0 0) 0 → Ratio v 1 ≡ openOne w s
   unfolding openOne
   open-reference [] v n h g e = absurd (n refl)
-  open-reference (b ∷ s) v n h g e = rw (lt-ltb b 128 h, lt-ltb b (length w) g, e)
+  open-reference (b ∷ s) v n h g e = rw (lt-ltb b xorByte h, lt-ltb b (length w) g, e)
 
-  pub open-far : (s : List ℕ) → (length s ≡ 0 → ⊥) → getD s 0 0 < 128 → length w ≤ getD s 0 0 → Nothing ≡ openOne w s
+  pub open-far : (s : List ℕ) → (length s ≡ 0 → ⊥) → getD s 0 0 < xorByte → length w ≤ getD s 0 0 → Nothing ≡ openOne w s
   unfolding openOne
   open-far [] n h g = absurd (n refl)
-  open-far (b ∷ s) n h g = rw (lt-ltb b 128 h, le-ltb b (length w) g)
+  open-far (b ∷ s) n h g = rw (lt-ltb b xorByte h, le-ltb b (length w) g)
 
-  pub open-xor : (s : List ℕ) (u : ℕ) (r : Read) → (length s ≡ 0 → ⊥) → 128 ≤ getD s 0 0 → getD s 0 0 < 255 → getD s 0 0 - 128 < length w
-      → u ≡ getD w (getD s 0 0 - 128) 0 → r ≡ openXor u (drop 1 s) → r ≡ openOne w s
+  pub open-xor : (s : List ℕ) (u : ℕ) (r : Read) → (length s ≡ 0 → ⊥) → xorByte ≤ getD s 0 0 → getD s 0 0 < exceptionByte → getD s 0 0 - xorByte < length w
+      → u ≡ getD w (getD s 0 0 - xorByte) 0 → r ≡ openXor u (drop 1 s) → r ≡ openOne w s
   unfolding openOne
   open-xor [] u r n h g f e q = absurd (n refl)
-  open-xor (b ∷ s) u r n h g f e q = rw (le-ltb b 128 h, lt-ltb b 255 g, lt-ltb (b - 128) (length w) f) (q ∙ ap (λ (x : ℕ). openXor x s) e)
+  open-xor (b ∷ s) u r n h g f e q = rw (le-ltb b xorByte h, lt-ltb b exceptionByte g, lt-ltb (b - xorByte) (length w) f) (q ∙ ap (λ (x : ℕ). openXor x s) e)
 
-  pub open-away : (s : List ℕ) → (length s ≡ 0 → ⊥) → 128 ≤ getD s 0 0 → getD s 0 0 < 255 → length w ≤ getD s 0 0 - 128 → Nothing ≡ openOne w s
+  pub open-away : (s : List ℕ) → (length s ≡ 0 → ⊥) → xorByte ≤ getD s 0 0 → getD s 0 0 < exceptionByte → length w ≤ getD s 0 0 - xorByte → Nothing ≡ openOne w s
   unfolding openOne
   open-away [] n h g f = absurd (n refl)
-  open-away (b ∷ s) n h g f = rw (le-ltb b 128 h, lt-ltb b 255 g, le-ltb (b - 128) (length w) f)
+  open-away (b ∷ s) n h g f = rw (le-ltb b xorByte h, lt-ltb b exceptionByte g, le-ltb (b - xorByte) (length w) f)
 
-  pub open-exception : (s : List ℕ) (v : ℕ) → 255 ≤ getD s 0 0 → 9 ≤ length s → v ≡ numberOf 256 (take 8 (drop 1 s)) → Ratio v 9 ≡ openOne w s
+  pub open-exception : (s : List ℕ) (v : ℕ) → exceptionByte ≤ getD s 0 0 → 9 ≤ length s → v ≡ numberOf 256 (take 8 (drop 1 s)) → Ratio v 9 ≡ openOne w s
   unfolding openOne
   open-exception [] v h g e = absurd (omega arith)
-  open-exception (b ∷ s) v h g e = rw (le-ltb b 128 (omega arith), le-ltb b 255 h, le-leb 8 (length s) (omega arith), e)
+  open-exception (b ∷ s) v h g e = rw (le-ltb b xorByte (omega arith), le-ltb b exceptionByte h, le-leb 8 (length s) (omega arith), e)
 
-  pub open-cut : (s : List ℕ) → (length s ≡ 0 → ⊥) → 255 ≤ getD s 0 0 → length s < 9 → Nothing ≡ openOne w s
+  pub open-cut : (s : List ℕ) → (length s ≡ 0 → ⊥) → exceptionByte ≤ getD s 0 0 → length s < 9 → Nothing ≡ openOne w s
   unfolding openOne
   open-cut [] n h g = absurd (n refl)
-  open-cut (b ∷ s) n h g = rw (le-ltb b 128 (omega arith), le-ltb b 255 h, lt-leb 8 (length s) (omega arith))
+  open-cut (b ∷ s) n h g = rw (le-ltb b xorByte (omega arith), le-ltb b exceptionByte h, lt-leb 8 (length s) (omega arith))
 
 -- strict reading, from an open one
 module _ (w s : List ℕ) (r : Read) (o : r ≡ openOne w s) where
@@ -114,19 +114,19 @@ module _ (w s : List ℕ) (r : Read) (o : r ≡ openOne w s) where
 module _ (w rest : List ℕ) (small : length w ≤ windowSize) where
   pub read-reference : (v p : ℕ) → p < length w → getD w p 0 ≡ v → openOne w (p ∷ rest) ≡ Ratio v 1
   unfolding openOne
-  read-reference v p h e = rw (lt-ltb p 128 (omega arith), lt-ltb p (length w) h) (ap (λ (x : ℕ). Ratio x 1) e)
+  read-reference v p h e = rw (lt-ltb p xorByte (omega arith), lt-ltb p (length w) h) (ap (λ (x : ℕ). Ratio x 1) e)
 
   pub read-xor : (p t n m : ℕ) → p < length w → t + n ≤ 8 → m < 256 ^ n
-      → openOne w ((p + 128) ∷ (t * 16 + n) ∷ (bytesOf n m ++ rest)) ≡ Ratio (bitXor (m * 256 ^ t) (getD w p 0)) (n + 2)
+      → openOne w ((p + xorByte) ∷ (t * 16 + n) ∷ (bytesOf n m ++ rest)) ≡ Ratio (bitXor (m * 256 ^ t) (getD w p 0)) (n + 2)
   unfolding openOne openXor
   read-xor p t n m h g f =
-      let a : p + 128 - 128 ≡ p = omega arith in
+      let a : p + xorByte - xorByte ≡ p = omega arith in
       let b : (t * 16 + n) / 16 ≡ t = omega arith in
       let c : (t * 16 + n) % 16 ≡ n = omega arith in
-      rw (le-ltb (p + 128) 128 (omega arith), lt-ltb (p + 128) 255 (omega arith), a, lt-ltb p (length w) h, b, c, le-leb (t + n) 8 g)
+      rw (le-ltb (p + xorByte) xorByte (omega arith), lt-ltb (p + xorByte) exceptionByte (omega arith), a, lt-ltb p (length w) h, b, c, le-leb (t + n) 8 g)
       (rw (le-leb n (length (bytesOf n m ++ rest)) (rw (length-append, length-digits) (omega arith)), take-at (bytesOf n m) rest n (length-digits 256 n m), number-digits-lt (lit< tt) n f))
 
-  pub read-exception : (v : ℕ) → v < 2 ^ 64 → openOne w (255 ∷ (bytesOf 8 v ++ rest)) ≡ Ratio v 9
+  pub read-exception : (v : ℕ) → v < 2 ^ 64 → openOne w (exceptionByte ∷ (bytesOf 8 v ++ rest)) ≡ Ratio v 9
   unfolding openOne
   read-exception v h =
       rw (le-leb 8 (length (bytesOf 8 v ++ rest)) (rw (length-append, length-digits) (omega arith)), take-at (bytesOf 8 v) rest 8 (length-digits 256 8 v), number-digits-lt (lit< tt) 8 h)
@@ -212,15 +212,15 @@ module _ (w : List ℕ) (v k : ℕ) where
   unfolding openOne
   opened [] e = never e
   opened (b ∷ s) e =
-      go (ltb b 128) (ltb b (length w)) refl (ltb b 255) (ltb (b - 128) (length w)) refl (leb 8 (length s)) refl e
+      go (ltb b xorByte) (ltb b (length w)) refl (ltb b exceptionByte) (ltb (b - xorByte) (length w)) refl (leb 8 (length s)) refl e
     where
-      go : (x y : Bool) → ltb b (length w) ≡ y → (f g : Bool) → ltb (b - 128) (length w) ≡ g → (n : Bool) → leb 8 (length s) ≡ n
+      go : (x y : Bool) → ltb b (length w) ≡ y → (f g : Bool) → ltb (b - xorByte) (length w) ≡ g → (n : Bool) → leb 8 (length s) ≡ n
           → When (cond x (cond y (Ratio (getD w b 0) 1) Nothing)
-          (cond f (cond g (openXor (getD w (b - 128) 0) s) Nothing) (cond n (Ratio (numberOf 256 (take 8 s)) 9) Nothing)))
+          (cond f (cond g (openXor (getD w (b - xorByte) 0) s) Nothing) (cond n (Ratio (numberOf 256 (take 8 s)) 9) Nothing)))
           → Opened w (b ∷ s) v k
       go true true y f g eg n en e = referred b (ltb-true b (length w) y) (omega arith) (cc) (cc)
       go true false y f g eg n en e = never e
-      go false x y true true eg n en e = xor-opened b (b - 128) s (ltb-true (b - 128) (length w) eg) e
+      go false x y true true eg n en e = xor-opened b (b - xorByte) s (ltb-true (b - xorByte) (length w) eg) e
       go false x y true false eg n en e = never e
       go false x y false g eg true en e = excepted (omega (arith, leb-true 8 (length s) en)) (cc) (cc)
       go false x y false g eg false en e = never e

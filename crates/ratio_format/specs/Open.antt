@@ -13,7 +13,7 @@ use Rattle.lists.specs.Compare.{begins}
 use Rattle.bits.specs.Digits.{numberOf}
 use Rattle.ratio_format.specs.declared.Read.{Read}
 use Rattle.ratio_format.specs.declared.Read.the-variants.{Ratio, Nothing}
-use Rattle.ratio_format.specs.RatioForms.{coded}
+use Rattle.ratio_format.specs.RatioForms.{xorByte, exceptionByte, coded}
 
 -- the counts' sum is at most 8, a length of 0 is allowed, and the middle is put at its height and xored with u
 unfoldable pub openXor : ℕ → List ℕ → Read
@@ -27,10 +27,10 @@ openXor u (c ∷ s) =
 unfoldable pub openOne : List ℕ → List ℕ → Read
 openOne w [] = Nothing
 openOne w (b ∷ s) =
-    cond (ltb b 128)
+    cond (ltb b xorByte)
     (cond (ltb b (length w)) (Ratio (getD w b 0) 1) Nothing)
-    (cond (ltb b 255)
-    (cond (ltb (b - 128) (length w)) (openXor (getD w (b - 128) 0) s) Nothing)
+    (cond (ltb b exceptionByte)
+    (cond (ltb (b - xorByte) (length w)) (openXor (getD w (b - xorByte) 0) s) Nothing)
     (cond (leb 8 (length s)) (Ratio (numberOf 256 (take 8 s)) 9) Nothing))
 
 -- an open reading whose bytes are those that are written for the ratio

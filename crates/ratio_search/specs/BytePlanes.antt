@@ -1,6 +1,6 @@
 -- Byte planes of a run of ratios: each byte of a ratio in a part of its own, so that one byte of many ratios stands together. Internal:
 -- document 01 says nothing of them.
---   slots                 how many ratios the planes hold
+--   slots                 how many ratios the planes hold: the window's size and one more
 --   cells                 how many bytes they have
 --   Differs ps v a b t    neither byte a nor byte b of slot t is that of v
 --   Planes ps l from to   the planes ps hold the bytes of the ratios of l from index `from` up to `to`
@@ -10,10 +10,11 @@ use mathlib.Core.Path.{_≡_}
 use Prim.Native.Nat.{ℕ, _+_, _-_, _*_, _%_, _≤_, _<_}
 use lib.ListN.{length, getD}
 use Rattle.bits.specs.Digits.{byteOf}
+use Rattle.ratio_format.specs.Windows.{windowSize}
 
--- the window's size and one more: a power of 2, so that a remainder is cheap
+-- a power of 2, so that a remainder is cheap
 abbrev pub slots : ℕ
-slots = 128
+slots = windowSize + 1
 
 -- eight bytes to a ratio
 abbrev pub cells : ℕ

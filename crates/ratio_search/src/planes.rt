@@ -5,9 +5,10 @@ ghost use lib.ListN.{length, getD};
 ghost use Rattle.bits.specs.Digits.{byteOf};
 ghost use Rattle.ratio_search.specs.BytePlanes.{slots, cells, Kept};
 use bits::byte_of;
+use ratio_format::Window;
 
-// How many ratios the planes hold: the ratio at index k stands in slot k % SLOTS.
-pub const SLOTS: usize = 128;
+// How many ratios the planes hold, the window's size and one more: the ratio at index k stands in slot k % SLOTS.
+pub const SLOTS: usize = Window::SIZE + 1;
 
 // The bytes of all planes.
 pub const CELLS: usize = 8 * SLOTS;

@@ -14,7 +14,7 @@ use Rattle.bits.specs.Digits.{numberOf}
 use Rattle.ratio_format.specs.declared.Read.the-variants.{Ratio, Nothing}
 use Rattle.ratio_format.specs.Windows.{windowSize}
 use Rattle.ratio_format.specs.Choice.{find, ratioForm}
-use Rattle.ratio_format.specs.RatioForms.{written, coded}
+use Rattle.ratio_format.specs.RatioForms.{xorByte, exceptionByte, written, coded}
 use Rattle.ratio_format.specs.Open.{openOne, openXor, strictOne}
 use Rattle.ratio_format.proofs.Choice.{find-at, find-lt}
 use Rattle.ratio_format.proofs.Open.{open-reference, strict-good, strict-other}
@@ -64,15 +64,15 @@ module _ (w : List ℕ) (v : ℕ) where
   pub named-one : (s : List ℕ) → openOne w s ≡ Ratio v 1 → Named s
   unfolding openOne
   named-one [] e = never e
-  named-one (b ∷ s) e = go (ltb b 128) (ltb b (length w)) refl (ltb b 255) (ltb (b - 128) (length w)) (leb 8 (length s)) e
+  named-one (b ∷ s) e = go (ltb b xorByte) (ltb b (length w)) refl (ltb b exceptionByte) (ltb (b - xorByte) (length w)) (leb 8 (length s)) e
     where
       go : (x y : Bool) → ltb b (length w) ≡ y → (z t u : Bool)
           → cond x (cond y (Ratio (getD w b 0) 1) Nothing)
-          (cond z (cond t (openXor (getD w (b - 128) 0) s) Nothing) (cond u (Ratio (numberOf 256 (take 8 s)) 9) Nothing)) ≡ Ratio v 1
+          (cond z (cond t (openXor (getD w (b - xorByte) 0) s) Nothing) (cond u (Ratio (numberOf 256 (take 8 s)) 9) Nothing)) ≡ Ratio v 1
           → Named (b ∷ s)
       go true true f z t u e = (omega arith, ltb-true b (length w) f, cc)
       go true false f z t u e = never e
-      go false y f true true u e = absurd (xor-longer (getD w (b - 128) 0) s e)
+      go false y f true true u e = absurd (xor-longer (getD w (b - xorByte) 0) s e)
       go false y f true false u e = never e
       go false y f false t true e = let n : _≡_ {A = ℕ} 9 1 = cc in absurd (omega arith)
       go false y f false t false e = never e

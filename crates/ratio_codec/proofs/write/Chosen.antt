@@ -11,7 +11,7 @@ use Rattle.bits.proofs.Digits.{pow-bytes}
 use Rattle.ratio_format.specs.declared.RatioForm.{RatioForm}
 use Rattle.ratio_format.specs.declared.RatioForm.the-variants.{Reference, Xor, Exception}
 use Rattle.ratio_format.specs.Windows.{windowSize, windowOf}
-use Rattle.ratio_format.specs.Zeros.{leadZeros, trailZeros}
+use Rattle.ratio_format.specs.Zeros.{equalSum, leadZeros, trailZeros}
 use Rattle.ratio_format.specs.Choice.{best, ratioForm}
 use Rattle.ratio_format.specs.RatioForms.{Fit}
 use Rattle.ratio_format.proofs.Choice.{ratio-form-fit, ratio-form-reference, ratio-form-xor, ratio-form-exception, sum-small, best-at, best-xor}
@@ -22,7 +22,7 @@ module _ (l : List ℕ) (v p s : ℕ) (known : (k : ℕ) → getD l k 0 < 2 ^ 64
   all64 : Below (2 ^ 64) (reverse l)
   all64 = reverse-below (2 ^ 64) l (below-of (2 ^ 64) l known)
 
-  pub chosen-reference : s ≡ 16 → Reference p ≡ ratioForm v (reverse l)
+  pub chosen-reference : s ≡ equalSum → Reference p ≡ ratioForm v (reverse l)
   chosen-reference e =
       let b = found .0 (omega arith) in
       ap Reference (b .0) ∙ sym (ratio-form-reference v (reverse l) v64 all64 (sym (b .1) ∙ e))
@@ -31,7 +31,7 @@ module _ (l : List ℕ) (v p s : ℕ) (known : (k : ℕ) → getD l k 0 < 2 ^ 64
   chosen-exception h = sym (ratio-form-exception v (reverse l) v64 all64 (found .1 h))
 
   -- the xor form: x is the xor with the ratio at the place, in the slice
-  module _ (other : s ≡ 16 → ⊥) (h : 2 ≤ s) where
+  module _ (other : s ≡ equalSum → ⊥) (h : 2 ≤ s) where
     abbrev x : ℕ
     x = bitXor v (getD l (length l - 1 - p) 0)
 

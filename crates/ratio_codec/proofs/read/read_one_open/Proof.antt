@@ -4,6 +4,7 @@ use mathlib.Core.Path.{sym, ap, _∙_}
 use Prim.Native.Nat.{_-_}
 use native.Mathlib.Omega.{arith}
 use lib.ListN.{length, getD, length-reverse}
+use Rattle.ratio_format.specs.RatioForms.{xorByte}
 use Rattle.ratio_format.specs.Open.{openXor}
 use Rattle.ratio_format.proofs.Open.{open-empty, open-reference, open-far, open-xor, open-away, open-exception, open-cut}
 use Rattle.ratio_format.proofs.Windows.{reverse-back}
@@ -83,7 +84,7 @@ returns-4 c =
     let a = some .before .before .before .args in
     let l = a .window .now in
     let s = a .s .now in
-    let p = getD s 0 0 - 128 in
+    let p = getD s 0 0 - xorByte in
     let u = getD l (length l - 1 - p) 0 in
     open-xor (reverse l) s u (c .read-xor .result) (some .if1 .left) (high .if2 .left) (inside .before .if4 .taken)
     (rw length-reverse (inside .if5 .taken)) (sym (reverse-back l p (inside .if5 .taken))) (c .read-xor .ensures ∙ ap (openXor u) (rest-is 1 s))

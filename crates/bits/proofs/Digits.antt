@@ -4,16 +4,17 @@ pub mod Write
 pub mod Word
 use mathlib.Core.Path.{_≡_, refl, sym, ap, ap₂, _∙_}
 use mathlib.Core.List.{List, [], _∷_, _++_}
-use Prim.Native.Nat.{ℕ, zero, suc, _+_, _*_, _/_, _%_, _^_, _<_}
+use Prim.Native.Nat.{ℕ, zero, suc, _+_, _-_, _*_, _/_, _%_, _^_, _<_}
 use native.Mathlib.Nat.{zero-add, suc-add, add-zero, add-assoc, add-mul, one-mul, mul-one, mul-assoc, mul-comm, mul-suc, pow-zero, pow-suc, pow-succ', one-le-pow, mod-one, mod-lt, mod-eq-of-lt}
 use native.Mathlib.Nat.{zero-div, zero-mod, div-div-eq-div-mul, div-add-mod', mul-add-div-right, mul-add-mod-self-right}
 use native.Mathlib.Omega.{arith}
+use lib.Bits.{bitXor, xor-shr, xor-mod}
 use lib.Arith.{digits-div, mod-mul, digits-lt as join-lt}
 use lib.Pow.{pow-add}
-use lib.ListN.{length, take, drop, replicate, length-append}
+use lib.ListN.{length, getD, take, drop, replicate, length-append}
 use lib.Seq.{take-at, drop-at}
 use Rattle.lists.specs.Below.{Below}
-use Rattle.bits.specs.Digits.{digitsOf, numberOf}
+use Rattle.bits.specs.Digits.{digitsOf, bytesOf, byteOf, numberOf}
 
 -- powers of the base
 
@@ -77,6 +78,21 @@ digits-join {b} b⁺ i j h {l} l< = rw (digits-append, digits-low b⁺, digits-d
 
 pub digits-mod : {b : ℕ} → zero < b → (j n : ℕ) → digitsOf b j (n % b ^ j) ≡ digitsOf b j n
 digits-mod {b} b⁺ j n = sym (digits-low b⁺ j (n / b ^ j) (n % b ^ j)) ∙ ap (digitsOf b j) (div-add-mod' n (b ^ j))
+
+-- a byte is a digit in base 256
+pub byte-digit : (x j : ℕ) → x / 256 ^ j % 256 ≡ byteOf x j
+byte-digit x j = ap (λ (y : ℕ). x / y % 256) (pow-bytes j)
+
+-- which byte stands at an index
+pub getD-bytes : (n x k : ℕ) → k < n → getD (bytesOf n x) k 0 ≡ byteOf x (n - 1 - k)
+unfolding digitsOf
+getD-bytes zero x k h = absurd (omega arith)
+getD-bytes (suc n) x zero h = byte-digit x n ∙ ap (byteOf x) (omega arith)
+getD-bytes (suc n) x (suc k) h = getD-bytes n x k (omega arith) ∙ ap (byteOf x) (omega arith)
+
+-- a byte of the xor is the xor of the bytes
+pub byte-xor : (x y j : ℕ) → byteOf (bitXor x y) j ≡ bitXor (byteOf x j) (byteOf y j)
+byte-xor x y j = ap (λ (z : ℕ). z % 256) (xor-shr x y (8 * j)) ∙ xor-mod (x / 2 ^ (8 * j)) (y / 2 ^ (8 * j)) 8
 
 -- the number that digits stand for
 

@@ -2,6 +2,7 @@
 --   digitsOf b k n   the lowest k digits of n in base b, most significant first
 --   bytesOf k n      the lowest k bytes of n
 --   bitsOf k n       the lowest k bits of n
+--   byteOf x j       byte j of x, byte 0 the lowest
 --   numberOf b ds    the number whose digits in base b are ds
 use mathlib.Core.List.{List, [], _∷_}
 use Prim.Native.Nat.{ℕ, zero, suc, _+_, _*_, _/_, _%_, _^_}
@@ -19,6 +20,10 @@ bytesOf k n = digitsOf 256 k n
 -- a number in k bits
 abbrev pub bitsOf : ℕ → ℕ → List ℕ
 bitsOf k n = digitsOf 2 k n
+
+-- byte j, from the lowest
+abbrev pub byteOf : ℕ → ℕ → ℕ
+byteOf x j = x / 2 ^ (8 * j) % 256
 
 -- the number of the digits ds
 unfoldable pub numberOf : ℕ → List ℕ → ℕ

@@ -3,7 +3,7 @@
 ghost use mathlib.Core.Path.{_≡_};
 ghost use Prim.Native.Nat.{_+_, _*_, _^_, _≤_, _<_};
 ghost use lib.ListN.{length, take, drop};
-ghost use Rattle.bits.specs.Digits.{bytesOf, numberOf};
+ghost use Rattle.bits.specs.Digits.{bytesOf, byteOf, numberOf};
 ghost use Rattle.outputs.specs.Outputs.{overAt};
 
 mod fields; // fields of bits
@@ -20,6 +20,14 @@ fn wide(x: u8) -> u64
     ensures { λ r. ⌜ (r ≡ x) × (r < 256) ⌝ }
 {
     x as u64
+}
+
+// Byte j of x, byte 0 the lowest.
+pub fn byte_of(x: u64, j: usize) -> u64
+    requires { ⌜ j < 8 ⌝ }
+    ensures { λ r. ⌜ r ≡ byteOf x j ⌝ }
+{
+    (x >> (8 * j)) % 256
 }
 
 // The low n bytes of x are written at `at`; all other bytes stay.

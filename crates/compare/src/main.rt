@@ -1,13 +1,10 @@
 // The comparing program: reads the records in the files that its two arguments name, strictly and with no rate expected, and prints what differs
 // between them, a line for each difference and nothing for equal records; or the refusal, and which record it was.
 ghost use mathlib.Core.Path.{_≡_};
-ghost use mathlib.Core.List.{_++_};
 ghost use Prim.Native.Nat.{_+_, _*_, _≤_, min};
 ghost use lib.ListN.{length};
 ghost use Rattle.limits.specs.Points.{maxPoints};
 ghost use Rattle.text.specs.PlacedAt.{PlacedAt};
-ghost use Rattle.text.specs.Lines.{newline};
-ghost use Rattle.text.specs.Numbers.{decimal};
 ghost use Rattle.inputs.specs.Inputs.{inputLimit};
 ghost use Rattle.compare.specs.Lines.{kindWord, propertyLine, ratioLine, lineOf, refusedInLine};
 ghost use Rattle.compare.specs.Pieces.{propertiesText, pointText, pointsText};
@@ -28,27 +25,6 @@ fn output_room() -> [u8; TEXT]
     ensures { λ r. ⌜ textLimit ≡ length r ⌝ }
 {
     [0; TEXT]
-}
-
-// Three words, each with a number in base 10, and the line's end.
-fn put_three(
-    out: &mut [u8],
-    at: usize,
-    first: &[u8],
-    l: u64,
-    second: &[u8],
-    m: u64,
-    third: &[u8],
-    n: u64,
-) -> usize
-    requires { ⌜ at + (length (now first) + (20 + (length (now second) + (20 + (length (now third) + 21))))) ≤ length (now out) ⌝ }
-    ensures { λ r. ⌜ PlacedAt (length (now (first .entry)) + (20 + (length (now (second .entry)) + (20 + (length (now (third .entry)) + 21)))))
-        (now (first .entry) ++ (decimal l ++ (now (second .entry) ++ (decimal m ++ (now (third .entry) ++ (decimal n ++ newline)))))) at r
-        (now (out .entry)) (now (out .exit)) ⌝ }
-{
-    let number = text::put_text(out, at, first);
-    let rest = text::put_decimal(out, number, l);
-    text::put_two(out, rest, second, m, third, n)
 }
 
 // The line of a property.
@@ -91,13 +67,12 @@ fn put_ratio(
     requires { ⌜ at + lineLimit ≤ length (now out) ⌝ }
     ensures { λ r. ⌜ PlacedAt lineLimit (ratioLine index first k second l) at r (now (out .entry)) (now (out .exit)) ⌝ }
 {
-    let number = text::put_text(out, at, b"ratio ");
-    let first_word = text::put_decimal(out, number, index);
+    let first_word = text::put_numbered(out, at, b"ratio ", index);
     let first_bits = put_kind(out, first_word, k);
     let second_word = text::put_hex(out, first_bits, first);
     let second_bits = put_kind(out, second_word, l);
     let end = text::put_hex(out, second_bits, second);
-    text::put_text(out, end, b"\n")
+    text::put_newline(out, end)
 }
 
 // The line of a difference, if there is one.
@@ -111,7 +86,7 @@ fn put_difference(out: &mut [u8], at: usize, difference: Difference) -> usize
             put_property(out, at, property, first, second)
         }
         Difference::Position(index, first, second) => {
-            put_three(out, at, b"position ", index, b" ", first, b" ", second)
+            text::put_three(out, at, b"position ", index, b" ", first, b" ", second)
         }
         Difference::Ratio {
             index,
@@ -120,7 +95,7 @@ fn put_difference(out: &mut [u8], at: usize, difference: Difference) -> usize
             second,
             second_kind,
         } => put_ratio(out, at, index, first, first_kind, second, second_kind),
-        Difference::More(n) => text::put_named(out, at, b"more ", n as u64),
+        Difference::More(n) => text::put_one(out, at, b"more ", n as u64),
     }
 }
 
@@ -129,7 +104,7 @@ fn put_refused_in(out: &mut [u8], number: u32, place: u32, which: u32) -> usize
     requires { ⌜ lineLimit ≤ length (now out) ⌝ }
     ensures { λ r. ⌜ PlacedAt lineLimit (refusedInLine number place which) 0 r (now (out .entry)) (now (out .exit)) ⌝ }
 {
-    put_three(
+    text::put_three(
         out,
         0,
         b"refused ",

@@ -7,7 +7,7 @@ use native.Mathlib.Omega.{arith}
 use borrow.Author.Tests.{ne-eqb}
 use lib.ListN.{length, take}
 use Rattle.limits.specs.Points.{maxPoints}
-use Rattle.ratio_format.specs.Forms.{coded}
+use Rattle.ratio_format.specs.RatioForms.{coded}
 use Rattle.record_format.specs.Claims.{Accepted}
 use Rattle.record_format.specs.Reading.{Answer}
 use Rattle.record_format.specs.Runs.{Run, recordOf}

@@ -16,7 +16,7 @@ use Rattle.position_format.specs.Steps.{stepsFrom, steps}
 use Rattle.position_format.specs.Positions.{stepBits, positionBits, codedPositions, validPositions}
 use Rattle.ratio_format.specs.Bodies.{codedFrom}
 use Rattle.ratio_format.specs.Choice.{find, best, ratioForm}
-use Rattle.ratio_format.specs.Forms.{written, coded}
+use Rattle.ratio_format.specs.RatioForms.{written, coded}
 use Rattle.ratio_format.specs.Zeros.{zerosAt, leadZeros, trailZeros, sumOf}
 use Rattle.record_format.specs.Claims.{Accepted}
 use Rattle.record_format.specs.Fields.{fieldBytes, laid, tagAt, lengthAt, nextAt}

@@ -1,6 +1,6 @@
 -- Document 02, No. 1, the program, as statements about runs; proved in proofs/Claims.
 --   BytesThere      the bytes that the first line speaks of are those of the record: from the offset on stand the bytes of the writer's form of
---                   that ratio, which is the one that the reason names (NamesForm), as many as it says, and then those of the ratios after it
+--                   that ratio, which is the one that the reason names (NamesRatioForm), as many as it says, and then those of the ratios after it
 --   PrintsReason    of input that begins with the record of an accepted run, and an index below its count, the program prints cost and
 --                   reason, whatever follows
 --   PrintsPast      of such input and any other text `refused 22 at 0`
@@ -13,7 +13,7 @@ use Prim.Native.Nat.{ℕ, _+_, _≤_, _<_}
 use lib.ListN.{length, getD, drop}
 use Rattle.ratio_format.specs.Bodies.{codedFrom}
 use Rattle.ratio_format.specs.Choice.{ratioForm}
-use Rattle.ratio_format.specs.Forms.{written}
+use Rattle.ratio_format.specs.RatioForms.{written}
 use Rattle.ratio_format.specs.Windows.{windowSize}
 use Rattle.record_format.specs.Claims.{Accepted, Beginning, Bytes}
 use Rattle.record_format.specs.Runs.{Run, recordOf}

@@ -18,7 +18,7 @@ use lib.Dec.{ltb, eqb}
 use lib.ListN.{length, getD, take}
 use Rattle.limits.specs.Points.{maxPoints}
 use Rattle.ratio_format.specs.Bodies.{codedRatios}
-use Rattle.ratio_format.specs.Forms.{coded}
+use Rattle.ratio_format.specs.RatioForms.{coded}
 use Rattle.record_format.specs.Fields.{headSize}
 use Rattle.record_format.specs.Reading.{Answer, ratiosAt}
 use Rattle.text.specs.Lines.{refusedLine}

@@ -111,13 +111,9 @@ fn put_cost(out: &mut [u8], i: u64, v: u64, n: u64, o: u64) -> usize
     requires { ⌜ 95 ≤ length (now out) ⌝ }
     ensures { λ r. ⌜ PlacedAt 95 (costLine i v n o) 0 r (now (out .entry)) (now (out .exit)) ⌝ }
 {
-    let index = text::put_text(out, 0, b"ratio ");
-    let gap = text::put_decimal(out, index, i);
-    let bits = text::put_text(out, gap, b" ");
-    let second = text::put_hex(out, bits, v);
-    let cost = text::put_text(out, second, b" ");
-    let end = text::put_decimal(out, cost, n);
-    text::put_named(out, end, b" bytes at ", o)
+    let gap = text::put_numbered(out, 0, b"ratio ", i);
+    let cost = text::put_bits(out, gap, v);
+    text::put_two(out, cost, b" ", n, b" bytes at ", o)
 }
 
 // The line of an xor form.
@@ -125,13 +121,10 @@ fn put_xor(out: &mut [u8], at: usize, place: u64, lead: u64, trail: u64) -> usiz
     requires { ⌜ at + 111 ≤ length (now out) ⌝ }
     ensures { λ r. ⌜ PlacedAt 111 (xorLine place lead trail) at r (now (out .entry)) (now (out .exit)) ⌝ }
 {
-    let first = text::put_text(out, at, b"xor with place ");
-    let comma = text::put_decimal(out, first, place);
-    let leading = text::put_text(out, comma, b", ");
-    let word = text::put_decimal(out, leading, lead);
-    let trailing = text::put_text(out, word, b" leading and ");
-    let end = text::put_decimal(out, trailing, trail);
-    text::put_text(out, end, b" trailing zero bytes\n")
+    let comma = text::put_numbered(out, at, b"xor with place ", place);
+    let leading = text::put_numbered(out, comma, b", ", lead);
+    let trailing = text::put_numbered(out, leading, b" leading and ", trail);
+    text::put_text(out, trailing, b" trailing zero bytes\n")
 }
 
 // The line of a reason.
@@ -140,11 +133,11 @@ fn put_reason(out: &mut [u8], at: usize, reason: Reason) -> usize
     ensures { λ r. ⌜ PlacedAt 111 (reasonLine reason) at r (now (out .entry)) (now (out .exit)) ⌝ }
 {
     match reason {
-        Reason::Reference(place) => text::put_named(out, at, b"equal to place ", place as u64),
+        Reason::Reference(place) => text::put_one(out, at, b"equal to place ", place as u64),
         Reason::Xor { place, lead, trail } => {
             put_xor(out, at, place as u64, lead as u64, trail as u64)
         }
-        Reason::Exception(sum) => text::put_named(out, at, b"exception, best sum ", sum as u64),
+        Reason::Exception(sum) => text::put_one(out, at, b"exception, best sum ", sum as u64),
         Reason::Empty => text::put_text(out, at, b"exception, window empty\n"),
         Reason::Refused(number, place) => text::put_refused(out, at, number, place),
     }

@@ -7,7 +7,7 @@ ghost use Rattle.ratio_format.specs.Stepping.{made, madeBody, madeCursor, badCu
 ghost use Rattle.live.specs.States.{stateOf, stepFound};
 use super::adding::bad_window;
 use limits::MAX_POINTS;
-use ratio_codec::read_strict;
+use ratio_codec::read_one_strict;
 use ratio_format::Cursor;
 use ratio_format::Read;
 use ratio_format::StepAnswer;
@@ -121,7 +121,7 @@ fn seek(body: &[u8], ratios: &[u64], place: u64, count: u64, seen: u64, fill: u6
     }
     let filled = fill as usize;
     let at = place as usize;
-    let read = read_strict(&ratios[..filled], &body[at..]);
+    let read = read_one_strict(&ratios[..filled], &body[at..]);
     let Read::Ratio(ratio, used) = read else {
         return nothing(18);
     };

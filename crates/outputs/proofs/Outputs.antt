@@ -2,6 +2,7 @@
 pub mod Clear
 pub mod Parts
 pub mod Over
+pub mod Writers
 use mathlib.Core.Path.{_≡_, sym, ap, ap₂, _∙_}
 use mathlib.Core.List.{List, _++_, append-assoc}
 use Prim.Native.Nat.{ℕ, _+_, _≤_}

@@ -5,12 +5,15 @@
 --   over bs o          bs at the front of the output o, whose rest stays: document 01's output after a success
 --   overAt o at n bs   o with the n elements from `at` on replaced by bs, of which there are n
 --   Placed bs w o p    the bytes bs were put at the front of o, which is now p; or there was no room for them
+--   Left w p           past the bytes that a writer says by w that it put into p there is a rest, which may be empty
+--   sumOf n w          what two writers wrote: the first n bytes, and the second what w says; Summed n w: a number of 64 bits holds it
+--   Next bs w v p q    bs were put past the bytes of a writer that said w and left p, which is now q; v says what both wrote
 --   Filled l b o p     the list l was put at the front of o, which is now p; or there is no such list
 use mathlib.Core.Bool.{Bool, true, false}
 use mathlib.Core.List.{List, _++_}
 use mathlib.Core.Option.{Option, none, some}
 use mathlib.Core.Path.{_≡_}
-use Prim.Native.Nat.{ℕ, _+_, _≤_, _<_}
+use Prim.Native.Nat.{ℕ, _+_, _^_, _≤_, _<_}
 use lib.ListN.{length, take, drop, replicate}
 use Rattle.outputs.specs.declared.Wrote.{Wrote}
 use Rattle.outputs.specs.declared.Wrote.the-variants.{Done, NoRoom}
@@ -31,6 +34,22 @@ overAt o at n bs = take at o ++ (bs ++ drop (at + n) o)
 abbrev pub Placed : List ℕ → Wrote → List ℕ → List ℕ → Type 0
 Placed bs (Done n) o p = (n ≡ length bs) × (length bs ≤ length o) × (p ≡ over bs o)
 Placed bs NoRoom o p = length o < length bs
+
+-- where the rest begins
+abbrev pub Left : Wrote → List ℕ → Type 0
+Left w p = (n : ℕ) → w ≡ Done n → n ≤ length p
+
+-- no room for one is no room for both
+abbrev pub sumOf : ℕ → Wrote → Wrote
+sumOf n (Done m) = Done (n + m)
+sumOf n NoRoom = NoRoom
+
+abbrev pub Summed : ℕ → Wrote → Type 0
+Summed n w = (m : ℕ) → w ≡ Done m → n + m < 2 ^ 64
+
+-- bytes after others, whatever these were
+abbrev pub Next : List ℕ → Wrote → Wrote → List ℕ → List ℕ → Type 0
+Next bs w v p q = (xs o : List ℕ) → Placed xs w o p → Placed (xs ++ bs) v o q
 
 -- whether a list was read
 abbrev pub Filled : Option (List ℕ) → Bool → List ℕ → List ℕ → Type 0

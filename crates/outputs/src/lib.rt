@@ -1,6 +1,6 @@
 // Outputs that a caller lends: what a call leaves in them.
 ghost use mathlib.Core.Path.{_≡_};
-ghost use Rattle.outputs.specs.Outputs.{zeros, Placed};
+ghost use Rattle.outputs.specs.Outputs.{zeros, Placed, Left, sumOf, Summed, Next};
 
 // What an internal writer did: the number of bytes that it wrote, or that there is no room for them.
 pub enum Wrote {
@@ -39,4 +39,26 @@ pub fn put_copy(from: &[u8], out: &mut [u8]) -> Wrote
     }
     let n = bytes::copy(from, out);
     Wrote::Done(n)
+}
+
+// What two writers wrote, the second in the rest that the first left: n bytes, and then what it says.
+pub fn sum_of(n: usize, wrote: Wrote) -> Wrote
+    requires { ⌜ Summed n wrote ⌝ }
+    ensures { λ r. ⌜ r ≡ sumOf n wrote ⌝ }
+{
+    match wrote {
+        Wrote::Done(m) => Wrote::Done(n + m),
+        Wrote::NoRoom => Wrote::NoRoom,
+    }
+}
+
+// Bytes as they stand, past those of a writer before.
+pub fn put_copy_next(wrote: Wrote, from: &[u8], out: &mut [u8]) -> Wrote
+    requires { ⌜ Left wrote (now out) ⌝ }
+    ensures { λ r. ⌜ Next (now (from .entry)) wrote r (now (out .entry)) (now (out .exit)) ⌝ }
+{
+    let Wrote::Done(n) = wrote else {
+        return Wrote::NoRoom;
+    };
+    sum_of(n, put_copy(from, &mut out[n..]))
 }

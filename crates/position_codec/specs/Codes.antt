@@ -1,12 +1,11 @@
 -- What the internal functions say of codes and of points (document 01, "Positions").
---   byteOf w i      byte i of the word w, from the lowest on
 --   PrefixIs r x p  the prefix of the row r is the number x in p bits
 --   Coded rs z c    c is the code of the step z by the table rs
 --   Point rs ts i   ts are valid positions, not too many, and i is the index of one
 use mathlib.Core.Bool.{true}
 use mathlib.Core.List.{List, _++_}
 use mathlib.Core.Path.{_≡_}
-use Prim.Native.Nat.{ℕ, _*_, _/_, _%_, _^_, _≤_, _<_}
+use Prim.Native.Nat.{ℕ, _^_, _≤_, _<_}
 use lib.IntN.{ℤ}
 use lib.ListN.{length}
 use Rattle.bits.specs.Digits.{bitsOf}
@@ -14,10 +13,6 @@ use Rattle.limits.specs.Points.{maxPoints}
 use Rattle.position_format.specs.Rows.{Row, code}
 use Rattle.position_format.specs.Positions.{validPositions}
 use Rattle.position_codec.specs.declared.table.Code.{Code}
-
--- a small table as one word
-abbrev pub byteOf : ℕ → ℕ → ℕ
-byteOf w i = w / 2 ^ (8 * i) % 256
 
 -- a row's prefix as a number
 pub record PrefixIs (r : Row) (x p : ℕ) : Type 0 where

@@ -7,11 +7,12 @@ ghost use Prim.Native.Nat.{ℕ, _-_, _/_, _^_, _≤_, _<_};
 ghost use lib.ListN.{length, getD};
 ghost use lib.Signed.{leZ};
 ghost use Rattle.lists.specs.Compare.{both};
-ghost use Rattle.bits.specs.Digits.{bitsOf};
+ghost use Rattle.bits.specs.Digits.{bitsOf, byteOf};
 ghost use Rattle.position_format.specs.Rows.{rows, wideRows, holds, inTable, residue, reading, noRow, rowOf};
 ghost use Rattle.position_format.specs.Tables.{tableOf};
-ghost use Rattle.position_codec.specs.Codes.{byteOf, PrefixIs, Coded};
+ghost use Rattle.position_codec.specs.Codes.{PrefixIs, Coded};
 ghost use Rattle.position_codec.specs.Found.{Leads, ReadBy};
+use bits::byte_of;
 use position_format::Form;
 
 // How many rows document 01's table has. The wide one has a last row more, which holds every step.
@@ -103,14 +104,6 @@ pub(crate) fn in_table(z: i64) -> bool
     ensures { λ r. ⌜ r ≡ inTable rows z ⌝ }
 {
     in_row(ROWS - 1, z)
-}
-
-// Entry i of a small table.
-fn byte_of(w: u64, i: usize) -> u64
-    requires { ⌜ i < 8 ⌝ }
-    ensures { λ r. ⌜ r ≡ byteOf w i ⌝ }
-{
-    (w >> (8 * i)) % 256
 }
 
 // How many bits follow the row's prefix.

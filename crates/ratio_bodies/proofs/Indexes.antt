@@ -11,7 +11,7 @@ use lib.Seq.{getD-set-same, getD-set-other}
 use borrow.Author.Tests.{eqb-true, eqb-false}
 use Rattle.lists.proofs.Below.{below-at, below-replicate}
 use Rattle.ratio_format.specs.Windows.{windowSize, windowOf}
-use Rattle.ratio_format.specs.Forms.{coded}
+use Rattle.ratio_format.specs.RatioForms.{coded}
 use Rattle.ratio_format.proofs.Windows.Before.{window-has, window-at, find-newest}
 use Rattle.ratio_bodies.specs.Indexes.{keys, keyOf, Bounded, Indexed, Trailing}
 use Rattle.ratio_codec.proofs.read.References.{coded-in}

@@ -13,8 +13,8 @@ use Rattle.lists.specs.Compare.{begins}
 use Rattle.ratio_format.specs.declared.Read.the-variants.{Ratio}
 use Rattle.ratio_format.specs.Windows.{windowSize, windowOf}
 use Rattle.ratio_format.specs.Choice.{find}
-use Rattle.ratio_format.specs.Forms.{coded}
-use Rattle.ratio_format.specs.Open.{openRead}
+use Rattle.ratio_format.specs.RatioForms.{coded}
+use Rattle.ratio_format.specs.Open.{openOne}
 use Rattle.ratio_format.proofs.Windows.{window-few}
 use Rattle.ratio_format.proofs.Choice.{find-first}
 use Rattle.ratio_codec.proofs.read.References.{named-begins, named-one, named-absent}
@@ -158,7 +158,7 @@ module _ (ms l : List ℕ) (i v : ℕ) (marks : Marks ms l i) (h : i ≤ length 
           (λ k x y. step k x y (eqb k j) refl)
 
     -- after a ratio was read from n bytes and accepted
-    pub marks-more : (s ns : List ℕ) (n : ℕ) → openRead w s ≡ Ratio v n → begins (coded v w) s ≡ true
+    pub marks-more : (s ns : List ℕ) (n : ℕ) → openOne w s ≡ Ratio v n → begins (coded v w) s ≡ true
         → (n ≡ 1 → ns ≡ set (set ms (slotOf i (getD s 0 0)) 1) (i % slots) 0) → ((n ≡ 1 → ⊥) → ns ≡ set ms (i % slots) 0) → Marks ns (set l i v) (i + 1)
     marks-more s ns n e b one more = go (eqb n 1) refl
       where

@@ -3,13 +3,13 @@ ghost use mathlib.Core.Path.{_≡_};
 ghost use Prim.Native.Nat.{_+_, _≤_};
 ghost use lib.ListN.{length, take, drop};
 ghost use Rattle.ratio_format.specs.Windows.{windowSize, windowOf};
-ghost use Rattle.ratio_format.specs.Open.{openXor, openRead};
+ghost use Rattle.ratio_format.specs.Open.{openXor, openOne};
 use bits::get_bytes;
 use bits::get_first;
 use ratio_codec::EXCEPTION;
 use ratio_codec::XOR;
 use ratio_codec::read::raised;
-use ratio_codec::read_open;
+use ratio_codec::read_one_open;
 use ratio_format::Read;
 use ratio_format::Window;
 use ratio_window::window_start;
@@ -20,10 +20,10 @@ const LONGEST: usize = 10;
 // Ratio i at the offset `at`, by the open rule, against the ratios before it.
 fn open_nth(ratios: &[u64], i: usize, body: &[u8], at: usize) -> Read
     requires { ⌜ (i ≤ length (now ratios)) × (at ≤ length (now body)) ⌝ }
-    ensures { λ r. ⌜ r ≡ openRead (windowOf windowSize (take i (now (ratios .entry)))) (drop at (now (body .entry))) ⌝ }
+    ensures { λ r. ⌜ r ≡ openOne (windowOf windowSize (take i (now (ratios .entry)))) (drop at (now (body .entry))) ⌝ }
 {
     let from = window_start(i);
-    read_open(&ratios[from..i], &body[at..])
+    read_one_open(&ratios[from..i], &body[at..])
 }
 
 // What stands after the byte of a place that holds u: the two counts, and the middle.
@@ -44,7 +44,7 @@ fn xor_ahead(u: u64, body: &[u8], at: usize) -> Read
 // Ratio i at the offset `at`, where the longest form fits.
 fn open_ahead(ratios: &[u64], i: usize, body: &[u8], at: usize) -> Read
     requires { ⌜ (i ≤ length (now ratios)) × (at + 10 ≤ length (now body)) ⌝ }
-    ensures { λ r. ⌜ r ≡ openRead (windowOf windowSize (take i (now (ratios .entry)))) (drop at (now (body .entry))) ⌝ }
+    ensures { λ r. ⌜ r ≡ openOne (windowOf windowSize (take i (now (ratios .entry)))) (drop at (now (body .entry))) ⌝ }
 {
     let b = body[at] as usize;
     if b == EXCEPTION {
@@ -67,7 +67,7 @@ fn open_ahead(ratios: &[u64], i: usize, body: &[u8], at: usize) -> Read
 // Ratio i at the offset `at`.
 pub(crate) fn open_from(ratios: &[u64], i: usize, body: &[u8], at: usize) -> Read
     requires { ⌜ (i ≤ length (now ratios)) × (at ≤ length (now body)) ⌝ }
-    ensures { λ r. ⌜ r ≡ openRead (windowOf windowSize (take i (now (ratios .entry)))) (drop at (now (body .entry))) ⌝ }
+    ensures { λ r. ⌜ r ≡ openOne (windowOf windowSize (take i (now (ratios .entry)))) (drop at (now (body .entry))) ⌝ }
 {
     if at + LONGEST <= body.len() {
         return open_ahead(ratios, i, body, at);
@@ -78,7 +78,7 @@ pub(crate) fn open_from(ratios: &[u64], i: usize, body: &[u8], at: usize) -> Rea
 // The same with a shorter way for references, for a caller to which only they are cheap.
 pub(crate) fn open_near(ratios: &[u64], i: usize, body: &[u8], at: usize) -> Read
     requires { ⌜ (i ≤ length (now ratios)) × (at ≤ length (now body)) ⌝ }
-    ensures { λ r. ⌜ r ≡ openRead (windowOf windowSize (take i (now (ratios .entry)))) (drop at (now (body .entry))) ⌝ }
+    ensures { λ r. ⌜ r ≡ openOne (windowOf windowSize (take i (now (ratios .entry)))) (drop at (now (body .entry))) ⌝ }
 {
     if at < body.len() {
         let b = body[at] as usize;

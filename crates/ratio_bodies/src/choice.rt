@@ -7,7 +7,7 @@ ghost use Rattle.ratio_format.specs.Windows.{windowSize, windowOf};
 ghost use Rattle.ratio_format.specs.Choice.{ratioForm};
 ghost use Rattle.ratio_search.specs.BytePlanes.{Planes, Kept};
 use ratio_codec::write::choose;
-use ratio_codec::write::form_of;
+use ratio_codec::write::ratio_form_of;
 use ratio_format::RatioForm;
 use ratio_search::CELLS;
 use ratio_search::fill_planes;
@@ -48,5 +48,5 @@ pub(crate) fn choose_nth(planes: &[u8; CELLS], ratios: &[u64], i: usize, v: u64)
         return choose(&ratios[from..i], v);
     }
     let b = find(planes, ratios, i, v);
-    form_of(b, &ratios[from..i], v)
+    ratio_form_of(b, &ratios[from..i], v)
 }

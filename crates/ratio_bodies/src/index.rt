@@ -6,7 +6,7 @@ ghost use Prim.Native.Nat.{_+_, _%_, _≤_, _<_};
 ghost use lib.ListN.{length, take, getD, set};
 ghost use Rattle.limits.specs.Points.{maxPoints};
 ghost use Rattle.ratio_format.specs.Windows.{windowSize, windowOf};
-ghost use Rattle.ratio_format.specs.Forms.{coded};
+ghost use Rattle.ratio_format.specs.RatioForms.{coded};
 ghost use Rattle.ratio_bodies.specs.Indexes.{keyOf, keys, Indexed, Trailing};
 use ratio_format::Window;
 

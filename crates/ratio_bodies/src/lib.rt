@@ -24,7 +24,7 @@ ghost use Rattle.lists.specs.Compare.{both};
 ghost use Rattle.limits.specs.Points.{maxPoints};
 ghost use Rattle.outputs.specs.Outputs.{Placed};
 ghost use Rattle.ratio_format.specs.Windows.{windowSize, windowOf};
-ghost use Rattle.ratio_format.specs.Forms.{coded};
+ghost use Rattle.ratio_format.specs.RatioForms.{coded};
 ghost use Rattle.ratio_format.specs.Bodies.{codedRatios, openTaken, strictTaken};
 ghost use Rattle.ratio_search.specs.BytePlanes.{Planes};
 ghost use Rattle.ratio_bodies.specs.Taking.{TakenInto};
@@ -43,7 +43,7 @@ use index::KEYS;
 use index::NONE;
 use index::place_of;
 use outputs::Wrote;
-use ratio_codec::write::put_form;
+use ratio_codec::write::put_ratio_form;
 use ratio_codec::write::put_reference;
 use ratio_format::Read;
 use ratio_search::CELLS;
@@ -64,7 +64,7 @@ fn put_nth(planes: &[u8; CELLS], ratios: &[u64], i: usize, place: usize, out: &m
     }
     let v = ratios[i];
     let f = choose_nth(planes, ratios, i, v);
-    put_form(f, v, out)
+    put_ratio_form(f, v, out)
 }
 
 // The coding of the ratios is put at the front of the output.

@@ -4,8 +4,8 @@ ghost use Prim.Native.Nat.{_-_, _%_, _≤_, _<_};
 ghost use lib.ListN.{length, take, drop, getD, set};
 ghost use Rattle.lists.specs.Compare.{begins};
 ghost use Rattle.ratio_format.specs.Windows.{windowSize, windowOf};
-ghost use Rattle.ratio_format.specs.Forms.{coded};
-ghost use Rattle.ratio_format.specs.Open.{openRead};
+ghost use Rattle.ratio_format.specs.RatioForms.{coded};
+ghost use Rattle.ratio_format.specs.Open.{openOne};
 ghost use Rattle.ratio_format.specs.declared.Read.the-variants.{Ratio};
 ghost use Rattle.ratio_search.specs.BytePlanes.{slots, Planes};
 ghost use Rattle.ratio_bodies.specs.Marks.{Marks, slotOf};
@@ -36,7 +36,7 @@ pub(crate) fn accepts(
     at: usize,
 ) -> bool
     requires { ⌜ (i ≤ length (now ratios)) × Marks (now again) (now ratios) i × (at ≤ length (now body))
-        × (openRead (windowOf windowSize (take i (now ratios))) (drop at (now body)) ≡ Ratio v n)
+        × (openOne (windowOf windowSize (take i (now ratios))) (drop at (now body)) ≡ Ratio v n)
         × ((n ≡ 1 → ⊥) → 16 ≤ i → Planes (now planes) (now ratios) (i - windowSize) i) ⌝ }
     ensures { λ r. ⌜ r ≡ begins (coded v (windowOf windowSize (take i (now (ratios .entry))))) (drop at (now (body .entry))) ⌝ }
 {

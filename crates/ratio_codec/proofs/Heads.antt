@@ -21,12 +21,12 @@ use Rattle.ratio_format.specs.declared.Read.the-variants.{Ratio, Nothing}
 use Rattle.ratio_format.specs.Windows.{windowSize}
 use Rattle.ratio_format.specs.Zeros.{leadZeros, trailZeros}
 use Rattle.ratio_format.specs.Choice.{best, ratioForm}
-use Rattle.ratio_format.specs.Forms.{written, coded}
-use Rattle.ratio_format.specs.Open.{openRead, openXor}
+use Rattle.ratio_format.specs.RatioForms.{xorByte, exceptionByte, written, coded}
+use Rattle.ratio_format.specs.Open.{openOne, openXor}
 use Rattle.ratio_format.proofs.Zeros.{trail-le, pos-256}
 use Rattle.ratio_format.proofs.Zeros.Sums.{xor-back}
-use Rattle.ratio_format.proofs.Choice.{form-cases, bestXor, best-at}
-use Rattle.ratio_codec.specs.Heads.{formHead}
+use Rattle.ratio_format.proofs.Choice.{ratio-form-cases, bestXor, best-at}
+use Rattle.ratio_codec.specs.Heads.{ratioFormHead}
 
 -- the tests of one byte and of two
 
@@ -80,15 +80,15 @@ module _ (v k : ℕ) (w : List ℕ) (hw : length w ≤ windowSize) where
   never e = let z : _≡_ {A = ℕ} 0 1 = cc in absurd (omega arith)
 
   -- after the head of an xor form the middle stands as it is written
-  xor-middle : (p t n : ℕ) (r : List ℕ) → Below 256 r → p < length w → t + n ≤ 8 → openRead w ((p + 128) ∷ (t * 16 + n) ∷ r) ≡ Ratio v k
+  xor-middle : (p t n : ℕ) (r : List ℕ) → Below 256 r → p < length w → t + n ≤ 8 → openOne w ((p + xorByte) ∷ (t * 16 + n) ∷ r) ≡ Ratio v k
       → begins (bytesOf n (bitXor v (getD w p 0) / 256 ^ t)) r ≡ true
-  unfolding openRead openXor
+  unfolding openOne openXor
   xor-middle p t n r hr h g e =
-      let a : p + 128 - 128 ≡ p = omega arith in
+      let a : p + xorByte - xorByte ≡ p = omega arith in
       let b : (t * 16 + n) / 16 ≡ t = omega arith in
       let c : (t * 16 + n) % 16 ≡ n = omega arith in
       go (leb n (length r)) refl
-      (rw (le-ltb (p + 128) 128 (omega arith), lt-ltb (p + 128) 255 (omega arith), a, lt-ltb p (length w) h, b, c, le-leb (t + n) 8 g) at e)
+      (rw (le-ltb (p + xorByte) xorByte (omega arith), lt-ltb (p + xorByte) exceptionByte (omega arith), a, lt-ltb p (length w) h, b, c, le-leb (t + n) 8 g) at e)
     where
       go : (x : Bool) → leb n (length r) ≡ x → cond x (Ratio (bitXor (numberOf 256 (take n r) * 256 ^ t) (getD w p 0)) (n + 2)) Nothing ≡ Ratio v k
           → begins (bytesOf n (bitXor v (getD w p 0) / 256 ^ t)) r ≡ true
@@ -101,26 +101,26 @@ module _ (v k : ℕ) (w : List ℕ) (hw : length w ≤ windowSize) where
           ap (λ (x : ℕ). begins (bytesOf n x) r) y ∙ begins-number n r hr (leb-true n (length r) f)
       go false f e = never e
 
-  xor-head : (p t n : ℕ) (s : List ℕ) → Below 256 s → p < length w → t + n ≤ 8 → openRead w s ≡ Ratio v k
-      → begins ((p + 128) ∷ (t * 16 + n) ∷ bytesOf n (bitXor v (getD w p 0) / 256 ^ t)) s ≡ begins ((p + 128) ∷ (t * 16 + n) ∷ []) s
+  xor-head : (p t n : ℕ) (s : List ℕ) → Below 256 s → p < length w → t + n ≤ 8 → openOne w s ≡ Ratio v k
+      → begins ((p + xorByte) ∷ (t * 16 + n) ∷ bytesOf n (bitXor v (getD w p 0) / 256 ^ t)) s ≡ begins ((p + xorByte) ∷ (t * 16 + n) ∷ []) s
   unfolding begins Below
   xor-head p t n [] hs h g e = refl
   xor-head p t n (b ∷ []) hs h g e = refl
-  xor-head p t n (b ∷ c ∷ r) hs h g e = go (eqb (p + 128) b) refl (eqb (t * 16 + n) c) refl
+  xor-head p t n (b ∷ c ∷ r) hs h g e = go (eqb (p + xorByte) b) refl (eqb (t * 16 + n) c) refl
     where
-      go : (x : Bool) → eqb (p + 128) b ≡ x → (y : Bool) → eqb (t * 16 + n) c ≡ y
+      go : (x : Bool) → eqb (p + xorByte) b ≡ x → (y : Bool) → eqb (t * 16 + n) c ≡ y
           → both x (both y (begins (bytesOf n (bitXor v (getD w p 0) / 256 ^ t)) r)) ≡ both x (both y true)
       go false f y i = refl
       go true f false i = refl
       go true f true i =
           xor-middle p t n r (hs .1 .1) h g
-          (ap₂ (λ (x y : ℕ). openRead w (x ∷ y ∷ r)) (eqb-true (p + 128) b f) (eqb-true (t * 16 + n) c i) ∙ e)
+          (ap₂ (λ (x y : ℕ). openOne w (x ∷ y ∷ r)) (eqb-true (p + xorByte) b f) (eqb-true (t * 16 + n) c i) ∙ e)
 
   -- and after that of an exception the ratio
-  exception-head : (s : List ℕ) → Below 256 s → openRead w s ≡ Ratio v k → begins (255 ∷ bytesOf 8 v) s ≡ begins (255 ∷ []) s
-  unfolding begins openRead Below
+  exception-head : (s : List ℕ) → Below 256 s → openOne w s ≡ Ratio v k → begins (exceptionByte ∷ bytesOf 8 v) s ≡ begins (exceptionByte ∷ []) s
+  unfolding begins openOne Below
   exception-head [] hs e = refl
-  exception-head (b ∷ r) hs e = go (eqb 255 b) refl
+  exception-head (b ∷ r) hs e = go (eqb exceptionByte b) refl
     where
       at : (x : Bool) → leb 8 (length r) ≡ x → cond x (Ratio (numberOf 256 (take 8 r)) 9) Nothing ≡ Ratio v k → begins (bytesOf 8 v) r ≡ true
       at true f e =
@@ -128,14 +128,14 @@ module _ (v k : ℕ) (w : List ℕ) (hw : length w ≤ windowSize) where
           ap (λ (x : ℕ). begins (bytesOf 8 x) r) q ∙ begins-number 8 r (hs .1) (leb-true 8 (length r) f)
       at false f e = never e
 
-      go : (x : Bool) → eqb 255 b ≡ x → both x (begins (bytesOf 8 v) r) ≡ both x true
+      go : (x : Bool) → eqb exceptionByte b ≡ x → both x (begins (bytesOf 8 v) r) ≡ both x true
       go false f = refl
-      go true f = at (leb 8 (length r)) refl (ap (λ (x : ℕ). openRead w (x ∷ r)) (eqb-true 255 b f) ∙ e)
+      go true f = at (leb 8 (length r)) refl (ap (λ (x : ℕ). openOne w (x ∷ r)) (eqb-true exceptionByte b f) ∙ e)
 
-  pub head-decides : (s : List ℕ) → Below 256 s → openRead w s ≡ Ratio v k → begins (coded v w) s ≡ begins (formHead (ratioForm v w)) s
+  pub head-decides : (s : List ℕ) → Below 256 s → openOne w s ≡ Ratio v k → begins (coded v w) s ≡ begins (ratioFormHead (ratioForm v w)) s
   unfolding coded written
   head-decides s hs e =
-      form-cases v w (λ (f : RatioForm). begins (written v f) s ≡ begins (formHead f) s)
+      ratio-form-cases v w (λ (f : RatioForm). begins (written v f) s ≡ begins (ratioFormHead f) s)
       (λ h. refl)
       (λ h g. let x = bestXor v w in xor-head (best v w .place) (trailZeros x) (8 - (leadZeros x + trailZeros x)) s hs (best-at v w (omega arith) .0) (omega (arith, trail-le x)) e)
       (λ h g. exception-head s hs e)

@@ -6,9 +6,9 @@ ghost use lib.ListN.{length, take, drop};
 ghost use Rattle.bits.specs.Digits.{numberOf};
 ghost use Rattle.lists.specs.Compare.{begins};
 ghost use Rattle.ratio_format.specs.Windows.{windowSize};
-ghost use Rattle.ratio_format.specs.Open.{openXor, openRead, strictRead};
-ghost use Rattle.ratio_format.specs.Forms.{Fit};
-ghost use Rattle.ratio_codec.specs.Heads.{formHead};
+ghost use Rattle.ratio_format.specs.Open.{openXor, openOne, strictOne};
+ghost use Rattle.ratio_format.specs.RatioForms.{Fit};
+ghost use Rattle.ratio_codec.specs.Heads.{ratioFormHead};
 use super::EXCEPTION;
 use super::XOR;
 use super::search::pass_equal;
@@ -58,8 +58,8 @@ fn read_xor(u: u64, s: &[u8]) -> Read
 }
 
 // The ratio at the front of the bytes, by the open rule.
-pub fn read_open(window: &[u64], s: &[u8]) -> Read
-    ensures { λ r. ⌜ r ≡ openRead (reverse (now (window .entry))) (now (s .entry)) ⌝ }
+pub fn read_one_open(window: &[u64], s: &[u8]) -> Read
+    ensures { λ r. ⌜ r ≡ openOne (reverse (now (window .entry))) (now (s .entry)) ⌝ }
 {
     if s.len() == 0 {
         return Read::Nothing;
@@ -110,7 +110,7 @@ fn has_two(s: &[u8], a: usize, b: usize) -> bool
 // Whether the bytes begin as the form does.
 pub fn has_head(f: RatioForm, s: &[u8]) -> bool
     requires { ⌜ Fit windowSize f ⌝ }
-    ensures { λ r. ⌜ r ≡ begins (formHead f) (now (s .entry)) ⌝ }
+    ensures { λ r. ⌜ r ≡ begins (ratioFormHead f) (now (s .entry)) ⌝ }
 {
     match f {
         RatioForm::Reference(place) => has_one(s, place),
@@ -127,9 +127,9 @@ pub fn has_head(f: RatioForm, s: &[u8]) -> bool
 // The ratio at the front of the bytes, where they are those that are written for it: of bytes that are read as a ratio, the head decides.
 fn read_by_head(window: &[u64], s: &[u8]) -> Read
     requires { ⌜ length (now window) ≤ windowSize ⌝ }
-    ensures { λ r. ⌜ r ≡ strictRead (reverse (now (window .entry))) (now (s .entry)) ⌝ }
+    ensures { λ r. ⌜ r ≡ strictOne (reverse (now (window .entry))) (now (s .entry)) ⌝ }
 {
-    let r = read_open(window, s);
+    let r = read_one_open(window, s);
     let Read::Ratio(v, n) = r else {
         return Read::Nothing;
     };
@@ -141,9 +141,9 @@ fn read_by_head(window: &[u64], s: &[u8]) -> Read
 }
 
 // The same. A place needs no search: it is what is written where no nearer one holds an equal ratio.
-pub fn read_strict(window: &[u64], s: &[u8]) -> Read
+pub fn read_one_strict(window: &[u64], s: &[u8]) -> Read
     requires { ⌜ length (now window) ≤ windowSize ⌝ }
-    ensures { λ r. ⌜ r ≡ strictRead (reverse (now (window .entry))) (now (s .entry)) ⌝ }
+    ensures { λ r. ⌜ r ≡ strictOne (reverse (now (window .entry))) (now (s .entry)) ⌝ }
 {
     if s.len() == 0 {
         return Read::Nothing;

@@ -8,6 +8,7 @@ ghost use lib.ListN.{length, drop};
 ghost use Rattle.ratio_format.specs.Choice.{find, best};
 ghost use Rattle.ratio_window.specs.Passed.{Passed};
 use ratio_window::Best;
+use ratio_window::EQUAL_SUM;
 use ratio_window::sum_of;
 
 // The first place from `from` on whose ratio is v, or the window's length.
@@ -68,7 +69,10 @@ pub fn search(window: &[u64], v: u64) -> Best
     while i < window.len() {
         let u = window[window.len() - 1 - i];
         if u == v {
-            return Best { place: i, sum: 16 };
+            return Best {
+                place: i,
+                sum: EQUAL_SUM,
+            };
         }
         let s = sum_of(v, u);
         if sum < s {

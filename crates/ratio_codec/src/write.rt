@@ -7,7 +7,7 @@ ghost use Rattle.bits.specs.Digits.{bytesOf};
 ghost use Rattle.outputs.specs.Outputs.{Placed};
 ghost use Rattle.ratio_format.specs.Choice.{ratioForm};
 ghost use Rattle.ratio_format.specs.Windows.{windowSize};
-ghost use Rattle.ratio_format.specs.Forms.{written, coded, Fit};
+ghost use Rattle.ratio_format.specs.RatioForms.{xorByte, exceptionByte, written, coded, Fit};
 ghost use Rattle.ratio_window.specs.Searched.{Searched};
 use super::EXCEPTION;
 use super::XOR;
@@ -16,16 +16,17 @@ use bits::put_bytes;
 use outputs::Wrote;
 use ratio_format::RatioForm;
 use ratio_window::Best;
+use ratio_window::EQUAL_SUM;
 use ratio_window::trail_zeros;
 
 // The form of v, by what a search of the window found.
-pub fn form_of(b: Best, window: &[u64], v: u64) -> RatioForm
+pub fn ratio_form_of(b: Best, window: &[u64], v: u64) -> RatioForm
     requires { ⌜ Searched v (reverse (now window)) (b .place) (b .sum) ⌝ }
     ensures { λ r. ⌜ r ≡ ratioForm v (reverse (now (window .entry))) ⌝ }
 {
     let place = b.place;
     let sum = b.sum;
-    if sum == 16 {
+    if sum == EQUAL_SUM {
         return RatioForm::Reference(place);
     }
     if 2 <= sum {
@@ -46,7 +47,7 @@ pub fn choose(window: &[u64], v: u64) -> RatioForm
     ensures { λ r. ⌜ r ≡ ratioForm v (reverse (now (window .entry))) ⌝ }
 {
     let b = search(window, v);
-    form_of(b, window, v)
+    ratio_form_of(b, window, v)
 }
 
 // The byte of a place.
@@ -64,7 +65,7 @@ pub fn put_reference(out: &mut [u8], place: usize) -> Wrote
 // The bytes of an xor form.
 fn put_xor(out: &mut [u8], place: usize, trail: usize, len: usize, middle: u64) -> Wrote
     requires { ⌜ (place < windowSize) × (trail ≤ 8) × (len ≤ 6) ⌝ }
-    ensures { λ r. ⌜ Placed ((place + 128) ∷ (trail * 16 + len) ∷ bytesOf len middle) r (now (out .entry)) (now (out .exit)) ⌝ }
+    ensures { λ r. ⌜ Placed ((place + xorByte) ∷ (trail * 16 + len) ∷ bytesOf len middle) r (now (out .entry)) (now (out .exit)) ⌝ }
 {
     if out.len() < len + 2 {
         return Wrote::NoRoom;
@@ -77,7 +78,7 @@ fn put_xor(out: &mut [u8], place: usize, trail: usize, len: usize, middle: u64) 
 
 // The bytes of an exception.
 fn put_exception(out: &mut [u8], v: u64) -> Wrote
-    ensures { λ r. ⌜ Placed (255 ∷ bytesOf 8 v) r (now (out .entry)) (now (out .exit)) ⌝ }
+    ensures { λ r. ⌜ Placed (exceptionByte ∷ bytesOf 8 v) r (now (out .entry)) (now (out .exit)) ⌝ }
 {
     if out.len() < 9 {
         return Wrote::NoRoom;
@@ -88,7 +89,7 @@ fn put_exception(out: &mut [u8], v: u64) -> Wrote
 }
 
 // The bytes of v in the form f, of a window of our size.
-pub fn put_form(f: RatioForm, v: u64, out: &mut [u8]) -> Wrote
+pub fn put_ratio_form(f: RatioForm, v: u64, out: &mut [u8]) -> Wrote
     requires { ⌜ Fit windowSize f ⌝ }
     ensures { λ r. ⌜ Placed (written v f) r (now (out .entry)) (now (out .exit)) ⌝ }
 {
@@ -110,5 +111,5 @@ pub fn encode(window: &[u64], v: u64, out: &mut [u8]) -> Wrote
     ensures { λ r. ⌜ Placed (coded v (reverse (now (window .entry)))) r (now (out .entry)) (now (out .exit)) ⌝ }
 {
     let f = choose(window, v);
-    put_form(f, v, out)
+    put_ratio_form(f, v, out)
 }

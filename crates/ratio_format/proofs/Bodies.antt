@@ -12,10 +12,10 @@ use lib.Seq.{take-all, take-suc, append-snoc}
 use Rattle.lists.specs.Below.{Below}
 use Rattle.lists.proofs.Below.{below-append}
 use Rattle.ratio_format.specs.Windows.{windowSize, push, windowOf}
-use Rattle.ratio_format.specs.Forms.{coded}
+use Rattle.ratio_format.specs.RatioForms.{coded}
 use Rattle.ratio_format.specs.Bodies.{codedFrom}
 use Rattle.ratio_format.proofs.Windows.{push-length, take-late}
-use Rattle.ratio_format.proofs.Forms.{coded-length, coded-below}
+use Rattle.ratio_format.proofs.RatioForms.{coded-length, coded-below}
 
 -- a ratio takes at most nine bytes
 pub nine-bytes : (size : ℕ) (w vs : List ℕ) → length (codedFrom size w vs) ≤ 9 * length vs

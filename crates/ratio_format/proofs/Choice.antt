@@ -17,8 +17,8 @@ use Rattle.lists.specs.Below.{Below}
 use Rattle.lists.proofs.Below.{below-at}
 use Rattle.ratio_format.specs.declared.RatioForm.{RatioForm}
 use Rattle.ratio_format.specs.declared.RatioForm.the-variants.{Reference, Xor, Exception}
-use Rattle.ratio_format.specs.Zeros.{leadZeros, trailZeros, sumOf}
-use Rattle.ratio_format.specs.Forms.{Fit}
+use Rattle.ratio_format.specs.Zeros.{equalSum, leadZeros, trailZeros, sumOf}
+use Rattle.ratio_format.specs.RatioForms.{Fit}
 use Rattle.ratio_format.specs.Choice.{Best, newer, best, find, ratioForm, xorForm}
 use Rattle.ratio_format.proofs.Zeros.{trail-le, middle-fits}
 use Rattle.ratio_format.proofs.Zeros.Sums.{sum-same, sum-other}
@@ -109,7 +109,7 @@ find-le v (u ∷ w) = go (find-le v w) (eqb v u)
 -- Of a window of n ratios with the best sum s at place p, and the ratio's own smallest place f: the ratio is in the window, s is 16 and
 -- p is f; or it is not, and s is below 8.
 abbrev pub FoundAt : ℕ → ℕ → ℕ → ℕ → Type 0
-FoundAt s p f n = ((s ≡ 16) × (f ≡ p) × (f < n)) ⊎ ((s < 8) × (f ≡ n))
+FoundAt s p f n = ((s ≡ equalSum) × (f ≡ p) × (f < n)) ⊎ ((s < 8) × (f ≡ n))
 
 pub found : (v : ℕ) (w : List ℕ) → v < 2 ^ 64 → Below (2 ^ 64) w → FoundAt (best v w .sum) (best v w .place) (find v w) (length w)
 unfolding best find Below
@@ -128,7 +128,7 @@ found v (u ∷ w) hv ha = go (found v w hv (ha .1)) (eqb v u) refl
     go : FoundAt (best v w .sum) (best v w .place) (find v w) (length w) → (t : Bool) → eqb v u ≡ t
         → FoundAt (newer (sumOf v u) (best v w) .sum) (newer (sumOf v u) (best v w) .place) (cond t 0 (find v w + 1)) (suc (length w))
     go ih true e =
-        let q : sumOf v u ≡ 16 = ap (sumOf v) (sym (eqb-true v u e)) ∙ sum-same v in
+        let q : sumOf v u ≡ equalSum = ap (sumOf v) (sym (eqb-true v u e)) ∙ sum-same v in
         rw (le-leb (best v w .sum) (sumOf v u) (⊎-elim (λ a. omega arith) (λ b. omega arith) ih)) (inl (q, refl, omega arith))
     go (inl a) false e = rw (lt-leb (best v w .sum) (sumOf v u) (omega (arith, other e))) (inl (a .0, omega arith, omega arith))
     go (inr b) false e = late (b .0) (b .1) (other e) (leb (best v w .sum) (sumOf v u))
@@ -139,30 +139,30 @@ xorOf b x = Xor (b .place) (trailZeros x) (8 - b .sum) (x / 256 ^ trailZeros x)
 
 -- the form, by the best alone
 module _ (v : ℕ) (w : List ℕ) (hv : v < 2 ^ 64) (ha : Below (2 ^ 64) w) where
-  pub form-reference : best v w .sum ≡ 16 → ratioForm v w ≡ Reference (best v w .place)
+  pub ratio-form-reference : best v w .sum ≡ equalSum → ratioForm v w ≡ Reference (best v w .place)
   unfolding ratioForm
-  form-reference e =
+  ratio-form-reference e =
       ⊎-elim
       (λ a. rw (lt-ltb (find v w) (length w) (a .2)) (ap Reference (a .1)))
       (λ b. absurd (omega arith))
       (found v w hv ha)
 
-  small : (best v w .sum ≡ 16 → ⊥) → (best v w .sum < 8) × (ltb (find v w) (length w) ≡ false)
+  small : (best v w .sum ≡ equalSum → ⊥) → (best v w .sum < 8) × (ltb (find v w) (length w) ≡ false)
   small n = ⊎-elim (λ a. absurd (n (a .0))) (λ b. (b .0, le-ltb (find v w) (length w) (omega arith))) (found v w hv ha)
 
-  pub form-xor : (best v w .sum ≡ 16 → ⊥) → 2 ≤ best v w .sum
+  pub ratio-form-xor : (best v w .sum ≡ equalSum → ⊥) → 2 ≤ best v w .sum
       → ratioForm v w ≡ xorOf (best v w) (bitXor v (getD w (best v w .place) 0))
   unfolding ratioForm sumOf
-  form-xor n h =
+  ratio-form-xor n h =
       rw (small n .1, le-leb 2 (best v w .sum) h)
       (let x = bitXor v (getD w (best v w .place) 0) in ap (λ (s : ℕ). Xor (best v w .place) (trailZeros x) (8 - s) (x / 256 ^ trailZeros x)) (best-at v w (omega arith) .1))
 
-  pub form-exception : best v w .sum < 2 → ratioForm v w ≡ Exception
+  pub ratio-form-exception : best v w .sum < 2 → ratioForm v w ≡ Exception
   unfolding ratioForm
-  form-exception h = rw (small (λ e. omega arith) .1, lt-leb 2 (best v w .sum) h)
+  ratio-form-exception h = rw (small (λ e. omega arith) .1, lt-leb 2 (best v w .sum) h)
 
   -- a sum other than 16 is below 8
-  pub sum-small : (best v w .sum ≡ 16 → ⊥) → best v w .sum < 8
+  pub sum-small : (best v w .sum ≡ equalSum → ⊥) → best v w .sum < 8
   sum-small n = small n .0
 
 -- What holds of the form: by cases of the choice.
@@ -170,13 +170,13 @@ module _ (v : ℕ) (w : List ℕ) where
   abbrev pub bestXor : ℕ
   bestXor = bitXor v (getD w (best v w .place) 0)
 
-  pub form-cases : (P : RatioForm → Type 0)
+  pub ratio-form-cases : (P : RatioForm → Type 0)
       → (find v w < length w → P (Reference (find v w)))
       → (length w ≤ find v w → 2 ≤ best v w .sum → P (xorForm (best v w .place) bestXor))
       → (length w ≤ find v w → best v w .sum < 2 → P Exception)
       → P (ratioForm v w)
   unfolding ratioForm
-  form-cases P ref xor exc = go (ltb (find v w) (length w)) refl (leb 2 (best v w .sum)) refl
+  ratio-form-cases P ref xor exc = go (ltb (find v w) (length w)) refl (leb 2 (best v w .sum)) refl
     where
       go : (t : Bool) → ltb (find v w) (length w) ≡ t → (s : Bool) → leb 2 (best v w .sum) ≡ s
           → P (cond t (Reference (find v w)) (cond s (xorForm (best v w .place) bestXor) Exception))
@@ -197,9 +197,9 @@ module _ (v : ℕ) (w : List ℕ) where
   pub find-lt : (p : ℕ) → p < length w → getD w p 0 ≡ v → find v w < length w
   find-lt p h e = lt-of-not-le (λ (g : length w ≤ find v w). find-first v w p (omega arith) e)
 
-pub form-fit : (v : ℕ) (w : List ℕ) → Fit (length w) (ratioForm v w)
-form-fit v w =
-    form-cases v w (Fit (length w)) (λ h. h)
+pub ratio-form-fit : (v : ℕ) (w : List ℕ) → Fit (length w) (ratioForm v w)
+ratio-form-fit v w =
+    ratio-form-cases v w (Fit (length w)) (λ h. h)
     (λ h g. (best-at v w (omega arith) .0, trail-le (bestXor v w), omega (arith, best-xor v w g)))
     (λ h g. tt)
 
@@ -209,9 +209,9 @@ Tight (Reference p) = Unit {0}
 Tight (Xor p t k m) = (1 ≤ k) × (t + k ≤ 8) × (m < 256 ^ k)
 Tight Exception = Unit {0}
 
-pub form-tight : (v : ℕ) (w : List ℕ) → v < 2 ^ 64 → Below (2 ^ 64) w → Tight (ratioForm v w)
-form-tight v w hv ha =
-    form-cases v w Tight (λ h. tt)
+pub ratio-form-tight : (v : ℕ) (w : List ℕ) → v < 2 ^ 64 → Below (2 ^ 64) w → Tight (ratioForm v w)
+ratio-form-tight v w hv ha =
+    ratio-form-cases v w Tight (λ h. tt)
     (λ h g.
     let s : best v w .sum < 8 = absent-small v w hv ha h in
     let e = best-xor v w g in

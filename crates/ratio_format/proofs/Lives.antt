@@ -17,12 +17,12 @@ use Rattle.ratio_format.specs.declared.Window.{Window}
 use Rattle.ratio_format.specs.declared.Live.{Live}
 use Rattle.ratio_format.specs.declared.AddAnswer.{AddAnswer}
 use Rattle.ratio_format.specs.Windows.{windowSize, push, held, pushed}
-use Rattle.ratio_format.specs.Forms.{coded}
+use Rattle.ratio_format.specs.RatioForms.{coded}
 use Rattle.ratio_format.specs.Bodies.{codedFrom, codedRatios}
 use Rattle.ratio_format.specs.Lives.{freshLive, badWindow, badLive, stateTests, Coder, addBytesBy, addRefusalBy, addAnswerBy, addOutputBy, addedTo, addStateBy, addBytes, addRefusal, addAnswer}
 use Rattle.ratio_format.specs.Claims.{Tick, ratiosOf, Roomy, tickState, tickBytes, addNumbers, addJoined, addTaken, LiveBody, LiveJoined, LiveStays}
 use Rattle.ratio_format.proofs.Windows.{pushed-fill, pushed-size, held-pushed}
-use Rattle.ratio_format.proofs.Forms.{coded-length}
+use Rattle.ratio_format.proofs.RatioForms.{coded-length}
 
 -- ---- a state that is not bad
 

@@ -24,12 +24,12 @@ use Rattle.ratio_format.specs.declared.Read.the-variants.{Ratio, Nothing
 use Rattle.ratio_format.specs.Zeros.{leadZeros, trailZeros, sumOf}
 use Rattle.ratio_format.specs.Windows.{windowSize}
 use Rattle.ratio_format.specs.Choice.{best, find, ratioForm}
-use Rattle.ratio_format.specs.Forms.{written, coded}
-use Rattle.ratio_format.specs.Open.{openRead, openXor, strictRead, strictOf}
+use Rattle.ratio_format.specs.RatioForms.{xorByte, exceptionByte, written, coded}
+use Rattle.ratio_format.specs.Open.{openOne, openXor, strictOne, strictOf}
 use Rattle.ratio_format.proofs.Zeros.{trail-factor, middle-fits, raised-fits, zeros-most}
 use Rattle.ratio_format.proofs.Zeros.Sums.{xor-back}
-use Rattle.ratio_format.proofs.Choice.{best-at, best-most, find-at, find-lt, form-cases, best-xor, absent-small}
-use Rattle.ratio_format.proofs.Forms.{formLen, coded-is, coded-length}
+use Rattle.ratio_format.proofs.Choice.{best-at, best-most, find-at, find-lt, ratio-form-cases, best-xor, absent-small}
+use Rattle.ratio_format.proofs.RatioForms.{ratioFormLen, coded-is, coded-length}
 
 -- ---- what is read, by outcome
 
@@ -58,84 +58,84 @@ module _ (u : ℕ) where
 
 -- from the first byte on
 module _ (w : List ℕ) where
-  pub open-empty : (s : List ℕ) → length s ≡ 0 → Nothing ≡ openRead w s
-  unfolding openRead
+  pub open-empty : (s : List ℕ) → length s ≡ 0 → Nothing ≡ openOne w s
+  unfolding openOne
   open-empty [] e = refl
   open-empty (c ∷ s) e = absurd (omega arith)
 
-  pub open-reference : (s : List ℕ) (v : ℕ) → (length s ≡ 0 → ⊥) → getD s 0 0 < 128 → getD s 0 0 < length w → v ≡ getD w (getD s 0 0) 0 → Ratio v 1 ≡ openRead w s
-  unfolding openRead
+  pub open-reference : (s : List ℕ) (v : ℕ) → (length s ≡ 0 → ⊥) → getD s 0 0 < xorByte → getD s 0 0 < length w → v ≡ getD w (getD s 0 0) 0 → Ratio v 1 ≡ openOne w s
+  unfolding openOne
   open-reference [] v n h g e = absurd (n refl)
-  open-reference (b ∷ s) v n h g e = rw (lt-ltb b 128 h, lt-ltb b (length w) g, e)
+  open-reference (b ∷ s) v n h g e = rw (lt-ltb b xorByte h, lt-ltb b (length w) g, e)
 
-  pub open-far : (s : List ℕ) → (length s ≡ 0 → ⊥) → getD s 0 0 < 128 → length w ≤ getD s 0 0 → Nothing ≡ openRead w s
-  unfolding openRead
+  pub open-far : (s : List ℕ) → (length s ≡ 0 → ⊥) → getD s 0 0 < xorByte → length w ≤ getD s 0 0 → Nothing ≡ openOne w s
+  unfolding openOne
   open-far [] n h g = absurd (n refl)
-  open-far (b ∷ s) n h g = rw (lt-ltb b 128 h, le-ltb b (length w) g)
+  open-far (b ∷ s) n h g = rw (lt-ltb b xorByte h, le-ltb b (length w) g)
 
-  pub open-xor : (s : List ℕ) (u : ℕ) (r : Read) → (length s ≡ 0 → ⊥) → 128 ≤ getD s 0 0 → getD s 0 0 < 255 → getD s 0 0 - 128 < length w
-      → u ≡ getD w (getD s 0 0 - 128) 0 → r ≡ openXor u (drop 1 s) → r ≡ openRead w s
-  unfolding openRead
+  pub open-xor : (s : List ℕ) (u : ℕ) (r : Read) → (length s ≡ 0 → ⊥) → xorByte ≤ getD s 0 0 → getD s 0 0 < exceptionByte → getD s 0 0 - xorByte < length w
+      → u ≡ getD w (getD s 0 0 - xorByte) 0 → r ≡ openXor u (drop 1 s) → r ≡ openOne w s
+  unfolding openOne
   open-xor [] u r n h g f e q = absurd (n refl)
-  open-xor (b ∷ s) u r n h g f e q = rw (le-ltb b 128 h, lt-ltb b 255 g, lt-ltb (b - 128) (length w) f) (q ∙ ap (λ (x : ℕ). openXor x s) e)
+  open-xor (b ∷ s) u r n h g f e q = rw (le-ltb b xorByte h, lt-ltb b exceptionByte g, lt-ltb (b - xorByte) (length w) f) (q ∙ ap (λ (x : ℕ). openXor x s) e)
 
-  pub open-away : (s : List ℕ) → (length s ≡ 0 → ⊥) → 128 ≤ getD s 0 0 → getD s 0 0 < 255 → length w ≤ getD s 0 0 - 128 → Nothing ≡ openRead w s
-  unfolding openRead
+  pub open-away : (s : List ℕ) → (length s ≡ 0 → ⊥) → xorByte ≤ getD s 0 0 → getD s 0 0 < exceptionByte → length w ≤ getD s 0 0 - xorByte → Nothing ≡ openOne w s
+  unfolding openOne
   open-away [] n h g f = absurd (n refl)
-  open-away (b ∷ s) n h g f = rw (le-ltb b 128 h, lt-ltb b 255 g, le-ltb (b - 128) (length w) f)
+  open-away (b ∷ s) n h g f = rw (le-ltb b xorByte h, lt-ltb b exceptionByte g, le-ltb (b - xorByte) (length w) f)
 
-  pub open-exception : (s : List ℕ) (v : ℕ) → 255 ≤ getD s 0 0 → 9 ≤ length s → v ≡ numberOf 256 (take 8 (drop 1 s)) → Ratio v 9 ≡ openRead w s
-  unfolding openRead
+  pub open-exception : (s : List ℕ) (v : ℕ) → exceptionByte ≤ getD s 0 0 → 9 ≤ length s → v ≡ numberOf 256 (take 8 (drop 1 s)) → Ratio v 9 ≡ openOne w s
+  unfolding openOne
   open-exception [] v h g e = absurd (omega arith)
-  open-exception (b ∷ s) v h g e = rw (le-ltb b 128 (omega arith), le-ltb b 255 h, le-leb 8 (length s) (omega arith), e)
+  open-exception (b ∷ s) v h g e = rw (le-ltb b xorByte (omega arith), le-ltb b exceptionByte h, le-leb 8 (length s) (omega arith), e)
 
-  pub open-cut : (s : List ℕ) → (length s ≡ 0 → ⊥) → 255 ≤ getD s 0 0 → length s < 9 → Nothing ≡ openRead w s
-  unfolding openRead
+  pub open-cut : (s : List ℕ) → (length s ≡ 0 → ⊥) → exceptionByte ≤ getD s 0 0 → length s < 9 → Nothing ≡ openOne w s
+  unfolding openOne
   open-cut [] n h g = absurd (n refl)
-  open-cut (b ∷ s) n h g = rw (le-ltb b 128 (omega arith), le-ltb b 255 h, lt-leb 8 (length s) (omega arith))
+  open-cut (b ∷ s) n h g = rw (le-ltb b xorByte (omega arith), le-ltb b exceptionByte h, lt-leb 8 (length s) (omega arith))
 
 -- strict reading, from an open one
-module _ (w s : List ℕ) (r : Read) (o : r ≡ openRead w s) where
-  pub strict-nothing : r ≡ Nothing → Nothing ≡ strictRead w s
-  unfolding strictRead
+module _ (w s : List ℕ) (r : Read) (o : r ≡ openOne w s) where
+  pub strict-nothing : r ≡ Nothing → Nothing ≡ strictOne w s
+  unfolding strictOne
   strict-nothing e = ap (strictOf w s) (sym e ∙ o)
 
-  pub strict-good : (v n : ℕ) (t : Bool) → r ≡ Ratio v n → t ≡ begins (coded v w) s → t ≡ true → Ratio v n ≡ strictRead w s
-  unfolding strictRead
+  pub strict-good : (v n : ℕ) (t : Bool) → r ≡ Ratio v n → t ≡ begins (coded v w) s → t ≡ true → Ratio v n ≡ strictOne w s
+  unfolding strictOne
   strict-good v n t e b q = ap (λ (x : Bool). cond x (Ratio v n) Nothing) (sym q ∙ b) ∙ ap (strictOf w s) (sym e ∙ o)
 
-  pub strict-other : (v n : ℕ) (t : Bool) → r ≡ Ratio v n → t ≡ begins (coded v w) s → t ≡ false → Nothing ≡ strictRead w s
-  unfolding strictRead
+  pub strict-other : (v n : ℕ) (t : Bool) → r ≡ Ratio v n → t ≡ begins (coded v w) s → t ≡ false → Nothing ≡ strictOne w s
+  unfolding strictOne
   strict-other v n t e b q = ap (λ (x : Bool). cond x (Ratio v n) Nothing) (sym q ∙ b) ∙ ap (strictOf w s) (sym e ∙ o)
 
 -- ---- what is written is read back
 
 -- each form is read back
 module _ (w rest : List ℕ) (small : length w ≤ windowSize) where
-  pub read-reference : (v p : ℕ) → p < length w → getD w p 0 ≡ v → openRead w (p ∷ rest) ≡ Ratio v 1
-  unfolding openRead
-  read-reference v p h e = rw (lt-ltb p 128 (omega arith), lt-ltb p (length w) h) (ap (λ (x : ℕ). Ratio x 1) e)
+  pub read-reference : (v p : ℕ) → p < length w → getD w p 0 ≡ v → openOne w (p ∷ rest) ≡ Ratio v 1
+  unfolding openOne
+  read-reference v p h e = rw (lt-ltb p xorByte (omega arith), lt-ltb p (length w) h) (ap (λ (x : ℕ). Ratio x 1) e)
 
   pub read-xor : (p t n m : ℕ) → p < length w → t + n ≤ 8 → m < 256 ^ n
-      → openRead w ((p + 128) ∷ (t * 16 + n) ∷ (bytesOf n m ++ rest)) ≡ Ratio (bitXor (m * 256 ^ t) (getD w p 0)) (n + 2)
-  unfolding openRead openXor
+      → openOne w ((p + xorByte) ∷ (t * 16 + n) ∷ (bytesOf n m ++ rest)) ≡ Ratio (bitXor (m * 256 ^ t) (getD w p 0)) (n + 2)
+  unfolding openOne openXor
   read-xor p t n m h g f =
-      let a : p + 128 - 128 ≡ p = omega arith in
+      let a : p + xorByte - xorByte ≡ p = omega arith in
       let b : (t * 16 + n) / 16 ≡ t = omega arith in
       let c : (t * 16 + n) % 16 ≡ n = omega arith in
-      rw (le-ltb (p + 128) 128 (omega arith), lt-ltb (p + 128) 255 (omega arith), a, lt-ltb p (length w) h, b, c, le-leb (t + n) 8 g)
+      rw (le-ltb (p + xorByte) xorByte (omega arith), lt-ltb (p + xorByte) exceptionByte (omega arith), a, lt-ltb p (length w) h, b, c, le-leb (t + n) 8 g)
       (rw (le-leb n (length (bytesOf n m ++ rest)) (rw (length-append, length-digits) (omega arith)), take-at (bytesOf n m) rest n (length-digits 256 n m), number-digits-lt (lit< tt) n f))
 
-  pub read-exception : (v : ℕ) → v < 2 ^ 64 → openRead w (255 ∷ (bytesOf 8 v ++ rest)) ≡ Ratio v 9
-  unfolding openRead
+  pub read-exception : (v : ℕ) → v < 2 ^ 64 → openOne w (exceptionByte ∷ (bytesOf 8 v ++ rest)) ≡ Ratio v 9
+  unfolding openOne
   read-exception v h =
       rw (le-leb 8 (length (bytesOf 8 v ++ rest)) (rw (length-append, length-digits) (omega arith)), take-at (bytesOf 8 v) rest 8 (length-digits 256 8 v), number-digits-lt (lit< tt) 8 h)
 
 module _ (v : ℕ) (w rest : List ℕ) (hv : v < 2 ^ 64) (ha : Below (2 ^ 64) w) (hw : length w ≤ windowSize) where
-  by-form : openRead w (written v (ratioForm v w) ++ rest) ≡ Ratio v (formLen (ratioForm v w))
+  by-form : openOne w (written v (ratioForm v w) ++ rest) ≡ Ratio v (ratioFormLen (ratioForm v w))
   unfolding written
   by-form =
-      form-cases v w (λ (f : RatioForm). openRead w (written v f ++ rest) ≡ Ratio v (formLen f))
+      ratio-form-cases v w (λ (f : RatioForm). openOne w (written v f ++ rest) ≡ Ratio v (ratioFormLen f))
       (λ h. read-reference w rest hw v (find v w) h (find-at v w h))
       (λ h g.
       let b = best-at v w (omega arith) in
@@ -147,35 +147,35 @@ module _ (v : ℕ) (w rest : List ℕ) (hv : v < 2 ^ 64) (ha : Below (2 ^ 64) w)
       reads ∙ ap (λ (y : ℕ). Ratio y (8 - (leadZeros x + trailZeros x) + 2)) (ap (λ (y : ℕ). bitXor y u) (trail-factor x) ∙ xor-back v u))
       (λ h g. read-exception w rest hw v hv)
 
-  pub read-back : openRead w (coded v w ++ rest) ≡ Ratio v (length (coded v w))
+  pub read-back : openOne w (coded v w ++ rest) ≡ Ratio v (length (coded v w))
   unfolding coded
   read-back = by-form ∙ ap (λ (n : ℕ). Ratio v n) (sym (coded-is v w))
 
-  pub strict-takes : strictRead w (coded v w ++ rest) ≡ Ratio v (length (coded v w))
-  unfolding strictRead
+  pub strict-takes : strictOne w (coded v w ++ rest) ≡ Ratio v (length (coded v w))
+  unfolding strictOne
   strict-takes = rw (read-back, begins-own (coded v w) rest)
 
 -- what strict reading gives is read openly, and its written form stands at the front
-pub strict-open : (v n : ℕ) (w s : List ℕ) → strictRead w s ≡ Ratio v n → (openRead w s ≡ Ratio v n) × (begins (coded v w) s ≡ true)
-unfolding strictRead
-strict-open v n w s e = go (openRead w s) refl e
+pub strict-open : (v n : ℕ) (w s : List ℕ) → strictOne w s ≡ Ratio v n → (openOne w s ≡ Ratio v n) × (begins (coded v w) s ≡ true)
+unfolding strictOne
+strict-open v n w s e = go (openOne w s) refl e
   where
-    at : (v′ n′ : ℕ) → openRead w s ≡ Ratio v′ n′ → (t : Bool) → begins (coded v′ w) s ≡ t → cond t (Ratio v′ n′) Nothing ≡ Ratio v n
-        → (openRead w s ≡ Ratio v n) × (begins (coded v w) s ≡ true)
+    at : (v′ n′ : ℕ) → openOne w s ≡ Ratio v′ n′ → (t : Bool) → begins (coded v′ w) s ≡ t → cond t (Ratio v′ n′) Nothing ≡ Ratio v n
+        → (openOne w s ≡ Ratio v n) × (begins (coded v w) s ≡ true)
     at v′ n′ q true b e = let i : v′ ≡ v = cc in (q ∙ e, rw i at b)
     at v′ n′ q false b e = let z : _≡_ {A = ℕ} 0 1 = cc in absurd (omega arith)
 
-    go : (r : Read) → openRead w s ≡ r → strictOf w s r ≡ Ratio v n → (openRead w s ≡ Ratio v n) × (begins (coded v w) s ≡ true)
+    go : (r : Read) → openOne w s ≡ r → strictOf w s r ≡ Ratio v n → (openOne w s ≡ Ratio v n) × (begins (coded v w) s ≡ true)
     go Nothing q e = let z : _≡_ {A = ℕ} 0 1 = cc in absurd (omega arith)
     go (Ratio v′ n′) q e = at v′ n′ q (begins (coded v′ w) s) refl e
 
 -- and nothing else: a ratio that strict reading gives stands there as it is written
-pub strict-only : (v n : ℕ) (w s : List ℕ) → v < 2 ^ 64 → Below (2 ^ 64) w → length w ≤ windowSize → strictRead w s ≡ Ratio v n
+pub strict-only : (v n : ℕ) (w s : List ℕ) → v < 2 ^ 64 → Below (2 ^ 64) w → length w ≤ windowSize → strictOne w s ≡ Ratio v n
     → (t : List ℕ) × (s ≡ coded v w ++ t) × (n ≡ length (coded v w))
 strict-only v n w s hv ha hw e =
     let o = strict-open v n w s e in
     let r = begins-rest (coded v w) s (o .1) in
-    let b : openRead w s ≡ Ratio v (length (coded v w)) = rw (r .1) (read-back v w (r .0) hv ha hw) in
+    let b : openOne w s ≡ Ratio v (length (coded v w)) = rw (r .1) (read-back v w (r .0) hv ha hw) in
     let a = o .0 in
     (r .0, r .1, cc)
 
@@ -208,19 +208,19 @@ module _ (w : List ℕ) (v k : ℕ) where
       go true f false g e = never e
       go false f y g e = never e
 
-  pub opened : (s : List ℕ) → openRead w s ≡ Ratio v k → Opened w s v k
-  unfolding openRead
+  pub opened : (s : List ℕ) → openOne w s ≡ Ratio v k → Opened w s v k
+  unfolding openOne
   opened [] e = never e
   opened (b ∷ s) e =
-      go (ltb b 128) (ltb b (length w)) refl (ltb b 255) (ltb (b - 128) (length w)) refl (leb 8 (length s)) refl e
+      go (ltb b xorByte) (ltb b (length w)) refl (ltb b exceptionByte) (ltb (b - xorByte) (length w)) refl (leb 8 (length s)) refl e
     where
-      go : (x y : Bool) → ltb b (length w) ≡ y → (f g : Bool) → ltb (b - 128) (length w) ≡ g → (n : Bool) → leb 8 (length s) ≡ n
+      go : (x y : Bool) → ltb b (length w) ≡ y → (f g : Bool) → ltb (b - xorByte) (length w) ≡ g → (n : Bool) → leb 8 (length s) ≡ n
           → When (cond x (cond y (Ratio (getD w b 0) 1) Nothing)
-          (cond f (cond g (openXor (getD w (b - 128) 0) s) Nothing) (cond n (Ratio (numberOf 256 (take 8 s)) 9) Nothing)))
+          (cond f (cond g (openXor (getD w (b - xorByte) 0) s) Nothing) (cond n (Ratio (numberOf 256 (take 8 s)) 9) Nothing)))
           → Opened w (b ∷ s) v k
       go true true y f g eg n en e = referred b (ltb-true b (length w) y) (omega arith) (cc) (cc)
       go true false y f g eg n en e = never e
-      go false x y true true eg n en e = xor-opened b (b - 128) s (ltb-true (b - 128) (length w) eg) e
+      go false x y true true eg n en e = xor-opened b (b - xorByte) s (ltb-true (b - xorByte) (length w) eg) e
       go false x y true false eg n en e = never e
       go false x y false g eg true en e = excepted (omega (arith, leb-true 8 (length s) en)) (cc) (cc)
       go false x y false g eg false en e = never e
@@ -237,10 +237,10 @@ used-of w s v k (referred p h g e q) = omega arith
 used-of w s v k (xored p t n h g f e q) = omega arith
 used-of w s v k (excepted f e q) = omega arith
 
-pub open-used : (w s : List ℕ) (v k : ℕ) → openRead w s ≡ Ratio v k → k ≤ length s
+pub open-used : (w s : List ℕ) (v k : ℕ) → openOne w s ≡ Ratio v k → k ≤ length s
 open-used w s v k e = used-of w s v k (opened w v k s e)
 
-pub strict-used : (w s : List ℕ) (v k : ℕ) → strictRead w s ≡ Ratio v k → k ≤ length s
+pub strict-used : (w s : List ℕ) (v k : ℕ) → strictOne w s ≡ Ratio v k → k ≤ length s
 strict-used w s v k e = open-used w s v k (strict-open v k w s e .0)
 
 -- the ratio has 64 bits, and the bytes are there
@@ -254,7 +254,7 @@ module _ (w s : List ℕ) (v k : ℕ) (hs : Below 256 s) (ha : Below (2 ^ 64) w)
   )
   value-of (excepted f e q) = (subst (λ (x : ℕ). x < 2 ^ 64) (sym e) (part-lt 8 1 s hs f), omega arith, omega arith)
 
-  pub open-value : openRead w s ≡ Ratio v k → (v < 2 ^ 64) × (1 ≤ k) × (k ≤ length s)
+  pub open-value : openOne w s ≡ Ratio v k → (v < 2 ^ 64) × (1 ≤ k) × (k ≤ length s)
   open-value e = value-of (opened w v k s e)
 
   -- the bytes that are written for the ratio are no more
@@ -262,7 +262,7 @@ module _ (w s : List ℕ) (v k : ℕ) (hs : Below 256 s) (ha : Below (2 ^ 64) w)
   unfolding sumOf
   short-of (referred p h g e q) =
       rw coded-is
-      (form-cases v w (λ (f : RatioForm). formLen f ≤ k)
+      (ratio-form-cases v w (λ (f : RatioForm). ratioFormLen f ≤ k)
       (λ _. omega arith)
       (λ l _. absurd (omega (arith, find-lt v w p h (sym e))))
       (λ l _. absurd (omega (arith, find-lt v w p h (sym e)))))
@@ -273,11 +273,11 @@ module _ (w s : List ℕ) (v k : ℕ) (hs : Below 256 s) (ha : Below (2 ^ 64) w)
       let z : 8 - n ≤ sumOf v u = rw x (zeros-most m n t (part-lt n 2 s hs f) g) in
       let b = best-most v w p h in
       rw coded-is
-      (form-cases v w (λ (f : RatioForm). formLen f ≤ k)
+      (ratio-form-cases v w (λ (f : RatioForm). ratioFormLen f ≤ k)
       (λ _. omega arith)
       (λ _ i. omega (arith, best-xor v w i))
       (λ _ i. omega arith))
   short-of (excepted f e q) = omega (arith, coded-length v w .1)
 
-  pub open-short : openRead w s ≡ Ratio v k → length (coded v w) ≤ k
+  pub open-short : openOne w s ≡ Ratio v k → length (coded v w) ≤ k
   open-short e = short-of (opened w v k s e)

@@ -19,8 +19,8 @@ use Rattle.ratio_format.specs.declared.Read.the-variants.{Ratio, Nothing
 use Rattle.ratio_format.specs.declared.Cursor.{Cursor}
 use Rattle.ratio_format.specs.declared.StepAnswer.{StepAnswer}
 use Rattle.ratio_format.specs.Windows.{windowSize, freshWindow, push, held, pushed}
-use Rattle.ratio_format.specs.Forms.{coded}
-use Rattle.ratio_format.specs.Open.{strictRead}
+use Rattle.ratio_format.specs.RatioForms.{coded}
+use Rattle.ratio_format.specs.Open.{strictOne}
 use Rattle.ratio_format.specs.Bodies.{codedFrom, codedRatios}
 use Rattle.ratio_format.specs.Lives.{badWindow}
 use Rattle.ratio_format.specs.Stepping.{made, madeBody, madeCursor, badCursor, nextRead, stepRefusal, stepAnswer, stepCursor}
@@ -199,7 +199,7 @@ module _ (b : List ℕ) (c : Cursor) (v : ℕ) (vs : List ℕ) (hv : v < 2 ^ 64)
   reads : nextRead b c ≡ Ratio v (length (coded v w))
   unfolding codedFrom w
   reads =
-      ap (strictRead w) (s .rest)
+      ap (strictOne w) (s .rest)
       ∙ strict-takes v w (codedFrom windowSize (push windowSize v w) vs) hv (s .below) (omega (arith, fits, held-length (c .window) (omega (arith, fits, s .size))))
 
   before-end : c .seen ≡ c .count → ⊥

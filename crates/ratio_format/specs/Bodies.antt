@@ -22,8 +22,8 @@ use Rattle.lists.specs.Compare.{both, same}
 use Rattle.ratio_format.specs.declared.Read.{Read}
 use Rattle.ratio_format.specs.declared.Read.the-variants.{Ratio, Nothing}
 use Rattle.ratio_format.specs.Windows.{windowSize, push}
-use Rattle.ratio_format.specs.Forms.{coded}
-use Rattle.ratio_format.specs.Open.{openRead, strictRead}
+use Rattle.ratio_format.specs.RatioForms.{coded}
+use Rattle.ratio_format.specs.Open.{openOne, strictOne}
 
 -- each ratio goes into the window after it is coded
 unfoldable pub codedFrom : ℕ → List ℕ → List ℕ → List ℕ
@@ -52,7 +52,7 @@ onRatio (Ratio v k) f = f v k
 -- the open rule, from a window that takes each ratio as it is read
 unfoldable pub openFrom : ℕ → List ℕ → ℕ → List ℕ → Option (List ℕ)
 openFrom size w zero s = atEnd s
-openFrom size w (suc n) s = onRatio (openRead w s) (λ v k. before v (openFrom size (push size v w) n (drop k s)))
+openFrom size w (suc n) s = onRatio (openOne w s) (λ v k. before v (openFrom size (push size v w) n (drop k s)))
 
 -- from a fresh window
 abbrev pub openRatios : ℕ → List ℕ → Option (List ℕ)
@@ -92,11 +92,11 @@ takenFrom rule size w (suc n) s = onTaken (rule w s) (λ v k. andTaken v k (take
 
 -- by the open rule
 abbrev pub openTaken : ℕ → List ℕ → Taken
-openTaken n s = takenFrom openRead windowSize [] n s
+openTaken n s = takenFrom openOne windowSize [] n s
 
 -- strictly: it stops at the first bytes that are no written form of a next ratio
 abbrev pub strictTaken : ℕ → List ℕ → Taken
-strictTaken n s = takenFrom strictRead windowSize [] n s
+strictTaken n s = takenFrom strictOne windowSize [] n s
 
 -- a sound body: as many ratios as were asked for, and no byte too many
 abbrev pub wholeTaken : ℕ → List ℕ → Taken → Option (List ℕ)

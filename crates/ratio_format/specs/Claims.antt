@@ -33,7 +33,7 @@ use Rattle.limits.specs.Points.{maxPoints}
 use Rattle.ratio_format.specs.declared.Live.{Live}
 use Rattle.ratio_format.specs.declared.Cursor.{Cursor}
 use Rattle.ratio_format.specs.declared.StepAnswer.{StepAnswer}
-use Rattle.ratio_format.specs.Forms.{coded}
+use Rattle.ratio_format.specs.RatioForms.{coded}
 use Rattle.ratio_format.specs.Bodies.{codedRatios}
 use Rattle.ratio_format.specs.Lives.{freshLive, badLive, Coder, addStateBy, addAnswer, addOutput, addState}
 use Rattle.ratio_format.specs.Stepping.{madeBody, madeCursor, badCursor, stepAnswer, stepCursor}

@@ -1,7 +1,7 @@
 pub mod Zeros
 pub mod Windows
 pub mod Choice
-pub mod Forms
+pub mod RatioForms
 pub mod Open
 pub mod Bodies
 pub mod Lives

@@ -27,7 +27,7 @@ use Rattle.ratio_format.specs.declared.Window.{Window}
 use Rattle.ratio_format.specs.declared.Live.{Live}
 use Rattle.ratio_format.specs.declared.AddAnswer.{AddAnswer}
 use Rattle.ratio_format.specs.Windows.{windowSize, freshWindow, held, pushed}
-use Rattle.ratio_format.specs.Forms.{coded}
+use Rattle.ratio_format.specs.RatioForms.{coded}
 
 -- where a live coding starts
 abbrev pub freshLive : Live

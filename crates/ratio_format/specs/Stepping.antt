@@ -26,7 +26,7 @@ use Rattle.ratio_format.specs.declared.Cursor.{Cursor}
 use Rattle.ratio_format.specs.declared.StepAnswer.{StepAnswer}
 use Rattle.ratio_format.specs.Windows.{freshWindow, held, pushed}
 use Rattle.ratio_format.specs.Lives.{badWindow}
-use Rattle.ratio_format.specs.Open.{strictRead}
+use Rattle.ratio_format.specs.Open.{strictOne}
 
 -- making tests the count alone, and the body may have any length
 abbrev pub makeTests : ℕ → List Test
@@ -55,7 +55,7 @@ badCursor b c =
 
 -- the next ratio, read strictly at the reader's place
 abbrev pub nextRead : List ℕ → Cursor → Read
-nextRead b c = strictRead (held (c .window)) (drop (c .place) b)
+nextRead b c = strictOne (held (c .window)) (drop (c .place) b)
 
 -- whether none was read
 abbrev pub isNothing : Read → Bool

@@ -2,6 +2,7 @@
 --   zerosAt bs       how many zeros the list bs begins with
 --   leadZeros x      the leading zero bytes of a number of 64 bits
 --   trailZeros x     its trailing zero bytes
+--   equalSum         the sum of a ratio and itself: eight zero bytes, from either end
 --   sumOf v u        both counts of v xor u together: document 01's sum
 use mathlib.Core.List.{List, [], _∷_, reverse}
 use Prim.Native.Nat.{ℕ, _+_}
@@ -21,6 +22,10 @@ leadZeros x = zerosAt (bytesOf 8 x)
 -- from the lowest byte up
 unfoldable pub trailZeros : ℕ → ℕ
 trailZeros x = zerosAt (reverse (bytesOf 8 x))
+
+-- the largest sum, of equal ratios only
+abbrev pub equalSum : ℕ
+equalSum = 16
 
 -- the sum that the choice maximises
 unfoldable pub sumOf : ℕ → ℕ → ℕ

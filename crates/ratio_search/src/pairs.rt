@@ -3,12 +3,13 @@ ghost use mathlib.Core.Path.{_≡_};
 ghost use mathlib.Core.Bool.{false};
 ghost use mathlib.Core.Logic.{_⊎_};
 ghost use Prim.Native.Nat.{ℕ, _+_, _≤_, _<_};
+ghost use Rattle.bits.specs.Digits.{byteOf};
 ghost use Rattle.ratio_format.specs.Zeros.{leadZeros, trailZeros};
-ghost use Rattle.ratio_search.specs.BytePlanes.{byteAt, slots, Differs};
+ghost use Rattle.ratio_search.specs.BytePlanes.{slots, Differs};
 ghost use Rattle.ratio_search.specs.Apart.{Apart};
 use super::planes::CELLS;
 use super::planes::SLOTS;
-use super::planes::byte_of;
+use bits::byte_of;
 use ratio_window::lead_zeros;
 use ratio_window::trail_zeros;
 
@@ -59,10 +60,10 @@ pub(crate) fn suspect(planes: &[u8; CELLS], slot: usize, v: u64, p: Pairs) -> bo
     let b = p.b * SLOTS + slot;
     let c = p.c * SLOTS + slot;
     let d = p.d * SLOTS + slot;
-    let x = byte_of(v, p.a);
-    let y = byte_of(v, p.b);
-    let z = byte_of(v, p.c);
-    let w = byte_of(v, p.d);
+    let x = byte_of(v, p.a) as u8;
+    let y = byte_of(v, p.b) as u8;
+    let z = byte_of(v, p.c) as u8;
+    let w = byte_of(v, p.d) as u8;
     let mut any = false;
     let mut j: usize = 0;
     while j < 16 {
@@ -77,15 +78,15 @@ pub(crate) fn suspect(planes: &[u8; CELLS], slot: usize, v: u64, p: Pairs) -> bo
 // Whether byte j of x is 0.
 fn zero_at(x: u64, j: usize) -> bool
     requires { ⌜ j < 8 ⌝ }
-    ensures { λ r. ⌜ (r ≡ false → byteAt x j ≡ 0 → ⊥) ⌝ }
+    ensures { λ r. ⌜ (r ≡ false → byteOf x j ≡ 0 → ⊥) ⌝ }
 {
-    (x >> (8 * j)) % 256 == 0
+    byte_of(x, j) == 0
 }
 
 // Whether one of two bytes of x is 0.
 fn one_zero(x: u64, a: usize, b: usize) -> bool
     requires { ⌜ (a < 8) × (b < 8) ⌝ }
-    ensures { λ r. ⌜ (r ≡ false → (byteAt x a ≡ 0 → ⊥) × (byteAt x b ≡ 0 → ⊥)) ⌝ }
+    ensures { λ r. ⌜ (r ≡ false → (byteOf x a ≡ 0 → ⊥) × (byteOf x b ≡ 0 → ⊥)) ⌝ }
 {
     if zero_at(x, a) {
         return true;

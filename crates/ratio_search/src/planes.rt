@@ -2,33 +2,28 @@
 ghost use mathlib.Core.Path.{_≡_};
 ghost use Prim.Native.Nat.{ℕ, _+_, _-_, _*_, _%_, _≤_, _<_};
 ghost use lib.ListN.{length, getD};
-ghost use Rattle.ratio_search.specs.BytePlanes.{byteAt, slots, cells, Kept};
+ghost use Rattle.bits.specs.Digits.{byteOf};
+ghost use Rattle.ratio_search.specs.BytePlanes.{slots, cells, Kept};
+use bits::byte_of;
+use ratio_format::Window;
 
-// How many ratios the planes hold: the ratio at index k stands in slot k % SLOTS.
-pub const SLOTS: usize = 128;
+// How many ratios the planes hold, the window's size and one more: the ratio at index k stands in slot k % SLOTS.
+pub const SLOTS: usize = Window::SIZE + 1;
 
 // The bytes of all planes.
 pub const CELLS: usize = 8 * SLOTS;
-
-// Byte j of v, byte 0 the lowest.
-pub(crate) fn byte_of(v: u64, j: usize) -> u8
-    requires { ⌜ j < 8 ⌝ }
-    ensures { λ r. ⌜ r ≡ byteAt v j ⌝ }
-{
-    ((v >> (8 * j)) % 256) as u8
-}
 
 // The bytes of v go into the slot of index i; all other slots stay.
 fn put_planes(planes: &mut [u8; CELLS], i: usize, v: u64)
     requires { ⌜ length (now planes) ≡ cells ⌝ }
     ensures { λ _. ⌜ (length (now (planes .exit)) ≡ cells)
-        × ((j : ℕ) → j < 8 → getD (now (planes .exit)) (j * slots + i % slots) 0 ≡ byteAt v j)
+        × ((j : ℕ) → j < 8 → getD (now (planes .exit)) (j * slots + i % slots) 0 ≡ byteOf v j)
         × ((m : ℕ) → (m % slots ≡ i % slots → ⊥) → getD (now (planes .exit)) m 0 ≡ getD (now (planes .entry)) m 0) ⌝ }
 {
     let slot = i % SLOTS;
     let mut j: usize = 0;
     while j < 8 {
-        planes[j * SLOTS + slot] = byte_of(v, j);
+        planes[j * SLOTS + slot] = byte_of(v, j) as u8;
         j += 1;
     }
 }

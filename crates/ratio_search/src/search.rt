@@ -14,6 +14,7 @@ use super::pairs::suspect;
 use super::planes::CELLS;
 use super::planes::SLOTS;
 use ratio_window::Best;
+use ratio_window::EQUAL_SUM;
 use ratio_window::lead_zeros;
 use ratio_window::trail_zeros;
 use ratio_window::window_start;
@@ -102,7 +103,7 @@ pub fn find(planes: &[u8; CELLS], ratios: &[u64], i: usize, v: u64) -> Best
         if x == 0 {
             return Best {
                 place: i - q,
-                sum: 16,
+                sum: EQUAL_SUM,
             };
         }
         let t = trail_zeros(x);

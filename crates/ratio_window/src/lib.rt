@@ -12,6 +12,9 @@ pub struct Best {
     pub sum: usize,
 }
 
+// The sum of an equal ratio: eight zero bytes, from either end.
+pub const EQUAL_SUM: usize = 16;
+
 // The index at which the window of ratio i begins.
 pub fn window_start(i: usize) -> usize
     ensures { λ r. ⌜ r ≡ i - windowSize ⌝ }

@@ -14,7 +14,7 @@ use lib.Seq.{ext-getD, length-take-le}
 use Rattle.ratio_format.specs.declared.RatioForm.the-variants.{Reference as ByPlace, Exception as Literal}
 use Rattle.ratio_format.specs.Bodies.{codedFrom, codedRatios}
 use Rattle.ratio_format.specs.Choice.{find, best, xorForm, ratioForm}
-use Rattle.ratio_format.specs.Forms.{coded}
+use Rattle.ratio_format.specs.RatioForms.{coded}
 use Rattle.ratio_format.specs.Windows.{windowSize}
 use Rattle.ratio_format.specs.Zeros.{leadZeros, trailZeros, sumOf}
 use Rattle.ratio_format.proofs.Bodies.{coded-on, coded-more}
@@ -22,7 +22,7 @@ use Rattle.ratio_format.proofs.Choice.{best-at, best-most, best-first, best-xor
 use Rattle.ratio_format.proofs.Windows.Before.{window-inside, window-at}
 use Rattle.reasons.specs.declared.Reason.the-variants.{Reference, Xor, Exception, Empty, Refused}
 use Rattle.reasons.specs.Reasons.{xorReason, reasonOf, windowAt}
-use Rattle.reasons.specs.Claims.{NoneEqual, Says, SaysTrue, WindowIs, SaysOne, formNamed, NamesForm, OnlyWindow, RefusesExactly}
+use Rattle.reasons.specs.Claims.{NoneEqual, Says, SaysTrue, WindowIs, SaysOne, ratioFormNamed, NamesRatioForm, OnlyWindow, RefusesExactly}
 use Rattle.reasons.proofs.Reasons.{reason-cases, explained-many, explained-past, explained-here}
 
 -- ---- of one ratio and its window
@@ -58,12 +58,12 @@ module _ (v : ℕ) (w : List ℕ) where
       (λ h p g. (g, some-best p, (λ q q<. best-most v w q q<), none-equal h))
 
   -- the reason's form is the one that is chosen
-  reason-names : formNamed v w (reasonOf v w) ≡ some (ratioForm v w)
+  reason-names : ratioFormNamed v w (reasonOf v w) ≡ some (ratioForm v w)
   unfolding reasonOf ratioForm
   reason-names = go (ltb (find v w) (length w)) (leb 2 (best v w .sum)) (eqb (length w) 0)
     where
       go : (t s r : Bool)
-          → formNamed v w (cond t (Reference (find v w)) (cond s (xorReason (best v w .place) (bestXor v w)) (cond r Empty (Exception (best v w .sum)))))
+          → ratioFormNamed v w (cond t (Reference (find v w)) (cond s (xorReason (best v w .place) (bestXor v w)) (cond r Empty (Exception (best v w .sum)))))
           ≡ some (cond t (ByPlace (find v w)) (cond s (xorForm (best v w .place) (bestXor v w)) Literal))
       go true s r = refl
       go false true r = refl
@@ -122,13 +122,13 @@ says-one v w Empty (Refused n k) h g = absurd g
 pub says-true : SaysTrue
 says-true vs i few h = subst (Says (getD vs i 0) (windowAt vs i)) (sym (explained-here vs i few h)) (reason-says (getD vs i 0) (windowAt vs i))
 
-pub names-form : NamesForm
+pub names-ratio-form : NamesRatioForm
 unfolding coded
-names-form vs i few h =
+names-ratio-form vs i few h =
     let v = getD vs i 0 in
     let w = windowAt vs i in
     let rest = codedFrom windowSize (windowAt vs (i + 1)) (drop (i + 1) vs) in (
-      ap (formNamed v w) (explained-here vs i few h) ∙ reason-names v w,
+      ap (ratioFormNamed v w) (explained-here vs i few h) ∙ reason-names v w,
       ap codedRatios (sym (take-append-drop (i + 1) vs))
           ∙ coded-on windowSize (take (i + 1) vs) (drop (i + 1) vs)
           ∙ ap (λ (l : List ℕ). l ++ rest) (coded-more windowSize vs i h)

@@ -18,7 +18,7 @@ use Rattle.refusals.specs.Tests.{firstOf}
 use Rattle.refusals.proofs.Tests.{first-end, first-skip, first-here}
 use Rattle.ratio_format.specs.Choice.{find, best}
 use Rattle.ratio_format.specs.Windows.{windowSize}
-use Rattle.ratio_format.specs.Zeros.{leadZeros, trailZeros}
+use Rattle.ratio_format.specs.Zeros.{equalSum, leadZeros, trailZeros}
 use Rattle.ratio_format.proofs.Choice.{found, best-at, bestXor}
 use Rattle.ratio_format.proofs.Windows.{reverse-back, reverse-below, window-few}
 use Rattle.ratio_format.proofs.Zeros.{lead-le, trail-le}
@@ -50,7 +50,7 @@ module _ (v : ℕ) (w : List ℕ) where
 
 module _ (v : ℕ) (w : List ℕ) (hv : v < 2 ^ 64) (ha : Below (2 ^ 64) w) where
   -- only an equal ratio has the sum 16
-  pub reason-reference : best v w .sum ≡ 16 → reasonOf v w ≡ Reference (best v w .place)
+  pub reason-reference : best v w .sum ≡ equalSum → reasonOf v w ≡ Reference (best v w .place)
   unfolding reasonOf
   reason-reference e =
       ⊎-elim
@@ -58,10 +58,10 @@ module _ (v : ℕ) (w : List ℕ) (hv : v < 2 ^ 64) (ha : Below (2 ^ 64) w) wher
       (λ b. absurd (omega arith))
       (found v w hv ha)
 
-  absent : (best v w .sum ≡ 16 → ⊥) → ltb (find v w) (length w) ≡ false
+  absent : (best v w .sum ≡ equalSum → ⊥) → ltb (find v w) (length w) ≡ false
   absent n = ⊎-elim (λ a. absurd (n (a .0))) (λ b. le-ltb (find v w) (length w) (omega arith)) (found v w hv ha)
 
-  pub reason-xor : (best v w .sum ≡ 16 → ⊥) → 2 ≤ best v w .sum → reasonOf v w ≡ xorReason (best v w .place) (bestXor v w)
+  pub reason-xor : (best v w .sum ≡ equalSum → ⊥) → 2 ≤ best v w .sum → reasonOf v w ≡ xorReason (best v w .place) (bestXor v w)
   unfolding reasonOf
   reason-xor n h = rw (absent n, le-leb 2 (best v w .sum) h)
 
@@ -78,13 +78,13 @@ module _ (l : List ℕ) (v p s : ℕ) (known : (k : ℕ) → getD l k 0 < 2 ^ 64
   all64 : Below (2 ^ 64) (reverse l)
   all64 = reverse-below (2 ^ 64) l (below-of (2 ^ 64) l known)
 
-  pub slice-reference : s ≡ 16 → Reference p ≡ reasonOf v (reverse l)
+  pub slice-reference : s ≡ equalSum → Reference p ≡ reasonOf v (reverse l)
   slice-reference e = ap Reference place ∙ sym (reason-reference v (reverse l) v64 all64 (sym sum ∙ e))
 
   pub slice-in : 2 ≤ s → p < length l
   slice-in h = omega (arith, place, sum, best-at v (reverse l) (omega (arith, sum)) .0, length-reverse l)
 
-  pub slice-xor : (s ≡ 16 → ⊥) → 2 ≤ s → (a b : ℕ) → let x = bitXor v (getD l (length l - 1 - p) 0) in
+  pub slice-xor : (s ≡ equalSum → ⊥) → 2 ≤ s → (a b : ℕ) → let x = bitXor v (getD l (length l - 1 - p) 0) in
       a ≡ leadZeros x → b ≡ trailZeros x → Xor p a b ≡ reasonOf v (reverse l)
   slice-xor n h a b ea eb =
       let same : bestXor v (reverse l) ≡ bitXor v (getD l (length l - 1 - p) 0) =

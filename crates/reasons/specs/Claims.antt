@@ -4,8 +4,8 @@
 --   SaysTrue          the answer for an index says what is true of the window there
 --   SaysOne           no two answers are true of the same ratio and window
 --   WindowIs          what that window holds: the ratio before the index at place 0, up to 127 of them, and not the ratio itself
---   formNamed v w r   the form of v that the reason r names; a refusal names none
---   NamesForm         it is the form that the writer chooses there, and its bytes are those at that point of the body of the whole run
+--   ratioFormNamed v w r   the form of v that the reason r names; a refusal names none
+--   NamesRatioForm         it is the form that the writer chooses there, and its bytes are those at that point of the body of the whole run
 --   OnlyWindow        the answer goes by the ratio at the index and the 127 before it, and by no other
 --   RefusesExactly    it is the refusal 3 for more than 4,096 ratios, else 22 for an index not below their number, and else no refusal
 use mathlib.Core.List.{List, _++_}
@@ -19,7 +19,7 @@ use Rattle.ratio_format.specs.declared.RatioForm.{RatioForm}
 use Rattle.ratio_format.specs.declared.RatioForm.the-variants.{Reference as ByPlace, Xor as ByXor, Exception as Literal}
 use Rattle.ratio_format.specs.Bodies.{codedFrom, codedRatios}
 use Rattle.ratio_format.specs.Choice.{ratioForm}
-use Rattle.ratio_format.specs.Forms.{written}
+use Rattle.ratio_format.specs.RatioForms.{written}
 use Rattle.ratio_format.specs.Windows.{windowSize}
 use Rattle.ratio_format.specs.Zeros.{leadZeros, trailZeros, sumOf}
 use Rattle.reasons.specs.declared.Reason.{Reason}
@@ -61,18 +61,18 @@ abbrev pub SaysOne : Type 0
 SaysOne = (v : ℕ) (w : List ℕ) (r q : Reason) → Says v w r → Says v w q → r ≡ q
 
 -- a reference; the xor's middle between the zero bytes; an exception
-abbrev pub formNamed : ℕ → List ℕ → Reason → Option RatioForm
-formNamed v w (Reference p) = some (ByPlace p)
-formNamed v w (Xor p l t) = some (ByXor p t (8 - (l + t)) (bitXor v (getD w p 0) / 256 ^ t))
-formNamed v w (Exception s) = some Literal
-formNamed v w Empty = some Literal
-formNamed v w (Refused n p) = none
+abbrev pub ratioFormNamed : ℕ → List ℕ → Reason → Option RatioForm
+ratioFormNamed v w (Reference p) = some (ByPlace p)
+ratioFormNamed v w (Xor p l t) = some (ByXor p t (8 - (l + t)) (bitXor v (getD w p 0) / 256 ^ t))
+ratioFormNamed v w (Exception s) = some Literal
+ratioFormNamed v w Empty = some Literal
+ratioFormNamed v w (Refused n p) = none
 
 -- the writer's form there, and the bytes there: after those of the ratios before it, and before those of the ratios after it
-abbrev pub NamesForm : Type 0
-NamesForm = (vs : List ℕ) (i : ℕ) → length vs ≤ maxPoints → i < length vs
+abbrev pub NamesRatioForm : Type 0
+NamesRatioForm = (vs : List ℕ) (i : ℕ) → length vs ≤ maxPoints → i < length vs
     → let v = getD vs i 0 in let w = windowAt vs i in
-    (formNamed v w (explained vs i) ≡ some (ratioForm v w))
+    (ratioFormNamed v w (explained vs i) ≡ some (ratioForm v w))
     × (codedRatios vs ≡ codedRatios (take i vs) ++ (written v (ratioForm v w) ++ codedFrom windowSize (windowAt vs (i + 1)) (drop (i + 1) vs)))
 
 -- two runs that have the same ratio at the index and the same 127 before it get the same answer

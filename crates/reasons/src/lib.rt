@@ -5,6 +5,7 @@ ghost use mathlib.Core.List.{reverse};
 ghost use Rattle.reasons.specs.Reasons.{reasonOf, explained};
 use limits::MAX_POINTS;
 use ratio_codec::search::search;
+use ratio_window::EQUAL_SUM;
 use ratio_window::lead_zeros;
 use ratio_window::trail_zeros;
 use ratio_window::window_start;
@@ -23,14 +24,14 @@ pub enum Reason {
     Refused(u32, u32),
 }
 
-// The reason for v against a window, oldest first. The plain search knows every sum; only an equal ratio has the sum 16.
+// The reason for v against a window, oldest first. The plain search knows every sum; only an equal ratio has the sum EQUAL_SUM.
 fn reason_of(window: &[u64], v: u64) -> Reason
     ensures { λ r. ⌜ r ≡ reasonOf v (reverse (now (window .entry))) ⌝ }
 {
     let b = search(window, v);
     let place = b.place;
     let sum = b.sum;
-    if sum == 16 {
+    if sum == EQUAL_SUM {
         return Reason::Reference(place);
     }
     if 2 <= sum {

@@ -80,13 +80,8 @@ fn put_moved(
     requires { ⌜ (validPositions (tableOf form) (now positions) ≡ true) × (length (now positions) ≤ maxPoints) ⌝ }
     ensures { λ r. ⌜ Placed (laid (leadFields rate side form (now (positions .entry))) ++ now (field .entry)) r (now (out .entry)) (now (out .exit)) ⌝ }
 {
-    let Wrote::Done(lead_end) = put_lead(rate, side, form, positions, out) else {
-        return Wrote::NoRoom;
-    };
-    let Wrote::Done(field_size) = outputs::put_copy(field, &mut out[lead_end..]) else {
-        return Wrote::NoRoom;
-    };
-    Wrote::Done(lead_end + field_size)
+    let lead_end = put_lead(rate, side, form, positions, out);
+    outputs::put_copy_next(lead_end, field, out)
 }
 
 // The move of a record whose front is read and whose form is not the one moved to, by way of arrays with room for its points. The count's field stands at

@@ -15,7 +15,7 @@ use position_format::Form;
 use record_format::WriteAnswer;
 use record_parts::coding::Coding;
 use record_parts::coding::points_of;
-use record_parts::putting::put_coded;
+use record_parts::putting::put_coded_next;
 use record_parts::putting::put_lead;
 use refusals::Refusal;
 
@@ -31,13 +31,8 @@ fn put_record(
     requires { ⌜ (validPositions (tableOf form) (now positions) ≡ true) × (length (now positions) ≤ maxPoints) × (length (now ratios) ≤ maxPoints) ⌝ }
     ensures { λ r. ⌜ Placed (recordOf (run rate side form (now (positions .entry)) (now (ratios .entry)))) r (now (out .entry)) (now (out .exit)) ⌝ }
 {
-    let Wrote::Done(lead_end) = put_lead(rate, side, form, positions, out) else {
-        return Wrote::NoRoom;
-    };
-    let Wrote::Done(ratios_size) = put_coded(Coding::Ratios, ratios, &mut out[lead_end..]) else {
-        return Wrote::NoRoom;
-    };
-    Wrote::Done(lead_end + ratios_size)
+    let lead_end = put_lead(rate, side, form, positions, out);
+    put_coded_next(lead_end, Coding::Ratios, ratios, out)
 }
 
 // The refusal of positions by a step that document 01's table does not hold: 5.

@@ -4,7 +4,7 @@ pub mod Returned
 pub mod Admitted
 use mathlib.Core.Path.{_≡_, refl, sym, ap, ap₂, _∙_}
 use mathlib.Core.Bool.{Bool, true, false, not, cond, false≢true}
-use mathlib.Core.List.{List, [], _∷_, _++_, append-nil}
+use mathlib.Core.List.{List, [], _∷_, _++_, append-nil, append-assoc}
 use mathlib.Core.Logic.{_⊎_, inl, inr}
 use mathlib.Core.Option.{Option}
 use Prim.Native.Nat.{ℕ, zero, suc, _≤_}
@@ -14,6 +14,7 @@ use lib.Dec.{eqb, lit<, lit≤}
 use lib.ListN.{length, drop}
 use Rattle.lists.specs.Below.{Below}
 use Rattle.lists.specs.Compare.{both}
+use Rattle.lists.proofs.Lists.{every}
 use Rattle.bits.specs.Digits.{bytesOf, numberOf}
 use Rattle.bits.proofs.Digits.{number-digits-lt}
 use Rattle.limits.proofs.Rates.{rate-high}
@@ -32,15 +33,15 @@ use Rattle.ratio_format.proofs.Bodies.{nine-bytes}
 use Rattle.ratio_format.proofs.Bodies.ReadFrom.{open-coded}
 use Rattle.ratio_format.proofs.Open.Shortest.{shortest}
 use Rattle.ratio_format.proofs.Bodies.Strict.{strict-coded}
-use Rattle.record_format.specs.Fields.{Field, fieldOf, fieldBytes, laid}
-use Rattle.record_format.specs.Runs.{Run, run, positionsTag, formOf, ratiosTag, rateSize, countSize, sideFields, recordOf}
+use Rattle.record_format.specs.Fields.{Field, fieldBytes, laid}
+use Rattle.record_format.specs.Runs.{Run, formOf, ratiosTag, rateSize, countSize, sideFields, positionsField, ratiosField, frontFields, fieldsOf, recordOf}
 use Rattle.record_format.specs.Writing.{runTests, accepts}
 use Rattle.record_format.specs.Reading.{Answer, refusalAnswer, recordAnswer, answerBy, readTests, readWith, readStrict, readOpen, formIn, listOf, otherRate}
 use Rattle.record_format.specs.Moves.{Move, moveOf}
 use Rattle.record_format.specs.Claims.{Accepted, AllAccepted, joined, ownTests, ownAnswer, runAnswer, ReadsBack, ReadsOnly, AcceptsExactly, OpenAgrees, Writes, ReadsWhole, ReadsFront, PrefixFree, ListsApart, TrailingBytes, Shortest, NineEach}
-use Rattle.record_format.proofs.Fields.{fieldIn, closed, laid-same}
+use Rattle.record_format.proofs.Fields.{fieldIn, closed, closed-append, laid-same}
 use Rattle.record_format.proofs.Reading.{room-enough, answer-clear, answer-good}
-use Rattle.record_format.proofs.Runs.{same-run, form-of, rateField, pointFields, flatFields, record-flat, countIndex, positionsIndex, ratiosIndex, fields-small}
+use Rattle.record_format.proofs.Runs.{same-run, form-of, rateIndex, countIndex, positionsIndex, ratiosIndex, fields-small}
 use Rattle.record_format.proofs.Reading.Sides.{sides-same}
 use Rattle.record_format.proofs.Claims.Returned.{read-record}
 use Rattle.record_format.proofs.Claims.Admitted.{front-stands, accepted-begins}
@@ -186,12 +187,13 @@ abbrev body-of : ℕ → List Field → List ℕ
 body-of k fs = fieldIn fs k .body
 
 -- the fields of two runs are the same: the runs are the same
-same-fields : (r q : Run) → Accepted r → Accepted q → flatFields r ≡ flatFields q → r ≡ q
+same-fields : (r q : Run) → Accepted r → Accepted q → fieldsOf r ≡ fieldsOf q → r ≡ q
 same-fields r q a b e =
     let f = accepted-fits r (a .passes) in
     let g = accepted-fits q (b .passes) in
-    let rates : bytesOf rateSize (r .rate) ≡ bytesOf rateSize (q .rate) = ap (body-of 0) e in
-    let d = sides-same (r .side) (q .side) (f .sided) (g .sided) _ _ _ _ refl refl (ap (drop 1) e) in
+    let rates : bytesOf rateSize (r .rate) ≡ bytesOf rateSize (q .rate) = ap (body-of rateIndex) e in
+    let d = sides-same (r .side) (q .side) (f .sided) (g .sided) _ _ _ _ refl refl
+    (sym (append-assoc (sideFields (r .side)) _ _) ∙ ap (drop 1) e ∙ append-assoc (sideFields (q .side)) _ _) in
     let counts : bytesOf countSize (length (r .positions)) ≡ bytesOf countSize (length (q .positions)) = ap (body-of countIndex) (d .1) in
     let forms : r .form ≡ q .form = sym (form-of (r .form)) ∙ ap (λ (fs : List Field). formOf (fieldIn fs positionsIndex .tag)) (d .1) ∙ form-of (q .form) in
     let bodies : codedPositions (tableOf (r .form)) (r .positions) ≡ codedPositions (tableOf (q .form)) (q .positions) = ap (body-of positionsIndex) (d .1) in
@@ -211,24 +213,27 @@ same-fields r q a b e =
     (ap listOf
     (sym (strict-coded (r .ratios) (a .words)) ∙ ap₂ strictRatios (f .paired ∙ n ∙ sym (g .paired)) codes ∙ strict-coded (q .ratios) (b .words)))
 
--- a record's fields end with that of the ratios, with a side and without, in either form
-fields-closed : (r : Run) → closed isLast (flatFields r) ≡ true
+-- a record's fields end with that of the ratios: with a side and without, in either form
+front-open : (rate side count : ℕ) → every (λ f. not (isLast (f .tag))) (frontFields rate side count) ≡ true
 unfolding isLast
-fields-closed r = go (r .side) (r .form) (codedPositions (tableOf (r .form)) (r .positions))
-  where
-    go : (n : ℕ) (f : Form) (body : List ℕ)
-        → closed isLast (rateField r ∷ (sideFields n ++ (fieldIn (pointFields r) countIndex ∷ fieldOf (positionsTag f) body ∷ fieldIn (pointFields r) ratiosIndex ∷ []))) ≡ true
-    go zero Old b = refl
-    go zero Wide b = refl
-    go (suc n) Old b = refl
-    go (suc n) Wide b = refl
+front-open rate zero count = refl
+front-open rate (suc n) count = refl
+
+points-closed : (f : Form) (ts vs : List ℕ) → closed isLast (positionsField f ts ∷ ratiosField vs ∷ []) ≡ true
+unfolding isLast
+points-closed Old ts vs = refl
+points-closed Wide ts vs = refl
+
+fields-closed : (r : Run) → closed isLast (fieldsOf r) ≡ true
+fields-closed r =
+    closed-append isLast (frontFields (r .rate) (r .side) (length (r .positions))) _ (front-open (r .rate) (r .side) (length (r .positions)))
+    (points-closed (r .form) (r .positions) (r .ratios))
 
 -- bytes that begin with the records of two runs: the runs are the same, and so is what follows
 pub unique : (r q : Run) → Accepted r → Accepted q → (x y : List ℕ) → recordOf r ++ x ≡ recordOf q ++ y → (r ≡ q) × (x ≡ y)
+unfolding recordOf
 unique r q a b x y e =
-    let flat : laid (flatFields r) ++ x ≡ laid (flatFields q) ++ y =
-    ap (λ (l : List ℕ). l ++ x) (sym (record-flat r)) ∙ e ∙ ap (λ (l : List ℕ). l ++ y) (record-flat q) in
-    let h = laid-same isLast (flatFields r) (flatFields q) (fields-small r (accepted-fits r (a .passes))) (fields-small q (accepted-fits q (b .passes))) (fields-closed r) (fields-closed q) x y flat in
+    let h = laid-same isLast (fieldsOf r) (fieldsOf q) (fields-small r (accepted-fits r (a .passes))) (fields-small q (accepted-fits q (b .passes))) (fields-closed r) (fields-closed q) x y e in
     (same-fields r q a b (h .0), h .1)
 
 pub prefix-free : PrefixFree

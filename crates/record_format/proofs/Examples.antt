@@ -11,7 +11,7 @@ use Rattle.position_format.specs.Rows.{rows, wideRows, code, inTable}
 use Rattle.position_format.specs.Steps.{stepsFrom, steps}
 use Rattle.position_format.specs.Positions.{stepBits, positionBits, codedPositions}
 use Rattle.ratio_format.specs.Choice.{find, best, ratioForm}
-use Rattle.ratio_format.specs.Forms.{written, coded}
+use Rattle.ratio_format.specs.RatioForms.{written, coded}
 use Rattle.ratio_format.specs.Bodies.{codedFrom}
 use Rattle.record_format.specs.Claims.{Accepted}
 use Rattle.record_format.specs.Examples.{listedRun, listedBytes, sidedRun, sidedBytes, pausedRun, pausedBytes}

@@ -14,15 +14,16 @@ use Rattle.lists.specs.Below.{Below}
 use Rattle.lists.specs.Compare.{both}
 use Rattle.lists.proofs.Below.{below-take, below-drop}
 use Rattle.lists.proofs.Compare.{both-true}
+use Rattle.lists.proofs.Lists.{every, every-cons}
 use Rattle.bits.specs.Digits.{digitsOf, bytesOf, numberOf}
 use Rattle.bits.proofs.Digits.{length-digits, number-digits-lt, digits-number, number-lt}
-use Rattle.record_format.specs.Fields.{Field, fieldOf, headSize, maxBody, fieldBytes, laid, tagAt, lengthAt, bodyAt, nextAt}
+use Rattle.record_format.specs.Fields.{Field, fieldOf, tagSize, lengthSize, headSize, maxBody, fieldBytes, laid, tagAt, lengthAt, bodyAt, nextAt}
 
 -- ---- length
 
 pub length-field : (f : Field) → length (fieldBytes f) ≡ headSize + length (f .body)
 unfolding fieldBytes
-length-field f = ap suc (length-append (bytesOf 2 (length (f .body))) (f .body) ∙ ap (λ (n : ℕ). n + length (f .body)) (length-digits 256 2 (length (f .body)))) ∙ omega arith
+length-field f = ap suc (length-append (bytesOf lengthSize (length (f .body))) (f .body) ∙ ap (λ (n : ℕ). n + length (f .body)) (length-digits 256 lengthSize (length (f .body)))) ∙ omega arith
 
 -- how many bytes fields take
 abbrev pub sizeAll : List Field → ℕ
@@ -68,26 +69,26 @@ module _ (before : List ℕ) (f : Field) (rest : List ℕ) (small : length (f .b
 
   tag-at : tagAt here p ≡ f .tag
   unfolding tagAt fieldBytes
-  tag-at = getD-append-seam before (f .tag) ((bytesOf 2 (length (f .body)) ++ f .body) ++ rest) 0
+  tag-at = getD-append-seam before (f .tag) ((bytesOf lengthSize (length (f .body)) ++ f .body) ++ rest) 0
 
   -- the bytes after the tag
-  from-length : drop (p + 1) here ≡ bytesOf 2 (length (f .body)) ++ (f .body ++ rest)
+  from-length : drop (p + tagSize) here ≡ bytesOf lengthSize (length (f .body)) ++ (f .body ++ rest)
   unfolding fieldBytes
   from-length =
-      sym (drop-drop 1 p here) ∙ ap (drop 1) from-tag ∙ append-assoc (bytesOf 2 (length (f .body))) (f .body) rest
+      sym (drop-drop tagSize p here) ∙ ap (drop tagSize) from-tag ∙ append-assoc (bytesOf lengthSize (length (f .body))) (f .body) rest
 
   length-at : lengthAt here p ≡ length (f .body)
   unfolding lengthAt
   length-at =
-      ap (λ (l : List ℕ). numberOf 256 (take 2 l)) from-length
-      ∙ ap (numberOf 256) (take-at (bytesOf 2 (length (f .body))) (f .body ++ rest) 2 (length-digits 256 2 (length (f .body))))
-      ∙ number-digits-lt (lit< tt) 2 (omega arith)
+      ap (λ (l : List ℕ). numberOf 256 (take lengthSize l)) from-length
+      ∙ ap (numberOf 256) (take-at (bytesOf lengthSize (length (f .body))) (f .body ++ rest) lengthSize (length-digits 256 lengthSize (length (f .body))))
+      ∙ number-digits-lt (lit< tt) lengthSize (omega arith)
 
   from-body : drop (p + headSize) here ≡ f .body ++ rest
   from-body =
-      let e : p + headSize ≡ p + 1 + 2 = omega arith in
-      ap (λ (n : ℕ). drop n here) e ∙ sym (drop-drop 2 (p + 1) here) ∙ ap (drop 2) from-length
-      ∙ drop-at (bytesOf 2 (length (f .body))) (f .body ++ rest) 2 (length-digits 256 2 (length (f .body)))
+      let e : p + headSize ≡ p + tagSize + lengthSize = omega arith in
+      ap (λ (n : ℕ). drop n here) e ∙ sym (drop-drop lengthSize (p + tagSize) here) ∙ ap (drop lengthSize) from-length
+      ∙ drop-at (bytesOf lengthSize (length (f .body))) (f .body ++ rest) lengthSize (length-digits 256 lengthSize (length (f .body)))
 
   body-at : bodyAt here p ≡ f .body
   unfolding bodyAt
@@ -111,14 +112,14 @@ module _ (before : List ℕ) (f : Field) (rest : List ℕ) (small : length (f .b
   }
 
 -- a head that stands in bytes, with or without a whole body behind it
-pub head-stands : (before : List ℕ) (tag l : ℕ) (rest : List ℕ) → l < 256 ^ 2
-    → let s = before ++ ((tag ∷ bytesOf 2 l) ++ rest) in (tagAt s (length before) ≡ tag) × (lengthAt s (length before) ≡ l)
+pub head-stands : (before : List ℕ) (tag l : ℕ) (rest : List ℕ) → l < 256 ^ lengthSize
+    → let s = before ++ ((tag ∷ bytesOf lengthSize l) ++ rest) in (tagAt s (length before) ≡ tag) × (lengthAt s (length before) ≡ l)
 unfolding tagAt lengthAt
 head-stands before tag l rest small =
-    let s = before ++ ((tag ∷ bytesOf 2 l) ++ rest) in (
-      getD-append-seam before tag (bytesOf 2 l ++ rest) 0,
-      ap (λ (x : List ℕ). numberOf 256 (take 2 x)) (sym (drop-drop 1 (length before) s) ∙ ap (drop 1) (drop-append-seam before ((tag ∷ bytesOf 2 l) ++ rest)))
-          ∙ ap (numberOf 256) (take-at (bytesOf 2 l) rest 2 (length-digits 256 2 l)) ∙ number-digits-lt (lit< tt) 2 small,
+    let s = before ++ ((tag ∷ bytesOf lengthSize l) ++ rest) in (
+      getD-append-seam before tag (bytesOf lengthSize l ++ rest) 0,
+      ap (λ (x : List ℕ). numberOf 256 (take lengthSize x)) (sym (drop-drop tagSize (length before) s) ∙ ap (drop tagSize) (drop-append-seam before ((tag ∷ bytesOf lengthSize l) ++ rest)))
+          ∙ ap (numberOf 256) (take-at (bytesOf lengthSize l) rest lengthSize (length-digits 256 lengthSize l)) ∙ number-digits-lt (lit< tt) lengthSize small,
     )
 
 -- ---- fields laid end to end
@@ -208,6 +209,15 @@ closed last [] = false
 closed last (f ∷ []) = last (f .tag)
 closed last (f ∷ g ∷ fs) = both (not (last (f .tag))) (closed last (g ∷ fs))
 
+-- so do some fields of which none is a last one, and then such fields
+pub closed-append : (last : ℕ → Bool) (fs gs : List Field) → every (λ f. not (last (f .tag))) fs ≡ true → closed last gs ≡ true → closed last (fs ++ gs) ≡ true
+closed-append last [] gs a b = b
+closed-append last (f ∷ []) [] a b = absurd (false≢true b)
+closed-append last (f ∷ []) (g ∷ gs) a b = ap₂ both (every-cons (λ (f : Field). not (last (f .tag))) f [] a .0) b
+closed-append last (f ∷ h ∷ fs) gs a b =
+    let e = every-cons (λ (f : Field). not (last (f .tag))) f (h ∷ fs) a in
+    ap₂ both (e .0) (closed-append last (h ∷ fs) gs (e .1) b)
+
 -- so of two such lists, laid end to end, neither is a beginning of the other
 module _ (last : ℕ → Bool) where
   apart : (f g : Field) → f ≡ g → last (f .tag) ≡ true → not (last (g .tag)) ≡ true → ⊥
@@ -239,16 +249,16 @@ module _ (last : ℕ → Bool) where
 
 -- the bytes s from the offset p on, where a whole field stands there
 module _ (s : List ℕ) (p : ℕ) (bytes : Below 256 s) (head : p + headSize ≤ length s) where
-  length-bytes : length (take 2 (drop (p + 1) s)) ≡ 2
-  length-bytes = length-take-le 2 (drop (p + 1) s) (subst (λ (n : ℕ). 2 ≤ n) (sym (length-drop (p + 1) s)) (omega arith))
+  length-bytes : length (take lengthSize (drop (p + tagSize) s)) ≡ lengthSize
+  length-bytes = length-take-le lengthSize (drop (p + tagSize) s) (subst (λ (n : ℕ). lengthSize ≤ n) (sym (length-drop (p + tagSize) s)) (omega arith))
 
-  below-length : Below 256 (take 2 (drop (p + 1) s))
-  below-length = below-take 256 2 (drop (p + 1) s) (below-drop 256 (p + 1) s bytes)
+  below-length : Below 256 (take lengthSize (drop (p + tagSize) s))
+  below-length = below-take 256 lengthSize (drop (p + tagSize) s) (below-drop 256 (p + tagSize) s bytes)
 
   -- two bytes state no more than they hold
   pub length-most : lengthAt s p ≤ maxBody
   unfolding lengthAt
-  length-most = omega (arith, subst (λ (n : ℕ). numberOf 256 (take 2 (drop (p + 1) s)) < 256 ^ n) length-bytes (number-lt 256 (take 2 (drop (p + 1) s)) below-length))
+  length-most = omega (arith, subst (λ (n : ℕ). numberOf 256 (take lengthSize (drop (p + tagSize) s)) < 256 ^ n) length-bytes (number-lt 256 (take lengthSize (drop (p + tagSize) s)) below-length))
 
   pub next-most : nextAt s p ≤ p + headSize + maxBody
   unfolding nextAt
@@ -263,18 +273,18 @@ module _ (s : List ℕ) (p : ℕ) (bytes : Below 256 s) (head : p + headSize ≤
     unfolding bodyAt
     length-body = length-take-le (lengthAt s p) (drop (p + headSize) s) (subst (λ (n : ℕ). lengthAt s p ≤ n) (sym (length-drop (p + headSize) s)) fits)
 
-    stated : bytesOf 2 (lengthAt s p) ≡ take 2 (drop (p + 1) s)
+    stated : bytesOf lengthSize (lengthAt s p) ≡ take lengthSize (drop (p + tagSize) s)
     unfolding lengthAt
     stated =
-        ap (λ (n : ℕ). digitsOf 256 n (numberOf 256 (take 2 (drop (p + 1) s)))) (sym length-bytes) ∙ digits-number 256 (take 2 (drop (p + 1) s)) below-length
+        ap (λ (n : ℕ). digitsOf 256 n (numberOf 256 (take lengthSize (drop (p + tagSize) s)))) (sym length-bytes) ∙ digits-number 256 (take lengthSize (drop (p + tagSize) s)) below-length
 
-    after-tag : drop (p + 1) s ≡ take 2 (drop (p + 1) s) ++ (bodyAt s p ++ drop (nextAt s p) s)
+    after-tag : drop (p + tagSize) s ≡ take lengthSize (drop (p + tagSize) s) ++ (bodyAt s p ++ drop (nextAt s p) s)
     unfolding bodyAt nextAt
     after-tag =
-        let three : p + 1 + 2 ≡ p + headSize = omega arith in
-        sym (take-append-drop 2 (drop (p + 1) s))
-        ∙ ap (λ (l : List ℕ). take 2 (drop (p + 1) s) ++ l)
-        (drop-drop 2 (p + 1) s ∙ ap (λ (n : ℕ). drop n s) three
+        let parted : p + tagSize + lengthSize ≡ p + headSize = omega arith in
+        sym (take-append-drop lengthSize (drop (p + tagSize) s))
+        ∙ ap (λ (l : List ℕ). take lengthSize (drop (p + tagSize) s) ++ l)
+        (drop-drop lengthSize (p + tagSize) s ∙ ap (λ (n : ℕ). drop n s) parted
         ∙ sym (take-append-drop (lengthAt s p) (drop (p + headSize) s))
         ∙ ap (λ (l : List ℕ). take (lengthAt s p) (drop (p + headSize) s) ++ l) (drop-drop (lengthAt s p) (p + headSize) s))
 
@@ -286,8 +296,8 @@ module _ (s : List ℕ) (p : ℕ) (bytes : Below 256 s) (head : p + headSize ≤
         ∙ ap (λ (n : ℕ). getD s p 0 ∷ drop n s) (sym (add-one p))
         ∙ ap (λ (l : List ℕ). getD s p 0 ∷ l)
         (after-tag
-        ∙ sym (append-assoc (take 2 (drop (p + 1) s)) (bodyAt s p) (drop (nextAt s p) s))
-        ∙ ap (λ (l : List ℕ). (l ++ bodyAt s p) ++ drop (nextAt s p) s) (sym stated ∙ ap (bytesOf 2) (sym length-body)))
+        ∙ sym (append-assoc (take lengthSize (drop (p + tagSize) s)) (bodyAt s p) (drop (nextAt s p) s))
+        ∙ ap (λ (l : List ℕ). (l ++ bodyAt s p) ++ drop (nextAt s p) s) (sym stated ∙ ap (bytesOf lengthSize) (sym length-body)))
 
     pub below-body : Below 256 (bodyAt s p)
     unfolding bodyAt
@@ -325,8 +335,8 @@ module _ (s rest : List ℕ) (p : ℕ) where
     pub length-same : lengthAt (s ++ rest) p ≡ lengthAt s p
     unfolding lengthAt
     length-same =
-        ap (λ (l : List ℕ). numberOf 256 (take 2 l)) (drop-append-le (p + 1) s rest (omega arith))
-        ∙ ap (numberOf 256) (take-append-le 2 (drop (p + 1) s) rest (subst (λ (n : ℕ). 2 ≤ n) (sym (length-drop (p + 1) s)) (omega arith)))
+        ap (λ (l : List ℕ). numberOf 256 (take lengthSize l)) (drop-append-le (p + tagSize) s rest (omega arith))
+        ∙ ap (numberOf 256) (take-append-le lengthSize (drop (p + tagSize) s) rest (subst (λ (n : ℕ). lengthSize ≤ n) (sym (length-drop (p + tagSize) s)) (omega arith)))
 
     pub next-same : nextAt (s ++ rest) p ≡ nextAt s p
     unfolding nextAt

@@ -3,7 +3,6 @@
 use mathlib.Core.Path.{_≡_, refl, sym, ap, ap₂, _∙_, subst}
 use mathlib.Core.Bool.{Bool, true, false, not, cond}
 use mathlib.Core.List.{List, [], _∷_, _++_, append-nil, append-assoc}
-use mathlib.Core.Option.{some}
 use Prim.Native.Nat.{ℕ, zero, suc, _+_, _-_, _^_, _≤_, _<_}
 use native.Mathlib.Omega.{arith}
 use borrow.Author.Tests.{eqb-true, eq-eqb, ne-eqb, leb-true, leb-false, le-leb, le-ltb, lt-ltb, ltb-false}
@@ -21,14 +20,14 @@ use Rattle.refusals.proofs.Tests.{numbered, first-here, first-skip, first-end, 
 use Rattle.outputs.specs.Outputs.{over}
 use Rattle.position_format.specs.declared.Form.{Form}
 use Rattle.position_format.specs.declared.Form.the-variants.{Old, Wide}
-use Rattle.position_format.specs.Positions.{codedPositions, validPositions, readPositions}
+use Rattle.position_format.specs.Positions.{validPositions, readPositions}
 use Rattle.position_format.specs.Tables.{tableOf, pointsOf}
 use Rattle.position_format.proofs.Positions.Valid.{valid-parts}
 use Rattle.position_format.proofs.Tables.WideRows.{wide-valid}
-use Rattle.ratio_format.specs.Bodies.{codedRatios, strictRatios}
+use Rattle.ratio_format.specs.Bodies.{strictRatios}
 use Rattle.ratio_format.proofs.Bodies.Strict.{strict-coded}
-use Rattle.record_format.specs.Fields.{Field, fieldOf, headSize, fieldBytes, laid, tagAt}
-use Rattle.record_format.specs.Runs.{Run, positionsTag, ratiosTag, frontFields, recordOf}
+use Rattle.record_format.specs.Fields.{Field, headSize, fieldBytes, laid, tagAt}
+use Rattle.record_format.specs.Runs.{Run, positionsTag, positionsTags, countSize, positionsField, ratiosField, frontFields, recordOf}
 use Rattle.record_format.specs.Reading.{positionsAt, ratiosAt, endAt, countIn, formIn, frontTests, manyTests, contentsTests, positionsTestsBy, positionsTests, ratiosTests, readTests}
 use Rattle.record_format.specs.Moves.{otherForm, inForm, runIn, sourceTests, targetTests, moveTests, Move, refusedMove, recordMove, moveOf}
 use Rattle.record_format.specs.Claims.{positionsPlace}
@@ -47,7 +46,7 @@ other-other Old = refl
 other-other Wide = refl
 
 -- where the tag is not that of the form f, either form's is good exactly where the other's is
-tags-other : (f : Form) (t : ℕ) → eqb t (positionsTag f) ≡ false → member t (positionsTag (otherForm f) ∷ []) ≡ member t (positionsTag Old ∷ positionsTag Wide ∷ [])
+tags-other : (f : Form) (t : ℕ) → eqb t (positionsTag f) ≡ false → member t (positionsTag (otherForm f) ∷ []) ≡ member t positionsTags
 unfolding member
 tags-other Old t e = rw e
 tags-other Wide t e = rw e
@@ -55,8 +54,8 @@ tags-other Wide t e = rw e
 -- and the tag of f is not the other's
 tag-not-other : (f : Form) (t : ℕ) → eqb t (positionsTag f) ≡ true → member t (positionsTag (otherForm f) ∷ []) ≡ false
 unfolding member
-tag-not-other Old t e = rw (eqb-true t 3 e)
-tag-not-other Wide t e = rw (eqb-true t 5 e)
+tag-not-other Old t e = rw (eqb-true t (positionsTag Old) e)
+tag-not-other Wide t e = rw (eqb-true t (positionsTag Wide) e)
 
 -- ---- the tests of the record
 
@@ -251,10 +250,10 @@ module _ (f : Form) (r : Run) (fit : Fitting r) (words : Below (2 ^ 64) (r .rati
   other-tag g e = go f g e
     where
       go : (f g : Form) → g ≡ otherForm f → eqb (positionsTag g) (positionsTag f) ≡ false
-      go Old Old e = absurd (let z : _≡_ {A = ℕ} 3 5 = ap positionsTag e in omega arith)
+      go Old Old e = absurd (let z : _≡_ {A = ℕ} (positionsTag Old) (positionsTag Wide) = ap positionsTag e in omega arith)
       go Old Wide e = refl
       go Wide Old e = refl
-      go Wide Wide e = absurd (let z : _≡_ {A = ℕ} 5 3 = ap positionsTag e in omega arith)
+      go Wide Wide e = absurd (let z : _≡_ {A = ℕ} (positionsTag Wide) (positionsTag Old) = ap positionsTag e in omega arith)
 
   other-head : headOf f s ≡ false
   other-head =
@@ -309,7 +308,7 @@ module _ (f : Form) (r : Run) (o : List ℕ) where
 
 pub form-first : FormFirst
 form-first f r d n rest o listed sided few long tagged =
-    let counts : n < 256 ^ 2 = omega arith in
+    let counts : n < 256 ^ countSize = omega arith in
     let s = input r d n rest listed sided counts in
     let all = front-all r d n rest listed sided counts in
     let size = input-length r d n rest listed sided counts in
@@ -331,8 +330,8 @@ pub own-form : (f : Form) (r : Run) → Fitting r → (rest : List ℕ) → r .f
 unfolding recordOf laid fieldBytes tagAt
 own-form f r fit rest e o =
     let few = fitting-few r fit in
-    let points = fieldOf (positionsTag (r .form)) (codedPositions (tableOf (r .form)) (r .positions)) in
-    let values = fieldOf ratiosTag (codedRatios (r .ratios)) ∷ [] in
+    let points = positionsField (r .form) (r .positions) in
+    let values = ratiosField (r .ratios) ∷ [] in
     let later = laid (points ∷ values) in
     let front = frontFields (r .rate) (r .side) (length (r .positions)) in
     let splits : recordOf r ++ rest ≡ laid front ++ (later ++ rest) = ap (λ (l : List ℕ). l ++ rest) (laid-append front _) ∙ append-assoc (laid front) later rest in
@@ -342,13 +341,13 @@ own-form f r fit rest e o =
 -- the record of the run in another form, from its fields up to the positions' and the ratios' field
 pub moved-laid : (f : Form) (r : Run)
     → recordOf (inForm f r)
-    ≡ laid (frontFields (r .rate) (r .side) (length (r .positions)) ++ (fieldOf (positionsTag f) (codedPositions (tableOf f) (r .positions)) ∷ []))
-    ++ laid (fieldOf ratiosTag (codedRatios (r .ratios)) ∷ [])
+    ≡ laid (frontFields (r .rate) (r .side) (length (r .positions)) ++ (positionsField f (r .positions) ∷ []))
+    ++ laid (ratiosField (r .ratios) ∷ [])
 unfolding recordOf
 moved-laid f r =
     let front = frontFields (r .rate) (r .side) (length (r .positions)) in
-    let points = fieldOf (positionsTag f) (codedPositions (tableOf f) (r .positions)) ∷ [] in
-    let values = fieldOf ratiosTag (codedRatios (r .ratios)) ∷ [] in
+    let points = positionsField f (r .positions) ∷ [] in
+    let values = ratiosField (r .ratios) ∷ [] in
     ap laid (sym (append-assoc front points values)) ∙ laid-append (front ++ points) values
 
 -- ---- bytes that the tests of the record do not refuse
@@ -358,17 +357,17 @@ pub record SourceSound (s : List ℕ) : Type 0 where
   pub fits : Fitting (runIn s)
   pub many : countIn s ≡ length (runIn s .positions)
   pub order : ratiosAt s ≤ endAt s
-  pub ratios : take (endAt s - ratiosAt s) (drop (ratiosAt s) s) ≡ laid (fieldOf ratiosTag (codedRatios (runIn s .ratios)) ∷ [])
+  pub ratios : take (endAt s - ratiosAt s) (drop (ratiosAt s) s) ≡ laid (ratiosField (runIn s .ratios) ∷ [])
 
 module _ (r : Run) (fit : Fitting r) (words : Below (2 ^ 64) (r .ratios)) (rest : List ℕ) where
   abbrev here : List ℕ
   here = recordOf r ++ rest
 
   abbrev points : List Field
-  points = frontFields (r .rate) (r .side) (length (r .positions)) ++ (fieldOf (positionsTag (r .form)) (codedPositions (tableOf (r .form)) (r .positions)) ∷ [])
+  points = frontFields (r .rate) (r .side) (length (r .positions)) ++ (positionsField (r .form) (r .positions) ∷ [])
 
   abbrev values : List Field
-  values = fieldOf ratiosTag (codedRatios (r .ratios)) ∷ []
+  values = ratiosField (r .ratios) ∷ []
 
   split : recordOf r ≡ laid points ++ laid values
   split = moved-laid (r .form) r
@@ -379,7 +378,7 @@ module _ (r : Run) (fit : Fitting r) (words : Below (2 ^ 64) (r .ratios)) (rest 
   record-sound : SourceSound here
   record-sound =
       let stands = ratios-stand r fit rest in
-      let one : length (laid values) ≡ length (fieldBytes (fieldOf ratiosTag (codedRatios (r .ratios)))) = ap length (laid-one _) in
+      let one : length (laid values) ≡ length (fieldBytes (ratiosField (r .ratios))) = ap length (laid-one _) in
       let end : endAt here ≡ length (laid points) + length (laid values) = at-end r fit rest ∙ ap length split ∙ length-append (laid points) (laid values) in
       let at : ratiosAt here ≡ length (laid points) = omega (arith, stands .next, end, one) in
       let size : endAt here - ratiosAt here ≡ length (laid values) = omega (arith, end, at) in
@@ -390,7 +389,7 @@ module _ (r : Run) (fit : Fitting r) (words : Below (2 ^ 64) (r .ratios)) (rest 
         many = counted r fit rest ∙ ap (λ (q : Run). length (q .positions)) (sym run-here);
         order = omega (arith, end, at);
         ratios = ap₂ take size past ∙ take-at (laid values) rest (length (laid values)) refl
-            ∙ ap (λ (q : Run). laid (fieldOf ratiosTag (codedRatios (q .ratios)) ∷ [])) (sym run-here);
+            ∙ ap (λ (q : Run). laid (ratiosField (q .ratios) ∷ [])) (sym run-here);
       }
 
 pub source-sound : (f : Form) (s : List ℕ) → Below 256 s → headOf f s ≡ false → firstOf (sourceTests f s) .number ≡ 0 → SourceSound s

@@ -21,11 +21,11 @@ use Rattle.limits.specs.Sides.{isSide}
 use Rattle.refusals.specs.declared.Refusal.{Refusal}
 use Rattle.refusals.specs.Tests.{Test, test, firstOf, refused}
 use Rattle.refusals.proofs.Tests.{numbered, without, first-here, first-skip, first-clear, first-end}
-use Rattle.position_format.specs.declared.Form.the-variants.{Old, Wide}
+use Rattle.position_format.specs.declared.Form.the-variants.{Wide}
 use Rattle.position_format.specs.Tables.{pointsOf}
 use Rattle.record_format.specs.Fields.{Field, fieldOf, headSize, fieldBytes, tagAt, lengthAt, bodyAt, nextAt, headTests, lengthTests, bodyTests, fieldTests}
 use Rattle.record_format.specs.Reading.{Answer, refusalAnswer, answerBy, missing, sideAt, hasSide, countAt, positionsAt, sideIn, countIn, formIn, positionsIn, lacksRoom, rateTests, sideTests, countTests, frontTests, roomTests, positionsTests, ratiosTests, readTests}
-use Rattle.record_format.specs.Runs.{sideTag, positionsTag, formOf, sideSize}
+use Rattle.record_format.specs.Runs.{sideTag, positionsTag, positionsTags, formOf, sideSize}
 use Rattle.record_format.proofs.Fields.{FieldStands, length-body, field-here, below-body, tag-same, length-same, next-same, head-within}
 
 -- a refusal by its number and place
@@ -178,26 +178,23 @@ module _ (s rest : List ℕ) (p : ℕ) (whole : nextAt s p ≤ length s) where
 
 -- ---- the tests of the positions' field
 
-abbrev positions-tags : List ℕ
-positions-tags = positionsTag Old ∷ positionsTag Wide ∷ []
-
 -- where there are not too many points for the form they are those of any field of coded numbers
 pub positions-few : (s : List ℕ) (ts : List Test) → ltb (pointsOf (formIn s)) (countIn s) ≡ false
-    → firstOf (positionsTests s ++ ts) ≡ firstOf (fieldTests s positions-tags none (positionsAt s) ++ (test (missing (positionsIn s)) 17 (positionsAt s) ∷ ts))
+    → firstOf (positionsTests s ++ ts) ≡ firstOf (fieldTests s positionsTags none (positionsAt s) ++ (test (missing (positionsIn s)) 17 (positionsAt s) ∷ ts))
 unfolding firstOf
 positions-few s ts few = rw few
 
 -- and where there are, past a good tag, they are refused before the body
-pub positions-many : (s : List ℕ) (ts : List Test) → positionsAt s + headSize ≤ length s → member (tagAt s (positionsAt s)) positions-tags ≡ true
+pub positions-many : (s : List ℕ) (ts : List Test) → positionsAt s + headSize ≤ length s → member (tagAt s (positionsAt s)) positionsTags ≡ true
     → ltb (pointsOf (formIn s)) (countIn s) ≡ true → refusal 15 (countAt s) ≡ firstOf (positionsTests s ++ ts)
 positions-many s ts head tagged many = sym (first-skip _ _ (le-ltb _ _ head) ∙ first-skip _ _ (ap not tagged) ∙ first-here _ _ many)
 
 -- which is so in the wide form alone, whose tag is good
-pub many-tag : (t c : ℕ) → c ≤ maxPoints → pointsOf (formOf t) < c → member t positions-tags ≡ true
+pub many-tag : (t c : ℕ) → c ≤ maxPoints → pointsOf (formOf t) < c → member t positionsTags ≡ true
 unfolding member
 many-tag t c few many = go (eqb t (positionsTag Wide)) refl
   where
-    go : (b : Bool) → eqb t (positionsTag Wide) ≡ b → member t positions-tags ≡ true
+    go : (b : Bool) → eqb t (positionsTag Wide) ≡ b → member t positionsTags ≡ true
     go true q = rw (eqb-true t (positionsTag Wide) q)
     go false q = absurd (let n : maxPoints < c = rw q at many in omega arith)
 

@@ -1,13 +1,12 @@
 -- Laws of a run's record: the forms and their tags, which field is which, how long the bodies of its fields are, and how long it is.
 use mathlib.Core.Bool.{Bool, true, false, false≢true}
-use mathlib.Core.List.{List, [], _∷_, _++_, append-assoc}
+use mathlib.Core.List.{List, [], _∷_, _++_}
 use mathlib.Core.Path.{_≡_, refl, ap, ap₂, _∙_}
 use Prim.Native.Nat.{ℕ, zero, suc, _+_, _≤_}
 use native.Mathlib.Omega.{arith}
 use lib.Dec.{eqb, lit≤}
 use lib.ListN.{length, length-append}
 use Rattle.lists.specs.Lists.{member}
-use Rattle.bits.specs.Digits.{bytesOf}
 use Rattle.bits.proofs.Digits.{length-digits}
 use Rattle.position_format.specs.declared.Form.{Form}
 use Rattle.position_format.specs.declared.Form.the-variants.{Old, Wide}
@@ -17,10 +16,10 @@ use Rattle.position_format.proofs.Positions.Sizes.{form-size}
 use Rattle.ratio_format.specs.Windows.{windowSize}
 use Rattle.ratio_format.specs.Bodies.{codedRatios}
 use Rattle.ratio_format.proofs.Bodies.{nine-bytes}
-use Rattle.record_format.specs.Fields.{Field, fieldOf, maxBody, laid}
-use Rattle.record_format.specs.Runs.{Run, run, rateTag, countTag, positionsTag, formOf, ratiosTag, rateSize, sideSize, countSize, sideFields, sideLength, recordOf}
+use Rattle.record_format.specs.Fields.{headSize, maxBody, fieldBytes, laid}
+use Rattle.record_format.specs.Runs.{Run, run, positionsTag, positionsTags, formOf, rateSize, sideSize, countSize, rateField, sideFields, sideLength, countField, positionsField, ratiosField, frontFields, fieldsOf, recordOf}
 use Rattle.record_format.specs.Sizes.{minRecord, maxPositionsBody, maxRatiosBody}
-use Rattle.record_format.proofs.Fields.{Small, length-laid, laid-append, small-append}
+use Rattle.record_format.proofs.Fields.{Small, length-field, length-laid, laid-append, small-append}
 use Rattle.record_format.proofs.Writing.{Fitting}
 
 -- a run is its parts
@@ -37,13 +36,13 @@ form-of Old = refl
 form-of Wide = refl
 
 -- the tag of either form is good
-pub tag-good : (f : Form) → member (positionsTag f) (positionsTag Old ∷ positionsTag Wide ∷ []) ≡ true
+pub tag-good : (f : Form) → member (positionsTag f) positionsTags ≡ true
 unfolding member
 tag-good Old = refl
 tag-good Wide = refl
 
 -- and a good tag is that of the form that it names
-pub tag-named : (t : ℕ) → member t (positionsTag Old ∷ positionsTag Wide ∷ []) ≡ true → member t (positionsTag (formOf t) ∷ []) ≡ true
+pub tag-named : (t : ℕ) → member t positionsTags ≡ true → member t (positionsTag (formOf t) ∷ []) ≡ true
 unfolding member
 tag-named t e = go (eqb t (positionsTag Wide)) refl (eqb t (positionsTag Old)) refl
   where
@@ -52,27 +51,14 @@ tag-named t e = go (eqb t (positionsTag Wide)) refl (eqb t (positionsTag Old)) r
     go false q true u = rw (q, u)
     go false q false u = absurd (false≢true (rw (q, u) at e))
 
--- ---- its fields: the rate's, the side's if there is one, and those past it
+-- ---- its fields by what they hold: indices in all of them, in those from the side's on, and in those from the count's on
 
-abbrev pub rateField : Run → Field
-rateField r = fieldOf rateTag (bytesOf rateSize (r .rate))
+abbrev pub rateIndex : ℕ
+rateIndex = 0
 
-abbrev pub pointFields : Run → List Field
-pointFields r =
-    fieldOf countTag (bytesOf countSize (length (r .positions)))
-    ∷ fieldOf (positionsTag (r .form)) (codedPositions (tableOf (r .form)) (r .positions))
-    ∷ fieldOf ratiosTag (codedRatios (r .ratios))
-    ∷ []
-
--- all of them, one after the other
-abbrev pub flatFields : Run → List Field
-flatFields r = rateField r ∷ (sideFields (r .side) ++ pointFields r)
-
-pub record-flat : (r : Run) → recordOf r ≡ laid (flatFields r)
-unfolding recordOf
-record-flat r = ap (λ (l : List Field). laid (rateField r ∷ l)) (append-assoc (sideFields (r .side)) _ _)
-
--- the last ones by what they hold: their indices, and how many there are
+-- or else the count's, which stands in its place
+abbrev pub sideIndex : ℕ
+sideIndex = 0
 
 abbrev pub countIndex : ℕ
 countIndex = 0
@@ -83,18 +69,33 @@ positionsIndex = 1
 abbrev pub ratiosIndex : ℕ
 ratiosIndex = 2
 
+-- how many fields a record has from the count's on
 abbrev pub pointFieldCount : ℕ
 pointFieldCount = 3
 
--- ---- the side's field
+-- ---- its front
 
 pub length-side : (n : ℕ) → length (laid (sideFields n)) ≡ sideLength n
 length-side zero = length-laid []
 length-side (suc n) = length-laid (sideFields (suc n)) ∙ omega (arith, length-digits 256 sideSize (suc n))
 
-pub side-small : (n : ℕ) → Small (sideFields n)
+side-small : (n : ℕ) → Small (sideFields n)
 side-small zero = tt
 side-small (suc n) = (omega (arith, length-digits 256 sideSize (suc n)), tt)
+
+pub length-front : (rate side count : ℕ) → length (laid (frontFields rate side count)) ≡ headSize + rateSize + sideLength side + (headSize + countSize)
+unfolding laid
+length-front rate side count =
+    length-append (fieldBytes (rateField rate)) (laid (sideFields side ++ (countField count ∷ [])))
+    ∙ omega
+    (arith, length-field (rateField rate), length-digits 256 rateSize rate, ap length (laid-append (sideFields side) (countField count ∷ [])), length-append (laid (sideFields side)) (laid (countField count ∷ [])), length-side side, length-laid (countField count ∷ []), length-digits 256 countSize count)
+
+-- its bodies are short
+pub front-small : (rate side count : ℕ) → Small (frontFields rate side count)
+front-small rate side count = (
+  omega (arith, length-digits 256 rateSize rate),
+  small-append (sideFields side) _ (side-small side) (omega (arith, length-digits 256 countSize count), tt),
+)
 
 -- ---- its length
 
@@ -115,19 +116,16 @@ module _ (r : Run) (fit : Fitting r) where
   pub ratios-size : length (codedRatios (r .ratios)) ≤ maxRatiosBody (r .form)
   ratios-size = omega (arith, nine-bytes windowSize [] (r .ratios), fit .paired, fit .few)
 
-  pub bodies-small : (length (codedPositions (tableOf (r .form)) (r .positions)) ≤ maxBody) × (length (codedRatios (r .ratios)) ≤ maxBody)
-  bodies-small = let m = form-bodies (r .form) in (omega (arith, positions-size, m .0), omega (arith, ratios-size, m .1))
-
-  pub fields-small : Small (flatFields r)
-  fields-small = (
-    omega (arith, length-digits 256 rateSize (r .rate)),
-    small-append (sideFields (r .side)) (pointFields r) (side-small (r .side))
-        (omega (arith, length-digits 256 countSize (length (r .positions))), (bodies-small .0, (bodies-small .1, tt))),
-  )
+  pub fields-small : Small (fieldsOf r)
+  fields-small =
+      let m = form-bodies (r .form) in
+      small-append (frontFields (r .rate) (r .side) (length (r .positions))) _ (front-small (r .rate) (r .side) (length (r .positions)))
+      (omega (arith, positions-size, m .0), (omega (arith, ratios-size, m .1), tt))
 
 pub length-record : (r : Run) → length (recordOf r) ≡ minRecord + sideLength (r .side) + length (codedPositions (tableOf (r .form)) (r .positions)) + length (codedRatios (r .ratios))
+unfolding recordOf
 length-record r =
-    ap length (record-flat r ∙ laid-append (rateField r ∷ sideFields (r .side)) (pointFields r))
-    ∙ length-append (laid (rateField r ∷ sideFields (r .side))) (laid (pointFields r))
-    ∙ omega
-    (arith, ap length (laid-append (rateField r ∷ []) (sideFields (r .side))), length-append (laid (rateField r ∷ [])) (laid (sideFields (r .side))), length-laid (rateField r ∷ []), length-side (r .side), length-laid (pointFields r), length-digits 256 rateSize (r .rate), length-digits 256 countSize (length (r .positions)))
+    let front = frontFields (r .rate) (r .side) (length (r .positions)) in
+    let points = positionsField (r .form) (r .positions) ∷ ratiosField (r .ratios) ∷ [] in
+    ap length (laid-append front points) ∙ length-append (laid front) (laid points)
+    ∙ omega (arith, length-front (r .rate) (r .side) (length (r .positions)), length-laid points)

@@ -24,17 +24,24 @@ use Rattle.refusals.specs.declared.Refusal.{Refusal}
 use Rattle.refusals.specs.Tests.{Test, test, firstOf, refused}
 use Rattle.refusals.proofs.Tests.{first-here, first-skip}
 use Rattle.position_format.specs.declared.Form.{Form}
-use Rattle.position_format.specs.declared.Form.the-variants.{Old, Wide}
 use Rattle.position_format.specs.Positions.{readPositions}
 use Rattle.position_format.specs.Tables.{tableOf, pointsOf}
-use Rattle.record_format.specs.Fields.{Field, fieldOf, headSize, tagAt, lengthAt, bodyAt, nextAt, headTests, lengthTests, bodyTests, fieldTests}
-use Rattle.record_format.specs.Runs.{rateTag, sideTag, countTag, positionsTag, formOf, ratiosTag, rateSize, sideSize, countSize}
+use Rattle.record_format.specs.Fields.{Field, fieldOf, tagSize, lengthSize, headSize, tagAt, lengthAt, bodyAt, nextAt, headTests, lengthTests, bodyTests, fieldTests}
+use Rattle.record_format.specs.Runs.{rateTag, sideTag, countTag, positionsTags, formOf, ratiosTag, rateSize, sideSize, countSize, rateField}
 use Rattle.record_format.specs.Reading.{Answer, refusalAnswer, recordAnswer, readTests, readWith, rateAt, sideAt, hasSide, countAt, positionsAt, ratiosAt, endAt, rateIn, sideIn, countIn, formIn, positionsIn, ratiosIn, otherRate, lacksRoom, missing, contentsTests, sideTests, countTests, roomTests, manyTests, positionsTests, ratiosTests}
 use Rattle.record_format.specs.SideClaims.{rateBytes, sideBytes, Expects, refusedBy, RateRefused, RateFirst, HeadCut, TagRefused, LengthRefused, BodyCut, SideRefused, CountRefused, shifted, SideShifts}
 use Rattle.record_format.proofs.Fields.{FieldStands, length-field, stands, head-stands}
 use Rattle.record_format.proofs.Reading.{refusal, head-short, tag-other, length-other, body-short, field-passes, tests-flat, answer-refused}
 use Rattle.record_format.proofs.Reading.Sides.{absent-count, absent-tests, present-count, present-side, present-tests}
 use Rattle.record_format.proofs.Claims.{no-other, other-none}
+
+-- the offset of the side's field, past the rate's
+abbrev side-place : ℕ
+side-place = headSize + rateSize
+
+-- how many bytes a side's field takes
+abbrev side-takes : ℕ
+side-takes = headSize + sideSize
 
 -- a tag that is the one of a list of one
 is-one : (x t : ℕ) → x ≡ t → member x (t ∷ []) ≡ true
@@ -59,22 +66,22 @@ module _ (k : ℕ → List ℕ → Option (List ℕ)) (e : ℕ) (s ts vs : List 
 pub rate-refused : RateRefused
 unfolding nextAt
 rate-refused k e rest ts vs = (
-  λ h. rate-refuses k e rest ts vs 10 0 (λ z. omega arith) (λ us. head-short rest (rateTag ∷ []) (some rateSize) rateAt us (omega arith)),
+  λ h. rate-refuses k e rest ts vs 10 rateAt (λ z. omega arith) (λ us. head-short rest (rateTag ∷ []) (some rateSize) rateAt us (omega arith)),
   λ long one.
-      rate-refuses k e rest ts vs 11 0 (λ z. omega arith)
+      rate-refuses k e rest ts vs 11 rateAt (λ z. omega arith)
       (λ us. tag-other rest (rateTag ∷ []) (some rateSize) rateAt us (omega arith) (not-one _ _ one)),
   λ l small d.
-      let s = (1 ∷ bytesOf 2 l) ++ rest in
-      let h = head-stands [] 1 l rest small in
-      rate-refuses k e s ts vs 12 0 (λ z. omega arith)
-      (λ us. length-other s (rateTag ∷ []) (some rateSize) rateAt us (omega (arith, length-append (1 ∷ bytesOf 2 l) rest, length-digits 256 2 l)) (is-one _ _ (h .0)) 4 refl (λ z. d (sym (h .1) ∙ z))),
+      let s = (rateTag ∷ bytesOf lengthSize l) ++ rest in
+      let h = head-stands [] rateTag l rest small in
+      rate-refuses k e s ts vs 12 rateAt (λ z. omega arith)
+      (λ us. length-other s (rateTag ∷ []) (some rateSize) rateAt us (omega (arith, length-append (rateTag ∷ bytesOf lengthSize l) rest, length-digits 256 lengthSize l)) (is-one _ _ (h .0)) rateSize refl (λ z. d (sym (h .1) ∙ z))),
   λ cut.
-      let s = (1 ∷ bytesOf 2 4) ++ rest in
-      let h = head-stands [] 1 4 rest (lit< tt) in
-      rate-refuses k e s ts vs 10 0 (λ z. omega arith)
+      let s = (rateTag ∷ bytesOf lengthSize rateSize) ++ rest in
+      let h = head-stands [] rateTag rateSize rest (lit< tt) in
+      rate-refuses k e s ts vs 10 rateAt (λ z. omega arith)
       (λ us.
-      body-short s (rateTag ∷ []) (some rateSize) rateAt us (omega (arith, length-append (1 ∷ bytesOf 2 4) rest, length-digits 256 2 4)) (is-one _ _ (h .0)) (h .1)
-      (omega (arith, h .1, length-append (1 ∷ bytesOf 2 4) rest, length-digits 256 2 4))),
+      body-short s (rateTag ∷ []) (some rateSize) rateAt us (omega (arith, length-append (rateTag ∷ bytesOf lengthSize rateSize) rest, length-digits 256 lengthSize rateSize)) (is-one _ _ (h .0)) (h .1)
+      (omega (arith, h .1, length-append (rateTag ∷ bytesOf lengthSize rateSize) rest, length-digits 256 lengthSize rateSize))),
 )
 
 -- ---- past the rate
@@ -93,20 +100,20 @@ module _ (k : ℕ → List ℕ → Option (List ℕ)) (e r : ℕ) (rest ts vs : 
   abbrev from-side : List Test
   from-side = sideTests s ++ from-count
 
-  length-rate : length (rateBytes r) ≡ 7
-  length-rate = length-field (fieldOf rateTag (bytesOf rateSize r)) ∙ ap (λ (n : ℕ). headSize + n) (length-digits 256 rateSize r)
+  length-rate : length (rateBytes r) ≡ side-place
+  length-rate = length-field (rateField r) ∙ ap (λ (n : ℕ). headSize + n) (length-digits 256 rateSize r)
 
-  length-all : length s ≡ 7 + length rest
+  length-all : length s ≡ side-place + length rest
   length-all = length-append (rateBytes r) rest ∙ ap (λ (n : ℕ). n + length rest) length-rate
 
-  rate-stands : FieldStands s rateAt (fieldOf rateTag (bytesOf rateSize r))
-  rate-stands = stands [] (fieldOf rateTag (bytesOf rateSize r)) rest (omega (arith, length-digits 256 rateSize r))
+  rate-stands : FieldStands s rateAt (rateField r)
+  rate-stands = stands [] (rateField r) rest (omega (arith, length-digits 256 rateSize r))
 
-  at-side : sideAt s ≡ 7
+  at-side : sideAt s ≡ side-place
   at-side = rate-stands .next ∙ omega (arith, length-rate)
 
   -- what follows the rate
-  rest-from : (n : ℕ) → drop (7 + n) s ≡ drop n rest
+  rest-from : (n : ℕ) → drop (side-place + n) s ≡ drop n rest
   rest-from n = ap (λ (m : ℕ). drop (m + n) s) (sym length-rate) ∙ drop-append-add (rateBytes r) rest n
 
   tag-rest : tagAt s (sideAt s) ≡ tagAt rest 0
@@ -128,12 +135,12 @@ module _ (k : ℕ → List ℕ → Option (List ℕ)) (e r : ℕ) (rest ts vs : 
     rate-is : rateIn s ≡ r
     rate-is = ap (numberOf 256) (rate-stands .within) ∙ number-digits-lt (lit< tt) rateSize (omega arith)
 
-    thirteen : isRate r ≡ false → readWith k e s ts vs ≡ refusedBy 13 0 ts vs
-    thirteen b = refuses 13 0 (λ z. omega arith) (rate-tests ∙ first-here _ _ (ap (λ (x : ℕ). not (isRate x)) rate-is ∙ ap not b))
+    thirteen : isRate r ≡ false → readWith k e s ts vs ≡ refusedBy 13 rateAt ts vs
+    thirteen b = refuses 13 rateAt (λ z. omega arith) (rate-tests ∙ first-here _ _ (ap (λ (x : ℕ). not (isRate x)) rate-is ∙ ap not b))
 
-    fourteen : isRate r ≡ true → (Expects e r → ⊥) → readWith k e s ts vs ≡ refusedBy 14 0 ts vs
+    fourteen : isRate r ≡ true → (Expects e r → ⊥) → readWith k e s ts vs ≡ refusedBy 14 rateAt ts vs
     fourteen b d =
-        refuses 14 0 (λ z. omega arith)
+        refuses 14 rateAt (λ z. omega arith)
         (rate-tests ∙ first-skip _ _ (ap (λ (x : ℕ). not (isRate x)) rate-is ∙ ap not b) ∙ first-here _ _ (ap (otherRate e) rate-is ∙ differs (otherRate e r) refl))
       where
         differs : (b : Bool) → otherRate e r ≡ b → otherRate e r ≡ true
@@ -153,12 +160,12 @@ module _ (k : ℕ → List ℕ → Option (List ℕ)) (e r : ℕ) (rest ts vs : 
     past-absent : hasSide s ≡ false → firstOf tests ≡ firstOf from-count
     past-absent a = past-rate ∙ ap (λ (l : List Test). firstOf (l ++ from-count)) (absent-tests s a)
 
-    ten : length rest < 3 → readWith k e s ts vs ≡ refusedBy 10 7 ts vs
-    ten h = refuses 10 7 (λ z. omega arith) (go (hasSide s) refl)
+    ten : length rest < headSize → readWith k e s ts vs ≡ refusedBy 10 side-place ts vs
+    ten h = refuses 10 side-place (λ z. omega arith) (go (hasSide s) refl)
       where
-        go : (b : Bool) → hasSide s ≡ b → firstOf tests ≡ refusal 10 7
+        go : (b : Bool) → hasSide s ≡ b → firstOf tests ≡ refusal 10 side-place
         go false a =
-            let at : countAt s ≡ 7 = absent-count s a ∙ at-side in
+            let at : countAt s ≡ side-place = absent-count s a ∙ at-side in
             past-absent a ∙ sym (head-short s (countTag ∷ []) (some countSize) (countAt s) _ (omega (arith, length-all))) ∙ ap (refusal 10) at
         go true a =
             past-rate
@@ -166,19 +173,19 @@ module _ (k : ℕ → List ℕ → Option (List ℕ)) (e r : ℕ) (rest ts vs : 
             ∙ sym (head-short s (sideTag ∷ []) (some sideSize) (sideAt s) _ (omega (arith, length-all, at-side)))
             ∙ ap (refusal 10) at-side
 
-    eleven : 3 ≤ length rest → (tagAt rest 0 ≡ 2 → ⊥) → (tagAt rest 0 ≡ 6 → ⊥) → readWith k e s ts vs ≡ refusedBy 11 7 ts vs
-    eleven h two six =
-        let absent : hasSide s ≡ false = ne-eqb _ _ (λ z. six (sym tag-rest ∙ z)) in
+    eleven : headSize ≤ length rest → (tagAt rest 0 ≡ countTag → ⊥) → (tagAt rest 0 ≡ sideTag → ⊥) → readWith k e s ts vs ≡ refusedBy 11 side-place ts vs
+    eleven h count side =
+        let absent : hasSide s ≡ false = ne-eqb _ _ (λ z. side (sym tag-rest ∙ z)) in
         let at : countAt s ≡ sideAt s = absent-count s absent in
-        refuses 11 7 (λ z. omega arith)
+        refuses 11 side-place (λ z. omega arith)
         (past-absent absent
         ∙ sym
         (tag-other s (countTag ∷ []) (some countSize) (countAt s) _ (omega (arith, at, at-side, length-all))
-        (not-one _ _ (λ z. two (sym tag-rest ∙ ap (tagAt s) (sym at) ∙ z))))
+        (not-one _ _ (λ z. count (sym tag-rest ∙ ap (tagAt s) (sym at) ∙ z))))
         ∙ ap (refusal 11) (at ∙ at-side))
 
     -- a tag and a length
-    module _ (tag l : ℕ) (t : List ℕ) (is : rest ≡ (tag ∷ bytesOf 2 l) ++ t) (small : l < 256 ^ 2) where
+    module _ (tag l : ℕ) (t : List ℕ) (is : rest ≡ (tag ∷ bytesOf lengthSize l) ++ t) (small : l < 256 ^ lengthSize) where
       headed : (tagAt s (sideAt s) ≡ tag) × (lengthAt s (sideAt s) ≡ l)
       headed =
           subst (λ (p : ℕ). (tagAt s p ≡ tag) × (lengthAt s p ≡ l)) (length-rate ∙ sym at-side)
@@ -191,8 +198,8 @@ module _ (k : ℕ → List ℕ → Option (List ℕ)) (e r : ℕ) (rest ts vs : 
       stated : lengthAt s (sideAt s) ≡ l
       stated = headed .1
 
-      long : length rest ≡ 3 + length t
-      long = ap length is ∙ omega (arith, length-append (tag ∷ bytesOf 2 l) t, length-digits 256 2 l)
+      long : length rest ≡ headSize + length t
+      long = ap length is ∙ omega (arith, length-append (tag ∷ bytesOf lengthSize l) t, length-digits 256 lengthSize l)
 
       head : sideAt s + headSize ≤ length s
       head = omega (arith, at-side, length-all, long)
@@ -206,30 +213,30 @@ module _ (k : ℕ → List ℕ → Option (List ℕ)) (e r : ℕ) (rest ts vs : 
       short h = omega (arith, at-side, stated, length-all, long)
 
     -- a side's: the tests of its field decide
-    module _ (l : ℕ) (t : List ℕ) (is : rest ≡ (6 ∷ bytesOf 2 l) ++ t) (small : l < 256 ^ 2) where
+    module _ (l : ℕ) (t : List ℕ) (is : rest ≡ (sideTag ∷ bytesOf lengthSize l) ++ t) (small : l < 256 ^ lengthSize) where
       past-tag : firstOf tests ≡ firstOf (fieldTests s (sideTag ∷ []) (some sideSize) (sideAt s) ++ (test (not (isSide (numberOf 256 (bodyAt s (sideAt s))))) 20 (sideAt s) ∷ from-count))
-      past-tag = past-rate ∙ ap (λ (l : List Test). firstOf (l ++ from-count)) (present-tests s (ap (λ (x : ℕ). eqb x sideTag) (tag-is 6 l t is small)))
+      past-tag = past-rate ∙ ap (λ (l : List Test). firstOf (l ++ from-count)) (present-tests s (ap (λ (x : ℕ). eqb x sideTag) (tag-is sideTag l t is small)))
 
-      twelve : (l ≡ 1 → ⊥) → readWith k e s ts vs ≡ refusedBy 12 7 ts vs
+      twelve : (l ≡ sideSize → ⊥) → readWith k e s ts vs ≡ refusedBy 12 side-place ts vs
       twelve d =
-          refuses 12 7 (λ z. omega arith)
+          refuses 12 side-place (λ z. omega arith)
           (past-tag
-          ∙ sym (length-other s (sideTag ∷ []) (some sideSize) (sideAt s) _ (head 6 l t is small) (tagged 6 l t is small) 1 refl (λ z. d (sym (stated 6 l t is small) ∙ z)))
+          ∙ sym (length-other s (sideTag ∷ []) (some sideSize) (sideAt s) _ (head sideTag l t is small) (tagged sideTag l t is small) sideSize refl (λ z. d (sym (stated sideTag l t is small) ∙ z)))
           ∙ ap (refusal 12) at-side)
 
-      ten-body : l ≡ 1 → t ≡ [] → readWith k e s ts vs ≡ refusedBy 10 7 ts vs
+      ten-body : l ≡ sideSize → t ≡ [] → readWith k e s ts vs ≡ refusedBy 10 side-place ts vs
       ten-body one empty =
-          refuses 10 7 (λ z. omega arith)
+          refuses 10 side-place (λ z. omega arith)
           (past-tag
           ∙ sym
-          (body-short s (sideTag ∷ []) (some sideSize) (sideAt s) _ (head 6 l t is small) (tagged 6 l t is small) (stated 6 l t is small ∙ one)
-          (short 6 l t is small (omega (arith, ap length empty))))
+          (body-short s (sideTag ∷ []) (some sideSize) (sideAt s) _ (head sideTag l t is small) (tagged sideTag l t is small) (stated sideTag l t is small ∙ one)
+          (short sideTag l t is small (omega (arith, ap length empty))))
           ∙ ap (refusal 10) at-side)
 
     -- a count's: there is no side, and the tests of the count's field decide
-    module _ (l : ℕ) (t : List ℕ) (is : rest ≡ (2 ∷ bytesOf 2 l) ++ t) (small : l < 256 ^ 2) where
+    module _ (l : ℕ) (t : List ℕ) (is : rest ≡ (countTag ∷ bytesOf lengthSize l) ++ t) (small : l < 256 ^ lengthSize) where
       no-side : hasSide s ≡ false
-      no-side = ap (λ (x : ℕ). eqb x sideTag) (tag-is 2 l t is small)
+      no-side = ap (λ (x : ℕ). eqb x sideTag) (tag-is countTag l t is small)
 
       here : countAt s ≡ sideAt s
       here = absent-count s no-side
@@ -240,28 +247,28 @@ module _ (k : ℕ → List ℕ → Option (List ℕ)) (e r : ℕ) (rest ts vs : 
           past-absent no-side
           ∙ ap (λ (p : ℕ). firstOf (fieldTests s (countTag ∷ []) (some countSize) p ++ (test (ltb maxPoints (countIn s)) 15 (countAt s) ∷ (roomTests s (length ts) (length vs) ++ (positionsTests s ++ ratiosTests k s))))) here
 
-      twelve-count : (l ≡ 2 → ⊥) → readWith k e s ts vs ≡ refusedBy 12 7 ts vs
+      twelve-count : (l ≡ countSize → ⊥) → readWith k e s ts vs ≡ refusedBy 12 side-place ts vs
       twelve-count d =
-          refuses 12 7 (λ z. omega arith)
+          refuses 12 side-place (λ z. omega arith)
           (count-decides
-          ∙ sym (length-other s (countTag ∷ []) (some countSize) (sideAt s) _ (head 2 l t is small) (tagged 2 l t is small) 2 refl (λ z. d (sym (stated 2 l t is small) ∙ z)))
+          ∙ sym (length-other s (countTag ∷ []) (some countSize) (sideAt s) _ (head countTag l t is small) (tagged countTag l t is small) countSize refl (λ z. d (sym (stated countTag l t is small) ∙ z)))
           ∙ ap (refusal 12) at-side)
 
-      ten-count : l ≡ 2 → length t < 2 → readWith k e s ts vs ≡ refusedBy 10 7 ts vs
+      ten-count : l ≡ countSize → length t < countSize → readWith k e s ts vs ≡ refusedBy 10 side-place ts vs
       ten-count two h =
-          refuses 10 7 (λ z. omega arith)
+          refuses 10 side-place (λ z. omega arith)
           (count-decides
-          ∙ sym (body-short s (countTag ∷ []) (some countSize) (sideAt s) _ (head 2 l t is small) (tagged 2 l t is small) (stated 2 l t is small ∙ two) (short 2 l t is small (omega arith)))
+          ∙ sym (body-short s (countTag ∷ []) (some countSize) (sideAt s) _ (head countTag l t is small) (tagged countTag l t is small) (stated countTag l t is small ∙ two) (short countTag l t is small (omega arith)))
           ∙ ap (refusal 10) at-side)
 
 pub rate-first : RateFirst
 rate-first k e r rest ts vs small = (thirteen k e r rest ts vs small, fourteen k e r rest ts vs small)
 
 pub length-refused : LengthRefused
-length-refused k e r l rest ts vs listed o small d = twelve k e r ((6 ∷ bytesOf 2 l) ++ rest) ts vs listed o l rest refl small d
+length-refused k e r l rest ts vs listed o small d = twelve k e r ((sideTag ∷ bytesOf lengthSize l) ++ rest) ts vs listed o l rest refl small d
 
 pub body-cut : BodyCut
-body-cut k e r ts vs listed o = ten-body k e r (6 ∷ bytesOf 2 1) ts vs listed o 1 [] (sym (append-nil (6 ∷ bytesOf 2 1))) (lit< tt) refl refl
+body-cut k e r ts vs listed o = ten-body k e r (sideTag ∷ bytesOf lengthSize sideSize) ts vs listed o sideSize [] (sym (append-nil (sideTag ∷ bytesOf lengthSize sideSize))) (lit< tt) refl refl
 
 -- ---- past a side
 
@@ -272,12 +279,12 @@ module _ (k : ℕ → List ℕ → Option (List ℕ)) (e r d : ℕ) (rest ts vs 
   abbrev side-field : Field
   side-field = fieldOf sideTag (bytesOf sideSize d)
 
-  seven : sideAt sided ≡ 7
-  seven = at-side k e r (sideBytes d ++ rest) ts vs
+  at-sided : sideAt sided ≡ side-place
+  at-sided = at-side k e r (sideBytes d ++ rest) ts vs
 
   side-stands : FieldStands sided (sideAt sided) side-field
   side-stands =
-      subst (λ (p : ℕ). FieldStands sided p side-field) (length-rate k e r (sideBytes d ++ rest) ts vs ∙ sym seven)
+      subst (λ (p : ℕ). FieldStands sided p side-field) (length-rate k e r (sideBytes d ++ rest) ts vs ∙ sym at-sided)
       (stands (rateBytes r) side-field rest (omega (arith, length-digits 256 sideSize d)))
 
   present : hasSide sided ≡ true
@@ -286,21 +293,21 @@ module _ (k : ℕ → List ℕ → Option (List ℕ)) (e r d : ℕ) (rest ts vs 
   stored-is : numberOf 256 (bodyAt sided (sideAt sided)) ≡ d
   stored-is = ap (numberOf 256) (side-stands .within) ∙ number-digits-lt (lit< tt) sideSize (omega arith)
 
-  count-eleven : countAt sided ≡ 11
-  count-eleven = present-count sided present ∙ side-stands .next ∙ omega (arith, seven, length-field side-field, length-digits 256 sideSize d)
+  count-past : countAt sided ≡ side-place + side-takes
+  count-past = present-count sided present ∙ side-stands .next ∙ omega (arith, at-sided, length-field side-field, length-digits 256 sideSize d)
 
   -- the number in it decides
-  side-decides : firstOf (tests k e r (sideBytes d ++ rest) ts vs) ≡ firstOf (test (not (isSide d)) 20 7 ∷ from-count k e r (sideBytes d ++ rest) ts vs)
+  side-decides : firstOf (tests k e r (sideBytes d ++ rest) ts vs) ≡ firstOf (test (not (isSide d)) 20 side-place ∷ from-count k e r (sideBytes d ++ rest) ts vs)
   unfolding member
   side-decides =
       past-rate k e r (sideBytes d ++ rest) ts vs listed o
       ∙ ap (λ (l : List Test). firstOf (l ++ from-count k e r (sideBytes d ++ rest) ts vs)) (present-tests sided present)
       ∙ field-passes side-stands (sideTag ∷ []) (some sideSize)
       (test (not (isSide (numberOf 256 (bodyAt sided (sideAt sided))))) 20 (sideAt sided) ∷ from-count k e r (sideBytes d ++ rest) ts vs) refl (length-digits 256 sideSize d)
-      ∙ ap₂ (λ (n p : ℕ). firstOf (test (not (isSide n)) 20 p ∷ from-count k e r (sideBytes d ++ rest) ts vs)) stored-is seven
+      ∙ ap₂ (λ (n p : ℕ). firstOf (test (not (isSide n)) 20 p ∷ from-count k e r (sideBytes d ++ rest) ts vs)) stored-is at-sided
 
-  twenty : isSide d ≡ false → readWith k e sided ts vs ≡ refusedBy 20 7 ts vs
-  twenty b = refuses k e r (sideBytes d ++ rest) ts vs 20 7 (λ z. omega arith) (side-decides ∙ first-here _ _ (ap not b))
+  twenty : isSide d ≡ false → readWith k e sided ts vs ≡ refusedBy 20 side-place ts vs
+  twenty b = refuses k e r (sideBytes d ++ rest) ts vs 20 side-place (λ z. omega arith) (side-decides ∙ first-here _ _ (ap not b))
 
   past-side : isSide d ≡ true → firstOf (tests k e r (sideBytes d ++ rest) ts vs) ≡ firstOf (from-count k e r (sideBytes d ++ rest) ts vs)
   past-side b = side-decides ∙ first-skip _ _ (ap not b)
@@ -313,13 +320,13 @@ side-refused k e r d rest ts vs listed o (inr h) =
 
 -- ---- what a side's field shifts
 
--- a test four bytes further on
+-- a test as far further on as a side's field takes
 abbrev further : Test → Test
-further t = test (t .applies) (t .number) (t .place + 4)
+further t = test (t .applies) (t .number) (t .place + side-takes)
 
--- gives the same number, and a place four bytes further on
+-- gives the same number, and a place as far further on
 abbrev Further : Refusal → Refusal → Type 0
-Further f g = (g .number ≡ f .number) × ((f .number ≡ 0 → ⊥) → g ≡ refusal (f .number) (f .place + 4))
+Further f g = (g .number ≡ f .number) × ((f .number ≡ 0 → ⊥) → g ≡ refusal (f .number) (f .place + side-takes))
 
 first-further : (ts : List Test) → Further (firstOf ts) (firstOf (map further ts))
 unfolding firstOf
@@ -327,7 +334,7 @@ first-further [] = (refl, λ d. absurd (d refl))
 first-further (t ∷ ts) = go (t .applies) (first-further ts)
   where
     go : (b : Bool) → Further (firstOf ts) (firstOf (map further ts))
-        → Further (cond b (refusal (t .number) (t .place)) (firstOf ts)) (cond b (refusal (t .number) (t .place + 4)) (firstOf (map further ts)))
+        → Further (cond b (refusal (t .number) (t .place)) (firstOf ts)) (cond b (refusal (t .number) (t .place + side-takes)) (firstOf (map further ts)))
     go true h = (refl, λ d. refl)
     go false h = h
 
@@ -343,84 +350,84 @@ ltb-same a b c d f g = go (ltb a b) refl
 both-shifted : {a b : List Test} (c d : List Test) → a ≡ map further c → b ≡ map further d → a ++ b ≡ map further (c ++ d)
 both-shifted c d e f = ap₂ (λ (x y : List Test). x ++ y) e f ∙ sym (map-append further c d)
 
--- the bytes t have from each offset on, four bytes further on, what s has there
-module _ (s t : List ℕ) (long : length t ≡ length s + 4) (same : (p : ℕ) → 7 ≤ p → drop (p + 4) t ≡ drop p s) where
-  module _ (p : ℕ) (h : 7 ≤ p) where
-    tag-shifted : tagAt t (p + 4) ≡ tagAt s p
+-- the bytes t have past the rate, as far further on as a side's field takes, what s has
+module _ (s t : List ℕ) (long : length t ≡ length s + side-takes) (same : (p : ℕ) → side-place ≤ p → drop (p + side-takes) t ≡ drop p s) where
+  module _ (p : ℕ) (h : side-place ≤ p) where
+    tag-shifted : tagAt t (p + side-takes) ≡ tagAt s p
     unfolding tagAt
     tag-shifted =
-        ap (λ (n : ℕ). getD t n 0) (sym (add-zero (p + 4))) ∙ sym (getD-drop (p + 4) t 0 0)
+        ap (λ (n : ℕ). getD t n 0) (sym (add-zero (p + side-takes))) ∙ sym (getD-drop (p + side-takes) t 0 0)
         ∙ ap (λ (l : List ℕ). getD l 0 0) (same p h) ∙ getD-drop p s 0 0 ∙ ap (λ (n : ℕ). getD s n 0) (add-zero p)
 
-    length-shifted : lengthAt t (p + 4) ≡ lengthAt s p
+    length-shifted : lengthAt t (p + side-takes) ≡ lengthAt s p
     unfolding lengthAt
     length-shifted =
-        let e : p + 4 + 1 ≡ p + 1 + 4 = omega arith in
-        ap (λ (l : List ℕ). numberOf 256 (take 2 l)) (ap (λ (n : ℕ). drop n t) e ∙ same (p + 1) (omega arith))
+        let e : p + side-takes + tagSize ≡ p + tagSize + side-takes = omega arith in
+        ap (λ (l : List ℕ). numberOf 256 (take lengthSize l)) (ap (λ (n : ℕ). drop n t) e ∙ same (p + tagSize) (omega arith))
 
-    body-shifted : bodyAt t (p + 4) ≡ bodyAt s p
+    body-shifted : bodyAt t (p + side-takes) ≡ bodyAt s p
     unfolding bodyAt
     body-shifted =
-        let e : p + 4 + headSize ≡ p + headSize + 4 = omega arith in
+        let e : p + side-takes + headSize ≡ p + headSize + side-takes = omega arith in
         ap₂ take length-shifted (ap (λ (n : ℕ). drop n t) e ∙ same (p + headSize) (omega arith))
 
-    next-shifted : nextAt t (p + 4) ≡ nextAt s p + 4
+    next-shifted : nextAt t (p + side-takes) ≡ nextAt s p + side-takes
     unfolding nextAt
     next-shifted = omega (arith, length-shifted)
 
-    heads-shifted : (tags : List ℕ) → headTests t tags (p + 4) ≡ map further (headTests s tags p)
+    heads-shifted : (tags : List ℕ) → headTests t tags (p + side-takes) ≡ map further (headTests s tags p)
     heads-shifted tags =
-        ap₂ (λ (b : Bool) (x : ℕ). test b 10 (p + 4) ∷ test (not (member x tags)) 11 (p + 4) ∷ [])
-        (ltb-same (length s) (p + headSize) (length t) (p + 4 + headSize) (λ z. omega arith) (λ z. omega arith)) tag-shifted
+        ap₂ (λ (b : Bool) (x : ℕ). test b 10 (p + side-takes) ∷ test (not (member x tags)) 11 (p + side-takes) ∷ [])
+        (ltb-same (length s) (p + headSize) (length t) (p + side-takes + headSize) (λ z. omega arith) (λ z. omega arith)) tag-shifted
 
-    lengths-shifted : (n : Option ℕ) → lengthTests t n (p + 4) ≡ map further (lengthTests s n p)
+    lengths-shifted : (n : Option ℕ) → lengthTests t n (p + side-takes) ≡ map further (lengthTests s n p)
     lengths-shifted none = refl
-    lengths-shifted (some j) = ap (λ (x : ℕ). test (not (eqb x j)) 12 (p + 4) ∷ []) length-shifted
+    lengths-shifted (some j) = ap (λ (x : ℕ). test (not (eqb x j)) 12 (p + side-takes) ∷ []) length-shifted
 
-    bodies-shifted : bodyTests t (p + 4) ≡ map further (bodyTests s p)
+    bodies-shifted : bodyTests t (p + side-takes) ≡ map further (bodyTests s p)
     bodies-shifted =
-        ap (λ (b : Bool). test b 10 (p + 4) ∷ [])
-        (ltb-same (length s) (nextAt s p) (length t) (nextAt t (p + 4)) (λ z. omega (arith, next-shifted)) (λ z. omega (arith, next-shifted)))
+        ap (λ (b : Bool). test b 10 (p + side-takes) ∷ [])
+        (ltb-same (length s) (nextAt s p) (length t) (nextAt t (p + side-takes)) (λ z. omega (arith, next-shifted)) (λ z. omega (arith, next-shifted)))
 
-    fields-shifted : (tags : List ℕ) (n : Option ℕ) → fieldTests t tags n (p + 4) ≡ map further (fieldTests s tags n p)
+    fields-shifted : (tags : List ℕ) (n : Option ℕ) → fieldTests t tags n (p + side-takes) ≡ map further (fieldTests s tags n p)
     fields-shifted tags n =
         both-shifted (headTests s tags p) (lengthTests s n p ++ bodyTests s p) (heads-shifted tags)
         (both-shifted (lengthTests s n p) (bodyTests s p) (lengths-shifted n) bodies-shifted)
 
     -- with a test of the contents
     contents-shifted : (tags : List ℕ) (n : Option ℕ) (a b : Bool) (x : ℕ) → a ≡ b
-        → fieldTests t tags n (p + 4) ++ (test a x (p + 4) ∷ []) ≡ map further (fieldTests s tags n p ++ (test b x p ∷ []))
+        → fieldTests t tags n (p + side-takes) ++ (test a x (p + side-takes) ∷ []) ≡ map further (fieldTests s tags n p ++ (test b x p ∷ []))
     contents-shifted tags n a b x e =
-        both-shifted (fieldTests s tags n p) (test b x p ∷ []) (fields-shifted tags n) (ap (λ (c : Bool). test c x (p + 4) ∷ []) e)
+        both-shifted (fieldTests s tags n p) (test b x p ∷ []) (fields-shifted tags n) (ap (λ (c : Bool). test c x (p + side-takes) ∷ []) e)
 
     -- the body of coded numbers, where the reading of it is the same
-    coded-shifted : (j k : List ℕ → Option (List ℕ)) (x : ℕ) → j ≡ k → contentsTests t j x (p + 4) ≡ map further (contentsTests s k x p)
+    coded-shifted : (j k : List ℕ → Option (List ℕ)) (x : ℕ) → j ≡ k → contentsTests t j x (p + side-takes) ≡ map further (contentsTests s k x p)
     coded-shifted j k x e =
         both-shifted (bodyTests s p) (test (missing (k (bodyAt s p))) x p ∷ []) bodies-shifted
-        (ap (λ (o : Option (List ℕ)). test (missing o) x (p + 4) ∷ []) (ap₂ (λ (f : List ℕ → Option (List ℕ)) (b : List ℕ). f b) e body-shifted))
+        (ap (λ (o : Option (List ℕ)). test (missing o) x (p + side-takes) ∷ []) (ap₂ (λ (f : List ℕ → Option (List ℕ)) (b : List ℕ). f b) e body-shifted))
 
   -- the fields from the count's on
-  module _ (k : ℕ → List ℕ → Option (List ℕ)) (m n : ℕ) (c : countAt s ≡ 7) (at : countAt t ≡ countAt s + 4) where
-    next-late : (p : ℕ) → 7 ≤ p → 7 ≤ nextAt s p
+  module _ (k : ℕ → List ℕ → Option (List ℕ)) (m n : ℕ) (c : countAt s ≡ side-place) (at : countAt t ≡ countAt s + side-takes) where
+    next-late : (p : ℕ) → side-place ≤ p → side-place ≤ nextAt s p
     unfolding nextAt
     next-late p h = omega arith
 
-    at-positions : positionsAt t ≡ positionsAt s + 4
+    at-positions : positionsAt t ≡ positionsAt s + side-takes
     at-positions = ap (nextAt t) at ∙ next-shifted (countAt s) (omega arith)
 
-    at-ratios : ratiosAt t ≡ ratiosAt s + 4
+    at-ratios : ratiosAt t ≡ ratiosAt s + side-takes
     at-ratios = ap (nextAt t) at-positions ∙ next-shifted (positionsAt s) (next-late (countAt s) (omega arith))
 
-    late-ratios : 7 ≤ ratiosAt s
+    late-ratios : side-place ≤ ratiosAt s
     late-ratios = next-late (positionsAt s) (next-late (countAt s) (omega arith))
 
-    at-end : endAt t ≡ endAt s + 4
+    at-end : endAt t ≡ endAt s + side-takes
     at-end = ap (nextAt t) at-ratios ∙ next-shifted (ratiosAt s) late-ratios
 
     count-same : countIn t ≡ countIn s
     count-same = ap (numberOf 256) (ap (bodyAt t) at ∙ body-shifted (countAt s) (omega arith))
 
-    late-positions : 7 ≤ positionsAt s
+    late-positions : side-place ≤ positionsAt s
     late-positions = next-late (countAt s) (omega arith)
 
     form-same : formIn t ≡ formIn s
@@ -448,13 +455,10 @@ module _ (s t : List ℕ) (long : length t ≡ length s + 4) (same : (p : ℕ) �
         ap₂ (λ (f : Form) (c : ℕ). test (ltb (pointsOf f) c) 15 (countAt t) ∷ []) form-same count-same
         ∙ ap (λ (p : ℕ). test (ltb (pointsOf (formIn s)) (countIn s)) 15 p ∷ []) at
 
-    abbrev good : List ℕ
-    good = positionsTag Old ∷ positionsTag Wide ∷ []
-
     positions-shifted : positionsTests t ≡ map further (positionsTests s)
     positions-shifted =
         let read = readPositions (tableOf (formIn s)) (countIn s) in
-        both-shifted (headTests s good (positionsAt s)) (manyTests s ++ contentsTests s read 17 (positionsAt s)) (ap (headTests t good) at-positions ∙ heads-shifted (positionsAt s) late-positions good)
+        both-shifted (headTests s positionsTags (positionsAt s)) (manyTests s ++ contentsTests s read 17 (positionsAt s)) (ap (headTests t positionsTags) at-positions ∙ heads-shifted (positionsAt s) late-positions positionsTags)
         (both-shifted (manyTests s) (contentsTests s read 17 (positionsAt s)) many-shifted
         (ap (contentsTests t (readPositions (tableOf (formIn t)) (countIn t)) 17) at-positions
         ∙ coded-shifted (positionsAt s) late-positions (readPositions (tableOf (formIn t)) (countIn t)) read 17 reading-same))
@@ -479,76 +483,76 @@ answer-shifted d f g h a b e ts vs = go (eqb (f .number) 0) refl
     go false q = rw (h .1 (eqb-false (f .number) 0 q), q, q)
 
 -- a side between the rate and what is no side's field
-module _ (k : ℕ → List ℕ → Option (List ℕ)) (e r d : ℕ) (rest ts vs : List ℕ) (listed : isRate r ≡ true) (o : Expects e r) (low : 1 ≤ d) (high : d ≤ 26) where
+module _ (k : ℕ → List ℕ → Option (List ℕ)) (e r d : ℕ) (rest ts vs : List ℕ) (listed : isRate r ≡ true) (o : Expects e r) (low : 1 ≤ d) (high : d ≤ maxSide) where
   abbrev with-side : List ℕ
   with-side = rateBytes r ++ (sideBytes d ++ rest)
 
   small : d < 256
   small = omega arith
 
-  length-side : length (sideBytes d) ≡ 4
+  length-side : length (sideBytes d) ≡ side-takes
   length-side = length-field (fieldOf sideTag (bytesOf sideSize d)) ∙ ap (λ (n : ℕ). headSize + n) (length-digits 256 sideSize d)
 
-  past-both : (n : ℕ) → drop (11 + n) with-side ≡ drop n rest
+  past-both : (n : ℕ) → drop (side-place + side-takes + n) with-side ≡ drop n rest
   past-both n =
-      let p : 11 + n ≡ 7 + (4 + n) = omega arith in
-      ap (λ (m : ℕ). drop m with-side) p ∙ rest-from k e r (sideBytes d ++ rest) ts vs (4 + n)
+      let p : side-place + side-takes + n ≡ side-place + (side-takes + n) = omega arith in
+      ap (λ (m : ℕ). drop m with-side) p ∙ rest-from k e r (sideBytes d ++ rest) ts vs (side-takes + n)
       ∙ ap (λ (m : ℕ). drop (m + n) (sideBytes d ++ rest)) (sym length-side) ∙ drop-append-add (sideBytes d) rest n
 
   from-here : firstOf (tests k e r (sideBytes d ++ rest) ts vs) ≡ firstOf (from-count k e r (sideBytes d ++ rest) ts vs)
   from-here = past-side k e r d rest ts vs listed o small (side-in d low high)
 
   -- a tag that is not the count's
-  eleven-past : 3 ≤ length rest → (tagAt rest 0 ≡ 2 → ⊥) → readWith k e with-side ts vs ≡ refusedBy 11 11 ts vs
+  eleven-past : headSize ≤ length rest → (tagAt rest 0 ≡ countTag → ⊥) → readWith k e with-side ts vs ≡ refusedBy 11 (side-place + side-takes) ts vs
   unfolding tagAt
-  eleven-past h two =
-      let at : countAt with-side ≡ 11 = count-eleven k e r d rest ts vs listed o small in
+  eleven-past h count =
+      let at : countAt with-side ≡ side-place + side-takes = count-past k e r d rest ts vs listed o small in
       let tag : tagAt with-side (countAt with-side) ≡ tagAt rest 0 =
-      ap (λ (p : ℕ). getD with-side p 0) at ∙ sym (getD-drop 11 with-side 0 0) ∙ ap (λ (l : List ℕ). getD l 0 0) (past-both 0) in
+      ap (λ (p : ℕ). getD with-side p 0) at ∙ sym (getD-drop (side-place + side-takes) with-side 0 0) ∙ ap (λ (l : List ℕ). getD l 0 0) (past-both 0) in
       let long = length-all k e r (sideBytes d ++ rest) ts vs in
-      refuses k e r (sideBytes d ++ rest) ts vs 11 11 (λ z. omega arith)
+      refuses k e r (sideBytes d ++ rest) ts vs 11 (side-place + side-takes) (λ z. omega arith)
       (from-here
       ∙ sym
       (tag-other with-side (countTag ∷ []) (some countSize) (countAt with-side) _ (omega (arith, at, long, length-append (sideBytes d) rest, length-side))
-      (not-one _ _ (λ z. two (sym tag ∙ z))))
+      (not-one _ _ (λ z. count (sym tag ∙ z))))
       ∙ ap (refusal 11) at)
 
   -- fewer bytes than a head
-  ten-past : length rest < 3 → readWith k e with-side ts vs ≡ refusedBy 10 11 ts vs
+  ten-past : length rest < headSize → readWith k e with-side ts vs ≡ refusedBy 10 (side-place + side-takes) ts vs
   ten-past h =
-      let at : countAt with-side ≡ 11 = count-eleven k e r d rest ts vs listed o small in
+      let at : countAt with-side ≡ side-place + side-takes = count-past k e r d rest ts vs listed o small in
       let long = length-all k e r (sideBytes d ++ rest) ts vs in
-      refuses k e r (sideBytes d ++ rest) ts vs 10 11 (λ z. omega arith)
+      refuses k e r (sideBytes d ++ rest) ts vs 10 (side-place + side-takes) (λ z. omega arith)
       (from-here
       ∙ sym (head-short with-side (countTag ∷ []) (some countSize) (countAt with-side) _ (omega (arith, at, long, length-append (sideBytes d) rest, length-side)))
       ∙ ap (refusal 10) at)
 
-  module _ (other : tagAt rest 0 ≡ 6 → ⊥) where
+  module _ (other : tagAt rest 0 ≡ sideTag → ⊥) where
     abbrev without : List ℕ
     without = rateBytes r ++ rest
 
     absent : hasSide without ≡ false
     absent = ne-eqb _ _ (λ z. other (sym (tag-rest k e r rest ts vs) ∙ z))
 
-    count-seven : countAt without ≡ 7
-    count-seven = absent-count without absent ∙ at-side k e r rest ts vs
+    count-here : countAt without ≡ side-place
+    count-here = absent-count without absent ∙ at-side k e r rest ts vs
 
-    longer : length with-side ≡ length without + 4
+    longer : length with-side ≡ length without + side-takes
     longer = omega (arith, length-all k e r (sideBytes d ++ rest) ts vs, length-all k e r rest ts vs, length-append (sideBytes d) rest, length-side)
 
-    same-past : (p : ℕ) → 7 ≤ p → drop (p + 4) with-side ≡ drop p without
+    same-past : (p : ℕ) → side-place ≤ p → drop (p + side-takes) with-side ≡ drop p without
     same-past p h =
-        let a : p + 4 ≡ 11 + (p - 7) = omega arith in
-        let b : p ≡ 7 + (p - 7) = omega arith in
-        ap (λ (n : ℕ). drop n with-side) a ∙ past-both (p - 7) ∙ sym (ap (λ (n : ℕ). drop n without) b ∙ rest-from k e r rest ts vs (p - 7))
+        let a : p + side-takes ≡ side-place + side-takes + (p - side-place) = omega arith in
+        let b : p ≡ side-place + (p - side-place) = omega arith in
+        ap (λ (n : ℕ). drop n with-side) a ∙ past-both (p - side-place) ∙ sym (ap (λ (n : ℕ). drop n without) b ∙ rest-from k e r rest ts vs (p - side-place))
 
-    count-at : countAt with-side ≡ countAt without + 4
-    count-at = count-eleven k e r d rest ts vs listed o small ∙ omega (arith, count-seven)
+    count-at : countAt with-side ≡ countAt without + side-takes
+    count-at = count-past k e r d rest ts vs listed o small ∙ omega (arith, count-here)
 
     further-tests : Further (firstOf (tests k e r rest ts vs)) (firstOf (tests k e r (sideBytes d ++ rest) ts vs))
     further-tests =
         let a = past-absent k e r rest ts vs listed o absent in
-        let b = from-here ∙ ap firstOf (all-shifted without with-side longer same-past k (length ts) (length vs) count-seven count-at) in
+        let b = from-here ∙ ap firstOf (all-shifted without with-side longer same-past k (length ts) (length vs) count-here count-at) in
         rw (a, b) (first-further (from-count k e r rest ts vs))
 
     record-shifted : recordAnswer k with-side ts vs ≡ shifted d (recordAnswer k without ts vs)
@@ -556,11 +560,11 @@ module _ (k : ℕ → List ℕ → Option (List ℕ)) (e r d : ℕ) (rest ts vs 
         let here = rate-small k e r rest ts vs listed o in
         let a : rateIn with-side ≡ rateIn without = rate-is k e r (sideBytes d ++ rest) ts vs here ∙ sym (rate-is k e r rest ts vs here) in
         let b : sideIn with-side ≡ d = present-side with-side (present k e r d rest ts vs listed o small) ∙ stored-is k e r d rest ts vs listed o small in
-        let c = count-same without with-side longer same-past k (length ts) (length vs) count-seven count-at in
-        let u = at-end without with-side longer same-past k (length ts) (length vs) count-seven count-at in
-        let p = positions-same without with-side longer same-past k (length ts) (length vs) count-seven count-at in
-        let q = ratios-same without with-side longer same-past k (length ts) (length vs) count-seven count-at in
-        let f = form-same without with-side longer same-past k (length ts) (length vs) count-seven count-at in
+        let c = count-same without with-side longer same-past k (length ts) (length vs) count-here count-at in
+        let u = at-end without with-side longer same-past k (length ts) (length vs) count-here count-at in
+        let p = positions-same without with-side longer same-past k (length ts) (length vs) count-here count-at in
+        let q = ratios-same without with-side longer same-past k (length ts) (length vs) count-here count-at in
+        let f = form-same without with-side longer same-past k (length ts) (length vs) count-here count-at in
         cc
 
     shifts : readWith k e with-side ts vs ≡ shifted d (readWith k e without ts vs)
@@ -573,8 +577,8 @@ side-shifts k e r d rest ts vs listed o low high other = shifts k e r d rest ts 
 pub count-refused : CountRefused
 unfolding tagAt
 count-refused k e r l rest ts vs listed o small =
-    let count = (2 ∷ bytesOf 2 l) ++ rest in
-    let other : (tagAt count 0 ≡ 6 → ⊥) = λ z. omega arith in (
+    let count = (countTag ∷ bytesOf lengthSize l) ++ rest in
+    let other : (tagAt count 0 ≡ sideTag → ⊥) = λ z. omega arith in (
       λ d.
           let h = twelve-count k e r count ts vs listed o l rest refl small d in
           (h, λ n low high. side-shifts k e r n count ts vs listed o low high other ∙ ap (shifted n) h),
@@ -587,5 +591,5 @@ pub head-cut : HeadCut
 head-cut k e r rest ts vs listed o h = (ten k e r rest ts vs listed o h, λ d low high. ten-past k e r d rest ts vs listed o low high h)
 
 pub tag-refused : TagRefused
-tag-refused k e r rest ts vs listed o long two =
-    (λ six. eleven k e r rest ts vs listed o long two six, λ d low high. eleven-past k e r d rest ts vs listed o low high long two)
+tag-refused k e r rest ts vs listed o long other =
+    (λ side. eleven k e r rest ts vs listed o long other side, λ d low high. eleven-past k e r d rest ts vs listed o low high long other)

@@ -26,24 +26,24 @@ use Rattle.position_format.specs.Positions.{validPositions, readPositions}
 use Rattle.position_format.specs.Tables.{tableOf, pointsOf}
 use Rattle.position_format.proofs.Positions.Sizes.{points-few}
 use Rattle.position_format.proofs.Tables.WideRows.{wide-valid}
-use Rattle.record_format.specs.Fields.{Field, fieldOf, headSize, fieldBytes, laid, tagAt, lengthAt, bodyAt, nextAt, fieldTests}
-use Rattle.record_format.specs.Runs.{Run, run, positionsTag, formOf, ratiosTag, frontFields, recordOf}
+use Rattle.record_format.specs.Fields.{Field, fieldOf, lengthSize, headSize, fieldBytes, laid, tagAt, lengthAt, bodyAt, nextAt, fieldTests}
+use Rattle.record_format.specs.Runs.{Run, run, positionsTag, positionsTags, formOf, ratiosTag, countSize, positionsField, frontFields, recordOf}
 use Rattle.record_format.specs.Writing.{runTests}
 use Rattle.record_format.specs.Reading.{recordAnswer, readTests, readWith, rateAt, countAt, positionsAt, ratiosAt, endAt, countIn, formIn, positionsIn, ratiosIn, missing, listOf, lacksRoom, positionsTests, ratiosTests}
 use Rattle.record_format.specs.SideClaims.{Expects, refusedBy}
 use Rattle.record_format.specs.Claims.{countPlace, positionsPlace}
-use Rattle.record_format.specs.WideClaims.{FormNumbers, RecordFields, wideTests, RefusesWide, AcceptsWide, FormsApart, frontBytes, CountFirst, TagFirst, BodyByForm, fieldOfPoints, RatiosByReading}
+use Rattle.record_format.specs.WideClaims.{FormNumbers, RecordFields, wideTests, RefusesWide, AcceptsWide, FormsApart, frontBytes, CountFirst, TagFirst, BodyByForm, RatiosByReading}
 use Rattle.record_format.proofs.Fields.{FieldStands, StandAll, length-field, stands, laid-stand, pastAll, stand-past, small-append, stand-append, past-append, head-stands}
-use Rattle.record_format.proofs.Reading.Fronts.{front-small, count-at, positions-at, front-past, rate-is, side-is, count-is, front-tests, input, front-all, front-length, input-length, tag-there, form-is, positions-are, positions-pass}
+use Rattle.record_format.proofs.Reading.Fronts.{count-at, positions-at, front-past, rate-is, side-is, count-is, front-tests, input, front-all, front-length, input-length, tag-there, form-is, positions-are, positions-pass}
 use Rattle.record_format.proofs.Reading.{refusal, body-short, field-good, positions-few, positions-many, answer-refused, answer-good}
-use Rattle.record_format.proofs.Runs.{form-of, tag-good, coded-size, form-bodies}
+use Rattle.record_format.proofs.Runs.{form-of, tag-good, front-small, coded-size, form-bodies}
 use Rattle.record_format.proofs.Writing.{fitting-accepted}
 use Rattle.record_format.proofs.Claims.{no-other, prefix-free}
 
 -- ---- the forms' numbers
 
 pub form-numbers : FormNumbers
-form-numbers = (refl, λ t d. rw (ne-eqb t 5 d), refl, refl)
+form-numbers = (refl, λ t d. rw (ne-eqb t (positionsTag Wide) d), refl, refl)
 
 -- ---- writing
 
@@ -75,7 +75,7 @@ forms-apart r q a b d = prefix-free r q a b (λ e. d (ap (λ (x : Run). x .form)
 
 -- ---- reading past the front, which stands at the front of the bytes s
 
-module _ (k : ℕ → List ℕ → Option (List ℕ)) (e r d n : ℕ) (s ts vs : List ℕ) (listed : isRate r ≡ true) (o : Expects e r) (sided : d ≤ 26) (counts : n < 256 ^ 2)
+module _ (k : ℕ → List ℕ → Option (List ℕ)) (e r d n : ℕ) (s ts vs : List ℕ) (listed : isRate r ≡ true) (o : Expects e r) (sided : d ≤ maxSide) (counts : n < 256 ^ countSize)
     (all : StandAll s rateAt (frontFields r d n)) where
   abbrev tests : List Test
   tests = readTests k e s (length ts) (length vs)
@@ -96,7 +96,7 @@ module _ (k : ℕ → List ℕ → Option (List ℕ)) (e r d n : ℕ) (s ts vs :
   past-rate : firstOf tests ≡ firstOf (test (ltb maxPoints n) 15 (countAt s) ∷ test (lacksRoom (length ts) (length vs) n) 16 (countAt s) ∷ (positionsTests s ++ ratiosTests k s))
   past-rate = front-tests s r d n listed sided counts all k e (length ts) (length vs) ∙ first-skip _ _ (no-other e r o)
 
-  fifteen : 4096 < n → readWith k e s ts vs ≡ refusedBy 15 (countPlace d) ts vs
+  fifteen : maxPoints < n → readWith k e s ts vs ≡ refusedBy 15 (countPlace d) ts vs
   fifteen h = refuses 15 (countPlace d) (λ z. omega arith) (past-rate ∙ first-here _ _ (lt-ltb _ _ h) ∙ ap (refusal 15) at-count)
 
   lacking : (length ts < n) ⊎ (length vs < n) → lacksRoom (length ts) (length vs) n ≡ true
@@ -107,7 +107,7 @@ module _ (k : ℕ → List ℕ → Option (List ℕ)) (e r d n : ℕ) (s ts vs :
       go true = refl
       go false = lt-ltb (length vs) n h
 
-  module _ (few : n ≤ 4096) where
+  module _ (few : n ≤ maxPoints) where
     sixteen : (length ts < n) ⊎ (length vs < n) → readWith k e s ts vs ≡ refusedBy 16 (countPlace d) ts vs
     sixteen h =
         refuses 16 (countPlace d) (λ z. omega arith) (past-rate ∙ first-skip _ _ (le-ltb _ _ few) ∙ first-here _ _ (lacking h) ∙ ap (refusal 16) at-count)
@@ -122,26 +122,23 @@ module _ (k : ℕ → List ℕ → Option (List ℕ)) (e r d n : ℕ) (s ts vs :
 
       -- or it is whole, with a tag
       module _ (head : positionsAt s + headSize ≤ length s) (tag : ℕ) (tagged : tagAt s (positionsAt s) ≡ tag) where
-        abbrev good : List ℕ
-        good = positionsTag Old ∷ positionsTag Wide ∷ []
-
-        eleven : (tag ≡ 3 → ⊥) → (tag ≡ 5 → ⊥) → readWith k e s ts vs ≡ refusedBy 11 (positionsPlace d) ts vs
+        eleven : (tag ≡ positionsTag Old → ⊥) → (tag ≡ positionsTag Wide → ⊥) → readWith k e s ts vs ≡ refusedBy 11 (positionsPlace d) ts vs
         unfolding member
-        eleven three five =
+        eleven old wide =
             refuses 11 (positionsPlace d) (λ z. omega arith)
             (past-room ∙ first-skip _ _ (le-ltb _ _ head)
-            ∙ first-here _ _ (ap (λ (t : ℕ). not (member t good)) tagged ∙ rw (ne-eqb tag 3 three, ne-eqb tag 5 five))
+            ∙ first-here _ _ (ap (λ (t : ℕ). not (member t positionsTags)) tagged ∙ rw (ne-eqb tag (positionsTag Old) old, ne-eqb tag (positionsTag Wide) wide))
             ∙ ap (refusal 11) at-positions)
 
-        fifteen-wide : tag ≡ 5 → 3500 < n → readWith k e s ts vs ≡ refusedBy 15 (countPlace d) ts vs
+        fifteen-wide : tag ≡ positionsTag Wide → pointsOf Wide < n → readWith k e s ts vs ≡ refusedBy 15 (countPlace d) ts vs
         unfolding member
-        fifteen-wide five many =
-            let is = tagged ∙ five in
+        fifteen-wide wide many =
+            let is = tagged ∙ wide in
             refuses 15 (countPlace d) (λ z. omega arith)
             (past-room
             ∙ sym
-            (positions-many s (ratiosTests k s) head (ap (λ (t : ℕ). member t good) is)
-            (ap (λ (t : ℕ). ltb (pointsOf (formOf t)) (countIn s)) is ∙ ap (ltb 3500) counted ∙ lt-ltb 3500 n many))
+            (positions-many s (ratiosTests k s) head (ap (λ (t : ℕ). member t positionsTags) is)
+            (ap (λ (t : ℕ). ltb (pointsOf (formOf t)) (countIn s)) is ∙ ap (ltb (pointsOf Wide)) counted ∙ lt-ltb (pointsOf Wide) n many))
             ∙ ap (refusal 15) at-count)
 
         -- that of a form, where there are not too many points for it
@@ -149,26 +146,26 @@ module _ (k : ℕ → List ℕ → Option (List ℕ)) (e r d n : ℕ) (s ts vs :
           formed : formIn s ≡ f
           formed = ap formOf (tagged ∙ named) ∙ form-of f
 
-          is-good : member (tagAt s (positionsAt s)) good ≡ true
-          is-good = ap (λ (t : ℕ). member t good) (tagged ∙ named) ∙ tag-good f
+          is-good : member (tagAt s (positionsAt s)) positionsTags ≡ true
+          is-good = ap (λ (t : ℕ). member t positionsTags) (tagged ∙ named) ∙ tag-good f
 
-          past-many : firstOf tests ≡ firstOf (fieldTests s good none (positionsAt s) ++ (test (missing (positionsIn s)) 17 (positionsAt s) ∷ ratiosTests k s))
+          past-many : firstOf tests ≡ firstOf (fieldTests s positionsTags none (positionsAt s) ++ (test (missing (positionsIn s)) 17 (positionsAt s) ∷ ratiosTests k s))
           past-many = past-room ∙ positions-few s (ratiosTests k s) (ap₂ (λ (x : Form) (c : ℕ). ltb (pointsOf x) c) formed counted ∙ le-ltb _ _ points)
 
           ten-body : length s < nextAt s (positionsAt s) → readWith k e s ts vs ≡ refusedBy 10 (positionsPlace d) ts vs
           ten-body h =
-              refuses 10 (positionsPlace d) (λ z. omega arith) (past-many ∙ sym (body-short s good none (positionsAt s) _ head is-good tt h) ∙ ap (refusal 10) at-positions)
+              refuses 10 (positionsPlace d) (λ z. omega arith) (past-many ∙ sym (body-short s positionsTags none (positionsAt s) _ head is-good tt h) ∙ ap (refusal 10) at-positions)
 
           seventeen : nextAt s (positionsAt s) ≤ length s → readPositions (tableOf f) n (bodyAt s (positionsAt s)) ≡ none → readWith k e s ts vs ≡ refusedBy 17 (positionsPlace d) ts vs
           seventeen h unread =
               refuses 17 (positionsPlace d) (λ z. omega arith)
               (past-many
-              ∙ field-good s good none (positionsAt s) _ head is-good tt h
+              ∙ field-good s positionsTags none (positionsAt s) _ head is-good tt h
               ∙ first-here _ _ (ap₂ (λ (x : Form) (c : ℕ). missing (readPositions (tableOf x) c (bodyAt s (positionsAt s)))) formed counted ∙ ap missing unread)
               ∙ ap (refusal 17) at-positions)
 
       -- positions that are read: the ratios' field is left
-      module _ (f : Form) (ps : List ℕ) (many : length ps ≡ n) (points : length ps ≤ pointsOf f) (valid : validPositions (tableOf f) ps ≡ true) (there : FieldStands s (positionsAt s) (fieldOfPoints f ps)) where
+      module _ (f : Form) (ps : List ℕ) (many : length ps ≡ n) (points : length ps ≤ pointsOf f) (valid : validPositions (tableOf f) ps ≡ true) (there : FieldStands s (positionsAt s) (positionsField f ps)) where
         as-counted : countIn s ≡ length ps
         as-counted = counted ∙ sym many
 
@@ -179,16 +176,16 @@ module _ (k : ℕ → List ℕ → Option (List ℕ)) (e r d n : ℕ) (s ts vs :
         ten-ratios h = refuses 10 (ratiosAt s) (λ z. omega arith) (past-positions ∙ first-here _ _ (lt-ltb _ _ h))
 
         module _ (head : ratiosAt s + headSize ≤ length s) (tag : ℕ) (tagged : tagAt s (ratiosAt s) ≡ tag) where
-          eleven-ratios : (tag ≡ 4 → ⊥) → readWith k e s ts vs ≡ refusedBy 11 (ratiosAt s) ts vs
+          eleven-ratios : (tag ≡ ratiosTag → ⊥) → readWith k e s ts vs ≡ refusedBy 11 (ratiosAt s) ts vs
           unfolding member
-          eleven-ratios four =
+          eleven-ratios other =
               refuses 11 (ratiosAt s) (λ z. omega arith)
-              (past-positions ∙ first-skip _ _ (le-ltb _ _ head) ∙ first-here _ _ (ap (λ (t : ℕ). not (member t (ratiosTag ∷ []))) tagged ∙ rw (ne-eqb tag 4 four)))
+              (past-positions ∙ first-skip _ _ (le-ltb _ _ head) ∙ first-here _ _ (ap (λ (t : ℕ). not (member t (ratiosTag ∷ []))) tagged ∙ rw (ne-eqb tag ratiosTag other)))
 
-          module _ (four : tag ≡ 4) where
+          module _ (named : tag ≡ ratiosTag) where
             ratios-good : member (tagAt s (ratiosAt s)) (ratiosTag ∷ []) ≡ true
             unfolding member
-            ratios-good = ap (λ (t : ℕ). member t (ratiosTag ∷ [])) (tagged ∙ four)
+            ratios-good = ap (λ (t : ℕ). member t (ratiosTag ∷ [])) (tagged ∙ named)
 
             ten-ratios-body : length s < nextAt s (ratiosAt s) → readWith k e s ts vs ≡ refusedBy 10 (ratiosAt s) ts vs
             ten-ratios-body h =
@@ -228,29 +225,29 @@ count-first k e r d n rest ts vs listed o sided counts =
 
 pub tag-first : TagFirst
 tag-first k e r d n rest ts vs listed o sided few first second =
-    let counts : n < 256 ^ 2 = omega arith in
+    let counts : n < 256 ^ countSize = omega arith in
     let s = input r d n rest listed sided counts in
     let all = front-all r d n rest listed sided counts in
     let size = input-length r d n rest listed sided counts in
     let tag = tag-there r d n rest listed sided counts in (
       λ h. ten-head k e r d n s ts vs listed o sided counts all few first second (omega arith),
-      λ long three five. eleven k e r d n s ts vs listed o sided counts all few first second (omega arith) (tagAt rest 0) tag three five,
-      λ long five more. fifteen-wide k e r d n s ts vs listed o sided counts all few first second (omega arith) (tagAt rest 0) tag five more,
+      λ long old wide. eleven k e r d n s ts vs listed o sided counts all few first second (omega arith) (tagAt rest 0) tag old wide,
+      λ long wide more. fifteen-wide k e r d n s ts vs listed o sided counts all few first second (omega arith) (tagAt rest 0) tag wide more,
     )
 
 pub body-by-form : BodyByForm
 unfolding nextAt
 body-by-form k e r d n f rest ts vs listed o sided points first second =
-    let few : n ≤ 4096 = omega (arith, points-few f) in
-    let counts : n < 256 ^ 2 = omega arith in (
+    let few : n ≤ maxPoints = omega (arith, points-few f) in
+    let counts : n < 256 ^ countSize = omega arith in (
       λ l small cut.
-          let x = (positionsTag f ∷ bytesOf 2 l) ++ rest in
+          let x = (positionsTag f ∷ bytesOf lengthSize l) ++ rest in
           let s = input r d n x listed sided counts in
           let all = front-all r d n x listed sided counts in
           let at = front-length r d n x listed sided counts in
           let h = subst (λ (p : ℕ). (tagAt s p ≡ positionsTag f) × (lengthAt s p ≡ l)) at (head-stands (frontBytes r d n) (positionsTag f) l rest small) in
           let size = input-length r d n x listed sided counts in
-          let long : length x ≡ 3 + length rest = length-append (positionsTag f ∷ bytesOf 2 l) rest ∙ omega (arith, length-digits 256 2 l) in
+          let long : length x ≡ headSize + length rest = length-append (positionsTag f ∷ bytesOf lengthSize l) rest ∙ omega (arith, length-digits 256 lengthSize l) in
           ten-body k e r d n s ts vs listed o sided counts all few first second (omega arith) (positionsTag f) (h .0) f refl points (omega (arith, h .1)),
       λ body small unread.
           let x = fieldBytes (fieldOf (positionsTag f) body) ++ rest in
@@ -263,40 +260,40 @@ body-by-form k e r d n f rest ts vs listed o sided points first second =
     )
 
 -- the front and positions in a form, and then any bytes
-module _ (r d : ℕ) (f : Form) (ps rest : List ℕ) (listed : isRate r ≡ true) (sided : d ≤ 26) (points : length ps ≤ pointsOf f) (valid : validPositions (tableOf f) ps ≡ true) where
+module _ (r d : ℕ) (f : Form) (ps rest : List ℕ) (listed : isRate r ≡ true) (sided : d ≤ maxSide) (points : length ps ≤ pointsOf f) (valid : validPositions (tableOf f) ps ≡ true) where
   abbrev front : List Field
   front = frontFields r d (length ps)
 
   abbrev before : List ℕ
-  before = laid (front ++ (fieldOfPoints f ps ∷ []))
+  before = laid (front ++ (positionsField f ps ∷ []))
 
   abbrev whole : List ℕ
   whole = before ++ rest
 
-  few-points : length ps ≤ 4096
+  few-points : length ps ≤ maxPoints
   few-points = omega (arith, points-few f)
 
-  counts-points : length ps < 256 ^ 2
+  counts-points : length ps < 256 ^ countSize
   counts-points = omega (arith, few-points)
 
-  stood : StandAll whole rateAt (front ++ (fieldOfPoints f ps ∷ []))
+  stood : StandAll whole rateAt (front ++ (positionsField f ps ∷ []))
   stood =
-      laid-stand [] (front ++ (fieldOfPoints f ps ∷ [])) rest
-      (small-append front (fieldOfPoints f ps ∷ []) (front-small r d (length ps)) (omega (arith, coded-size f ps valid points, form-bodies f .0), tt))
+      laid-stand [] (front ++ (positionsField f ps ∷ [])) rest
+      (small-append front (positionsField f ps ∷ []) (front-small r d (length ps)) (omega (arith, coded-size f ps valid points, form-bodies f .0), tt))
 
-  parts : StandAll whole rateAt front × StandAll whole (pastAll whole rateAt front) (fieldOfPoints f ps ∷ [])
-  parts = stand-append whole rateAt front (fieldOfPoints f ps ∷ []) stood
+  parts : StandAll whole rateAt front × StandAll whole (pastAll whole rateAt front) (positionsField f ps ∷ [])
+  parts = stand-append whole rateAt front (positionsField f ps ∷ []) stood
 
   past : pastAll whole rateAt front ≡ positionsAt whole
   past = front-past whole r d (length ps) listed sided counts-points (parts .0)
 
-  points-stand : FieldStands whole (positionsAt whole) (fieldOfPoints f ps)
-  points-stand = subst (λ (p : ℕ). FieldStands whole p (fieldOfPoints f ps)) past (parts .1 .0)
+  points-stand : FieldStands whole (positionsAt whole) (positionsField f ps)
+  points-stand = subst (λ (p : ℕ). FieldStands whole p (positionsField f ps)) past (parts .1 .0)
 
   -- the ratios' field begins where these end
   before-length : length before ≡ ratiosAt whole
   before-length =
-      omega (arith, stand-past whole rateAt (front ++ (fieldOfPoints f ps ∷ [])) stood) ∙ past-append whole rateAt front (fieldOfPoints f ps ∷ []) ∙ ap (nextAt whole) past
+      omega (arith, stand-past whole rateAt (front ++ (positionsField f ps ∷ [])) stood) ∙ past-append whole rateAt front (positionsField f ps ∷ []) ∙ ap (nextAt whole) past
 
   whole-length : length whole ≡ ratiosAt whole + length rest
   whole-length = length-append before rest ∙ ap (λ (m : ℕ). m + length rest) before-length
@@ -318,36 +315,36 @@ ratios-by-reading k e r d f ps rest ts vs listed o sided points valid first seco
           let size = whole-length r d f ps rest listed sided points valid in
           ten-ratios k e r d n s ts vs listed o sided counts (parts r d f ps rest listed sided points valid .0) few first second f ps refl points valid (points-stand r d f ps rest listed sided points valid) (omega arith)
           ∙ ap (λ (p : ℕ). refusedBy 10 p ts vs) (sym at),
-      λ long four.
+      λ long other.
           let s = b ++ rest in
           let at = before-length r d f ps rest listed sided points valid in
           let size = whole-length r d f ps rest listed sided points valid in
           eleven-ratios k e r d n s ts vs listed o sided counts (parts r d f ps rest listed sided points valid .0) few first second f ps refl points valid (points-stand r d f ps rest listed sided points valid)
-          (omega arith) (tagAt rest 0) (ratios-tag r d f ps rest listed sided points valid) four
+          (omega arith) (tagAt rest 0) (ratios-tag r d f ps rest listed sided points valid) other
           ∙ ap (λ (p : ℕ). refusedBy 11 p ts vs) (sym at),
       λ l small cut.
-          let x = (4 ∷ bytesOf 2 l) ++ rest in
+          let x = (ratiosTag ∷ bytesOf lengthSize l) ++ rest in
           let s = b ++ x in
           let at = before-length r d f ps x listed sided points valid in
           let size = whole-length r d f ps x listed sided points valid in
-          let h = subst (λ (p : ℕ). (tagAt s p ≡ 4) × (lengthAt s p ≡ l)) at (head-stands b 4 l rest small) in
-          let long : length x ≡ 3 + length rest = length-append (4 ∷ bytesOf 2 l) rest ∙ omega (arith, length-digits 256 2 l) in
+          let h = subst (λ (p : ℕ). (tagAt s p ≡ ratiosTag) × (lengthAt s p ≡ l)) at (head-stands b ratiosTag l rest small) in
+          let long : length x ≡ headSize + length rest = length-append (ratiosTag ∷ bytesOf lengthSize l) rest ∙ omega (arith, length-digits 256 lengthSize l) in
           ten-ratios-body k e r d n s ts vs listed o sided counts (parts r d f ps x listed sided points valid .0) few first second f ps refl points valid (points-stand r d f ps x listed sided points valid)
-          (omega arith) 4 (h .0) refl (omega (arith, h .1))
+          (omega arith) ratiosTag (h .0) refl (omega (arith, h .1))
           ∙ ap (λ (p : ℕ). refusedBy 10 p ts vs) (sym at),
       λ body small.
-          let x = fieldBytes (fieldOf 4 body) ++ rest in
+          let x = fieldBytes (fieldOf ratiosTag body) ++ rest in
           let s = b ++ x in
           let at = before-length r d f ps x listed sided points valid in
-          let h = subst (λ (p : ℕ). FieldStands s p (fieldOf 4 body)) at (stands b (fieldOf 4 body) rest (omega arith)) in
+          let h = subst (λ (p : ℕ). FieldStands s p (fieldOf ratiosTag body)) at (stands b (fieldOf ratiosTag body) rest (omega arith)) in
           let p = parts r d f ps x listed sided points valid .0 in
           let q = points-stand r d f ps x listed sided points valid in (
             λ unread.
-                eighteen k e r d n s ts vs listed o sided counts p few first second f ps refl points valid q (h .head) 4 (h .tagged) refl (h .whole) (ap (k n) (h .within) ∙ unread)
+                eighteen k e r d n s ts vs listed o sided counts p few first second f ps refl points valid q (h .head) ratiosTag (h .tagged) refl (h .whole) (ap (k n) (h .within) ∙ unread)
                 ∙ ap (λ (y : ℕ). refusedBy 18 y ts vs) (sym at),
             λ qs read.
-                let used : endAt s ≡ length b + 3 + length body = h .next ∙ omega (arith, at, length-field (fieldOf 4 body)) in
-                found k e r d n s ts vs listed o sided counts p few first second f ps refl points valid q (h .head) 4 (h .tagged) refl (h .whole) qs (ap (k n) (h .within) ∙ read)
+                let used : endAt s ≡ length b + headSize + length body = h .next ∙ omega (arith, at, length-field (fieldOf ratiosTag body)) in
+                found k e r d n s ts vs listed o sided counts p few first second f ps refl points valid q (h .head) ratiosTag (h .tagged) refl (h .whole) qs (ap (k n) (h .within) ∙ read)
                 ∙ ap
                 (λ (u : ℕ).
                 record {

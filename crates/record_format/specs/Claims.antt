@@ -36,10 +36,10 @@ use Rattle.limits.specs.Sides.{maxSide}
 use Rattle.refusals.specs.Tests.{Test, test, firstOf, refused}
 use Rattle.position_format.specs.declared.Form.{Form}
 use Rattle.position_format.specs.Tables.{tableOf, pointsOf}
-use Rattle.position_format.specs.Positions.{codedPositions, validPositions}
+use Rattle.position_format.specs.Positions.{validPositions}
 use Rattle.ratio_format.specs.Bodies.{codedRatios, openRatios}
-use Rattle.record_format.specs.Fields.{fieldOf, laid}
-use Rattle.record_format.specs.Runs.{Run, positionsTag, sideLength, frontFields, recordOf}
+use Rattle.record_format.specs.Fields.{headSize, laid}
+use Rattle.record_format.specs.Runs.{Run, positionsTag, rateSize, countSize, sideLength, positionsField, frontFields, recordOf}
 use Rattle.record_format.specs.Writing.{runTests, accepts, writeAnswer, writeOutput}
 use Rattle.record_format.specs.Reading.{Answer, refusalAnswer, endAt, otherRate, lacksRoom, rateAt, readWith, readStrict, readOpen}
 use Rattle.record_format.specs.Moves.{moveOf}
@@ -69,11 +69,11 @@ joined (r ∷ rs) = recordOf r ++ joined rs
 
 -- where the count's field stands: past the rate's, and past the side's if there is one
 abbrev pub countPlace : ℕ → ℕ
-countPlace d = 7 + sideLength d
+countPlace d = headSize + rateSize + sideLength d
 
 -- and the positions', past the count's
 abbrev pub positionsPlace : ℕ → ℕ
-positionsPlace d = 12 + sideLength d
+positionsPlace d = countPlace d + (headSize + countSize)
 
 -- the tests that can apply to the record of an accepted run
 abbrev pub ownTests : Run → ℕ → ℕ → ℕ → List Test
@@ -148,7 +148,7 @@ ReadsFront = (k : ℕ → List ℕ → Option (List ℕ)) (e : ℕ) (s ts vs : L
     (f : Form) × (ps : List ℕ)
     × (a .answer .form ≡ positionsTag f) × (a .answer .count ≡ length ps) × (a .positions ≡ ps ++ drop (length ps) ts)
     × (isRate (a .answer .rate) ≡ true) × (a .answer .side ≤ maxSide) × (length ps ≤ pointsOf f) × (validPositions (tableOf f) ps ≡ true)
-    × Beginning (laid (frontFields (a .answer .rate) (a .answer .side) (length ps) ++ (fieldOf (positionsTag f) (codedPositions (tableOf f) ps) ∷ []))) s
+    × Beginning (laid (frontFields (a .answer .rate) (a .answer .side) (length ps) ++ (positionsField f ps ∷ []))) s
 
 -- demand 3: of two runs that differ, in rate, side, form, positions or ratios, neither record is a beginning of the other
 abbrev pub PrefixFree : Type 0

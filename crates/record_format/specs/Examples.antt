@@ -20,7 +20,7 @@ use Rattle.position_format.specs.Positions.{stepBits, positionBits, codedPositi
 use Rattle.position_format.specs.Tables.{tableOf}
 use Rattle.ratio_format.specs.Zeros.{zerosAt, leadZeros, trailZeros, sumOf}
 use Rattle.ratio_format.specs.Choice.{find, best, ratioForm}
-use Rattle.ratio_format.specs.Forms.{written, coded}
+use Rattle.ratio_format.specs.RatioForms.{written, coded}
 use Rattle.ratio_format.specs.Bodies.{codedFrom, codedRatios}
 use Rattle.record_format.specs.Fields.{fieldBytes, laid}
 use Rattle.record_format.specs.Runs.{Run, run, recordOf}

@@ -1,8 +1,9 @@
 -- Document 01, "The record": fields. The standard term is tag, length, value.
 --   Field          a tag and a body
 --   fieldOf t b    such a field
+--   tagSize, lengthSize   how many bytes a field's tag and the length of its body take
 --   headSize       how many bytes stand before a field's body: its head, in the standard term a header
---   maxBody        the longest body that two bytes can state
+--   maxBody        the longest body that a head can state
 --   fieldBytes f   the bytes of the field f: the tag, the length of the body in two bytes, and the body
 --   laid fs        the fields fs, laid end to end
 --   tagAt s p      the tag of the field at the offset p of the bytes s, and 0, which is no field's, past their end
@@ -34,17 +35,25 @@ pub record Field : Type 0 where
 abbrev pub fieldOf : ℕ → List ℕ → Field
 fieldOf tag body = record { tag = tag; body = body }
 
--- a tag byte and a two-byte length
-abbrev pub headSize : ℕ
-headSize = 3
+-- a tag is a byte
+abbrev pub tagSize : ℕ
+tagSize = 1
 
--- the largest number that two bytes hold
+-- a length is two
+abbrev pub lengthSize : ℕ
+lengthSize = 2
+
+-- the tag and the length
+abbrev pub headSize : ℕ
+headSize = tagSize + lengthSize
+
+-- the largest number that the bytes of a length hold
 abbrev pub maxBody : ℕ
-maxBody = 256 ^ 2 - 1
+maxBody = 256 ^ lengthSize - 1
 
 -- a tag byte, a two-byte length, then the body
 unfoldable pub fieldBytes : Field → List ℕ
-fieldBytes f = f .tag ∷ (bytesOf 2 (length (f .body)) ++ f .body)
+fieldBytes f = f .tag ∷ (bytesOf lengthSize (length (f .body)) ++ f .body)
 
 -- one after the other
 unfoldable pub laid : List Field → List ℕ
@@ -59,7 +68,7 @@ tagAt s p = getD s p 0
 
 -- the length that it states
 unfoldable pub lengthAt : List ℕ → ℕ → ℕ
-lengthAt s p = numberOf 256 (take 2 (drop (p + 1) s))
+lengthAt s p = numberOf 256 (take lengthSize (drop (p + tagSize) s))
 
 -- its body
 unfoldable pub bodyAt : List ℕ → ℕ → List ℕ

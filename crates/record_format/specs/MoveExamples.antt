@@ -26,8 +26,8 @@ use Rattle.position_format.specs.Steps.{stepsFrom, steps}
 use Rattle.position_format.specs.Positions.{stepBits, positionBits, codedPositions, validPositions, stepAt, decodedSteps, decodedBits, decoded, readPositions}
 use Rattle.ratio_format.specs.Zeros.{zerosAt, leadZeros, trailZeros, sumOf}
 use Rattle.ratio_format.specs.Choice.{find, best, ratioForm}
-use Rattle.ratio_format.specs.Forms.{written, coded}
-use Rattle.ratio_format.specs.Open.{openXor, openRead}
+use Rattle.ratio_format.specs.RatioForms.{written, coded}
+use Rattle.ratio_format.specs.Open.{openXor, openOne}
 use Rattle.ratio_format.specs.Bodies.{codedFrom, openFrom, strictRatios}
 use Rattle.record_format.specs.Fields.{fieldBytes, laid, tagAt, lengthAt, bodyAt, nextAt}
 use Rattle.record_format.specs.Examples.{listedBytes, sidedBytes, pausedBytes}
@@ -143,5 +143,5 @@ moveRows =
 
 -- each, computed from the definitions, is the one that is given
 pub moves-hold : map (λ x. moveOf (x .to) (x .input) (replicate (x .room) 7)) moveRows ≡ map (λ x. x .result) moveRows
-unfolding moveRows member firstIndex begins same digitsOf numberOf bits eights pack rates isRate isSide firstOf rows wideRows inTable code stepsFrom steps stepBits positionBits codedPositions validPositions stepAt decodedSteps decodedBits decoded readPositions zerosAt leadZeros trailZeros sumOf find best ratioForm written coded codedFrom openXor openRead openFrom strictRatios fieldBytes laid recordOf tagAt lengthAt bodyAt nextAt countAt sideIn moveOf
+unfolding moveRows member firstIndex begins same digitsOf numberOf bits eights pack rates isRate isSide firstOf rows wideRows inTable code stepsFrom steps stepBits positionBits codedPositions validPositions stepAt decodedSteps decodedBits decoded readPositions zerosAt leadZeros trailZeros sumOf find best ratioForm written coded codedFrom openXor openOne openFrom strictRatios fieldBytes laid recordOf tagAt lengthAt bodyAt nextAt countAt sideIn moveOf
 moves-hold = refl

@@ -38,13 +38,12 @@ use Rattle.limits.specs.Sides.{isSide}
 use Rattle.refusals.specs.Tests.{Test, test, firstOf, refused}
 use Rattle.outputs.specs.Outputs.{zeros, over}
 use Rattle.position_format.specs.declared.Form.{Form}
-use Rattle.position_format.specs.declared.Form.the-variants.{Old, Wide}
 use Rattle.position_format.specs.Tables.{tableOf, pointsOf}
 use Rattle.position_format.specs.Positions.{readPositions}
 use Rattle.record_format.specs.declared.ReadAnswer.{ReadAnswer}
 use Rattle.ratio_format.specs.Bodies.{openRatios, strictRatios}
 use Rattle.record_format.specs.Fields.{tagAt, bodyAt, nextAt, headTests, bodyTests, fieldTests}
-use Rattle.record_format.specs.Runs.{rateTag, sideTag, countTag, positionsTag, formOf, ratiosTag, rateSize, sideSize, countSize}
+use Rattle.record_format.specs.Runs.{rateTag, sideTag, countTag, positionsTag, positionsTags, formOf, ratiosTag, rateSize, sideSize, countSize}
 
 -- ---- where the fields stand, and what they hold
 
@@ -161,7 +160,7 @@ positionsTestsBy tags s =
 
 -- in either form
 abbrev pub positionsTests : List ℕ → List Test
-positionsTests s = positionsTestsBy (positionsTag Old ∷ positionsTag Wide ∷ []) s
+positionsTests s = positionsTestsBy positionsTags s
 
 -- the ratios': 18
 abbrev pub ratiosTests : (ℕ → List ℕ → Option (List ℕ)) → List ℕ → List Test

@@ -1,10 +1,12 @@
 -- Document 01, "What a run record holds" and "The record", with the side and the form of document 02, No. 2 and No. 3.
 --   Run, run       a rate, a side, the form that it is written in, positions and ratios. The standard term is a time series; its points are its
 --                  samples, a sample position and the ratio there, the 64 bits of an IEEE 754 double. The side is that of the disc, 0 for none
---   rateTag .. ratiosTag   the tags of the fields, by what they hold; that of the positions' field is by its form
+--   rateTag .. ratiosTag   the tags of the fields, by what they hold; that of the positions' field is by its form, and positionsTags has them all
 --   formOf t       the form that the tag t names
 --   rateSize, sideSize, countSize   how many bytes the rate, the side and the count take
 --   sideFields n   the field of the side n, an optional one: none for side 0; sideLength n: how many bytes it takes
+--   rateField r, countField n, positionsField f ts, ratiosField vs   the fields of the rate r, of the count n, of the positions ts in the form f, and of
+--                  the ratios vs
 --   frontFields r d n   the fields of the rate r, of the side d unless it is 0, and of the count n
 --   fieldsOf r     the fields of the record of the run r: those, coded positions, coded ratios, each once, in this order
 --   recordOf r     the record of the run r: its fields laid end to end
@@ -50,6 +52,10 @@ abbrev pub positionsTag : Form → ℕ
 positionsTag Old = 3
 positionsTag Wide = 5
 
+-- in either
+abbrev pub positionsTags : List ℕ
+positionsTags = positionsTag Old ∷ positionsTag Wide ∷ []
+
 -- 5 names the wide form, and every other number the old one
 abbrev pub formOf : ℕ → Form
 formOf t = cond (eqb t (positionsTag Wide)) Wide Old
@@ -70,6 +76,10 @@ sideSize = 1
 abbrev pub countSize : ℕ
 countSize = 2
 
+-- the rate, a number
+abbrev pub rateField : ℕ → Field
+rateField r = fieldOf rateTag (bytesOf rateSize r)
+
 -- no side, no field
 abbrev pub sideFields : ℕ → List Field
 sideFields zero = []
@@ -80,17 +90,25 @@ abbrev pub sideLength : ℕ → ℕ
 sideLength zero = 0
 sideLength (suc n) = headSize + sideSize
 
+-- the count, a number
+abbrev pub countField : ℕ → Field
+countField n = fieldOf countTag (bytesOf countSize n)
+
+-- coded positions
+abbrev pub positionsField : Form → List ℕ → Field
+positionsField f ts = fieldOf (positionsTag f) (codedPositions (tableOf f) ts)
+
+-- coded ratios
+abbrev pub ratiosField : List ℕ → Field
+ratiosField vs = fieldOf ratiosTag (codedRatios vs)
+
 -- rate, side, count
 abbrev pub frontFields : ℕ → ℕ → ℕ → List Field
-frontFields r d n = fieldOf rateTag (bytesOf rateSize r) ∷ (sideFields d ++ (fieldOf countTag (bytesOf countSize n) ∷ []))
+frontFields r d n = rateField r ∷ (sideFields d ++ (countField n ∷ []))
 
--- the front, coded positions, coded ratios
+-- the front, positions, ratios
 abbrev pub fieldsOf : Run → List Field
-fieldsOf r =
-    frontFields (r .rate) (r .side) (length (r .positions))
-    ++ (fieldOf (positionsTag (r .form)) (codedPositions (tableOf (r .form)) (r .positions))
-    ∷ fieldOf ratiosTag (codedRatios (r .ratios))
-    ∷ [])
+fieldsOf r = frontFields (r .rate) (r .side) (length (r .positions)) ++ (positionsField (r .form) (r .positions) ∷ ratiosField (r .ratios) ∷ [])
 
 -- the fields, end to end
 unfoldable pub recordOf : Run → List ℕ

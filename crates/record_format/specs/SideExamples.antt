@@ -18,8 +18,8 @@ use Rattle.position_format.specs.Steps.{stepsFrom, steps}
 use Rattle.position_format.specs.Positions.{stepBits, positionBits, codedPositions, validPositions, decodedSteps, decodedBits, decoded, readPositions}
 use Rattle.ratio_format.specs.Zeros.{zerosAt, leadZeros, trailZeros, sumOf}
 use Rattle.ratio_format.specs.Choice.{find, best, ratioForm}
-use Rattle.ratio_format.specs.Forms.{written, coded}
-use Rattle.ratio_format.specs.Open.{openRead}
+use Rattle.ratio_format.specs.RatioForms.{written, coded}
+use Rattle.ratio_format.specs.Open.{openOne}
 use Rattle.ratio_format.specs.Bodies.{codedFrom, openFrom, strictRatios}
 use Rattle.record_format.specs.declared.ReadAnswer.{ReadAnswer}
 use Rattle.record_format.specs.Fields.{fieldBytes, laid, tagAt, lengthAt, bodyAt, nextAt}
@@ -71,7 +71,7 @@ reads =
 
 -- each answer, computed from the definitions, is the one that is given
 pub reads-hold : ReadsSo reads
-unfolding reads member firstIndex same digitsOf numberOf bits eights pack rates isRate isSide firstOf stepsFrom steps stepBits positionBits codedPositions validPositions decodedSteps decodedBits decoded readPositions zerosAt leadZeros trailZeros sumOf find best ratioForm written coded codedFrom openRead openFrom strictRatios tagAt lengthAt bodyAt nextAt countAt sideIn readWith
+unfolding reads member firstIndex same digitsOf numberOf bits eights pack rates isRate isSide firstOf stepsFrom steps stepBits positionBits codedPositions validPositions decodedSteps decodedBits decoded readPositions zerosAt leadZeros trailZeros sumOf find best ratioForm written coded codedFrom openOne openFrom strictRatios tagAt lengthAt bodyAt nextAt countAt sideIn readWith
 reads-hold = (refl, refl)
 
 -- ---- writing

@@ -12,7 +12,6 @@
 --   TagFirst        10 for a cut head of the positions' field; 11 for a tag that is neither 3 nor 5; 15, at the count's field, for tag 5 above 3,500
 --                   points, before the body
 --   BodyByForm      in each form up to its number of points: 10 for a cut body, and 17 for one that is no coding in that form
---   fieldOfPoints f ps   the positions' field of the positions ps in the form f
 --   RatiosByReading past positions in either form: 10 for a cut head or body of the ratios' field, 11 for a tag that is not 4, 18 for a body that the
 --                   reading does not take; and else the answer is the rate, the side, the count, the form's tag, the bytes used, and all points
 use mathlib.Core.Bool.{true, not, cond}
@@ -34,8 +33,8 @@ use Rattle.position_format.specs.Rows.{rows, wideRows}
 use Rattle.position_format.specs.Positions.{codedPositions, validPositions, readPositions}
 use Rattle.position_format.specs.Tables.{tableOf, pointsOf}
 use Rattle.ratio_format.specs.Bodies.{codedRatios}
-use Rattle.record_format.specs.Fields.{Field, fieldOf, fieldBytes, laid, tagAt}
-use Rattle.record_format.specs.Runs.{Run, run, positionsTag, formOf, frontFields, recordOf}
+use Rattle.record_format.specs.Fields.{fieldOf, fieldBytes, laid, tagAt}
+use Rattle.record_format.specs.Runs.{Run, run, positionsTag, formOf, positionsField, frontFields, recordOf}
 use Rattle.record_format.specs.Writing.{runTests}
 use Rattle.record_format.specs.Reading.{readWith}
 use Rattle.record_format.specs.Claims.{Accepted, Beginning, countPlace, positionsPlace}
@@ -111,16 +110,12 @@ BodyByForm = (k : ℕ → List ℕ → Option (List ℕ)) (e r d n : ℕ) (f : F
     × ((body : List ℕ) → length body < 256 ^ 2 → readPositions (tableOf f) n body ≡ none
     → readWith k e (frontBytes r d n ++ (fieldBytes (fieldOf (positionsTag f) body) ++ rest)) ts vs ≡ refusedBy 17 (positionsPlace d) ts vs)
 
--- its tag and its body
-abbrev pub fieldOfPoints : Form → List ℕ → Field
-fieldOfPoints f ps = fieldOf (positionsTag f) (codedPositions (tableOf f) ps)
-
 -- the ratios' field past n positions, which end at the offset b
 abbrev pub RatiosByReading : Type 0
 RatiosByReading = (k : ℕ → List ℕ → Option (List ℕ)) (e r d : ℕ) (f : Form) (ps rest ts vs : List ℕ) → isRate r ≡ true → Expects e r → d ≤ 26
     → length ps ≤ pointsOf f → validPositions (tableOf f) ps ≡ true → length ps ≤ length ts → length ps ≤ length vs
     → let n = length ps in
-    let before = laid (frontFields r d n ++ (fieldOfPoints f ps ∷ [])) in
+    let before = laid (frontFields r d n ++ (positionsField f ps ∷ [])) in
     let b = length before in
     (length rest < 3 → readWith k e (before ++ rest) ts vs ≡ refusedBy 10 b ts vs)
     × (3 ≤ length rest → (tagAt rest 0 ≡ 4 → ⊥) → readWith k e (before ++ rest) ts vs ≡ refusedBy 11 b ts vs)

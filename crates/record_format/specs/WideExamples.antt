@@ -24,8 +24,8 @@ use Rattle.position_format.specs.Steps.{stepsFrom, steps}
 use Rattle.position_format.specs.Positions.{stepBits, positionBits, codedPositions, validPositions, stepAt, decodedSteps, decodedBits, decoded, readPositions}
 use Rattle.ratio_format.specs.Zeros.{zerosAt, leadZeros, trailZeros, sumOf}
 use Rattle.ratio_format.specs.Choice.{find, best, ratioForm}
-use Rattle.ratio_format.specs.Forms.{written, coded}
-use Rattle.ratio_format.specs.Open.{openRead}
+use Rattle.ratio_format.specs.RatioForms.{written, coded}
+use Rattle.ratio_format.specs.Open.{openOne}
 use Rattle.ratio_format.specs.Bodies.{codedFrom, openFrom, strictRatios}
 use Rattle.record_format.specs.declared.ReadAnswer.{ReadAnswer}
 use Rattle.record_format.specs.Fields.{fieldBytes, laid, tagAt, lengthAt, bodyAt, nextAt}
@@ -126,14 +126,14 @@ reads =
 
 -- each answer, computed from the definitions, is the one that is given
 pub reads-hold : ReadsSo reads
-unfolding reads member firstIndex begins same digitsOf numberOf bits eights pack rates isRate isSide firstOf rows wideRows inTable code stepsFrom steps stepBits positionBits codedPositions validPositions stepAt decodedSteps decodedBits decoded readPositions zerosAt leadZeros trailZeros sumOf find best ratioForm written coded codedFrom openRead openFrom strictRatios tagAt lengthAt bodyAt nextAt countAt sideIn readWith
+unfolding reads member firstIndex begins same digitsOf numberOf bits eights pack rates isRate isSide firstOf rows wideRows inTable code stepsFrom steps stepBits positionBits codedPositions validPositions stepAt decodedSteps decodedBits decoded readPositions zerosAt leadZeros trailZeros sumOf find best ratioForm written coded codedFrom openOne openFrom strictRatios tagAt lengthAt bodyAt nextAt countAt sideIn readWith
 reads-hold = (refl, refl)
 
 -- the points at the front of both outputs, which keep the rest
 pub open-points :
     (readOpen 0 (front 2 ++ twoOpen 5) (replicate 3 7) (replicate 3 8) .positions ≡ 0 ∷ 0 ∷ 7 ∷ [])
     × (readOpen 0 (front 2 ++ twoOpen 5) (replicate 3 7) (replicate 3 8) .ratios ≡ 0 ∷ 1 ∷ 8 ∷ [])
-unfolding member firstIndex begins same digitsOf numberOf bits eights pack rates isRate isSide firstOf rows wideRows inTable code stepsFrom steps stepBits positionBits codedPositions validPositions stepAt decodedSteps decodedBits decoded readPositions openRead openFrom tagAt lengthAt bodyAt nextAt countAt sideIn readWith
+unfolding member firstIndex begins same digitsOf numberOf bits eights pack rates isRate isSide firstOf rows wideRows inTable code stepsFrom steps stepBits positionBits codedPositions validPositions stepAt decodedSteps decodedBits decoded readPositions openOne openFrom tagAt lengthAt bodyAt nextAt countAt sideIn readWith
 open-points = (refl, refl)
 
 -- ---- writing

@@ -1,6 +1,7 @@
 -- What the functions that read and write the parts of a record say of what they did.
 --   longestField        the most bytes that a field can take
---   farthest            offsets up to here are returned as places, in 32 bits
+--   farthest n          the farthest offset that n fields can end at
+--   maxPlace            offsets up to here are returned as places, in 32 bits
 --   lengthAsked l       the length that a field must state, or nothing; lengthGood: whether a length is that one
 --   PartRead ..         a part of a record, read from the offset p on: its refusal, or the offset past its last field
 --   FieldRead ..        the same of one field, with the start of its body
@@ -45,9 +46,13 @@ use Rattle.record_parts.specs.declared.coding.Coding.the-variants.{Posit
 abbrev pub longestField : ℕ
 longestField = headSize + maxBody
 
+-- n fields from the front of a record on
+abbrev pub farthest : ℕ → ℕ
+farthest n = n * longestField
+
 -- a record's fields all begin before it
-abbrev pub farthest : ℕ
-farthest = 2 ^ 31
+abbrev pub maxPlace : ℕ
+maxPlace = 2 ^ 31
 
 -- ---- reading a field
 
@@ -95,7 +100,7 @@ pub record CountFound (s : List ℕ) (count place at : ℕ) : Type 0 where
   pub stands : place ≡ countAt s
   pub next : at ≡ positionsAt s
   pub inside : positionsAt s ≤ length s
-  pub near : positionsAt s ≤ 3 * longestField
+  pub near : positionsAt s ≤ farthest 3
 
 -- with rate and side
 pub record FrontFound (s : List ℕ) (f : Front) : Type 0 where
@@ -143,6 +148,6 @@ pub record PointsRead (k : ℕ → List ℕ → Option (List ℕ)) (s ts vs : Li
   pub from : f .refusal .number ≡ 0 → f .from ≡ ratiosAt s
   pub next : f .refusal .number ≡ 0 → f .end ≡ endAt s
   pub inside : f .refusal .number ≡ 0 → endAt s ≤ length s
-  pub near : f .refusal .number ≡ 0 → endAt s ≤ 5 * longestField
+  pub near : f .refusal .number ≡ 0 → endAt s ≤ farthest 5
   pub positions : f .refusal .number ≡ 0 → ps ≡ over (listOf (positionsIn s)) ts
   pub ratios : f .refusal .number ≡ 0 → qs ≡ over (listOf (ratiosIn k s)) vs

@@ -4,11 +4,9 @@ use mathlib.Core.List.{List, [], _∷_, _++_}
 use Prim.Native.Nat.{ℕ}
 use lib.ListN.{length}
 use Rattle.position_format.specs.declared.Form.{Form}
-use Rattle.position_format.specs.Positions.{codedPositions}
-use Rattle.position_format.specs.Tables.{tableOf}
-use Rattle.record_format.specs.Fields.{Field, fieldOf}
-use Rattle.record_format.specs.Runs.{positionsTag, frontFields}
+use Rattle.record_format.specs.Fields.{Field}
+use Rattle.record_format.specs.Runs.{positionsField, frontFields}
 
 -- the front, and then the coded positions
 abbrev pub leadFields : ℕ → ℕ → Form → List ℕ → List Field
-leadFields rate side form ts = frontFields rate side (length ts) ++ (fieldOf (positionsTag form) (codedPositions (tableOf form) ts) ∷ [])
+leadFields rate side form ts = frontFields rate side (length ts) ++ (positionsField form ts ∷ [])

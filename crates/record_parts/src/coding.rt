@@ -11,15 +11,15 @@ ghost use Rattle.position_format.specs.Tables.{tableOf, pointsOf};
 ghost use Rattle.record_format.specs.Fields.{headSize, tagAt};
 ghost use Rattle.record_format.specs.Runs.{positionsTag, formOf};
 ghost use Rattle.record_format.specs.Reading.{countAt, positionsAt, ratiosAt, countIn, formIn, positionsTests, ratiosTests};
-ghost use Rattle.record_parts.specs.Fields.{farthest, ratiosBy, tagOf, codedBy, Codable, CodedRead};
+ghost use Rattle.record_parts.specs.Fields.{maxPlace, ratiosBy, tagOf, codedBy, Codable, CodedRead};
 use super::field::Length;
+use super::field::has_head;
 use super::field::has_tag;
 use super::field::read_field;
 use limits::MAX_POINTS;
 use limits::MAX_WIDE_POINTS;
 use outputs::Wrote;
 use position_format::Form;
-use record_format::HEAD_SIZE;
 use record_format::OLD_TAG;
 use record_format::RATIOS_TAG;
 use record_format::WIDE_TAG;
@@ -72,7 +72,7 @@ pub fn is_in(form: Form, input: &[u8], at: usize) -> bool
     requires { ⌜ at ≤ length (now input) ⌝ }
     ensures { λ r. ⌜ r ≡ both (leb (at + headSize) (length (now (input .entry)))) (eqb (tagAt (now (input .entry)) at) (positionsTag form)) ⌝ }
 {
-    HEAD_SIZE <= input.len() - at && has_tag(input, at, form_tag(form))
+    has_head(input, at) && has_tag(input, at, form_tag(form))
 }
 
 // The tag of its field.
@@ -115,7 +115,7 @@ fn has_many(form: Form, input: &[u8], at: usize, count: usize) -> bool
     requires { ⌜ at ≤ length (now input) ⌝ }
     ensures { λ r. ⌜ r ≡ both (leb (at + headSize) (length (now (input .entry)))) (ltb (pointsOf form) count) ⌝ }
 {
-    HEAD_SIZE <= input.len() - at && points_of(form) < count
+    has_head(input, at) && points_of(form) < count
 }
 
 // The positions' field, in the form that its tag names, at its offset: its tests, and its positions at the front of the output. The count's field
@@ -129,7 +129,7 @@ pub(crate) fn read_positions(
     out: &mut [u64],
 ) -> Part
     requires { ⌜ (form ≡ formIn (now input)) × (at ≡ positionsAt (now input)) × (place ≡ countAt (now input)) × (count ≡ countIn (now input))
-        × (at ≤ length (now input)) × (at ≤ farthest) × (count ≤ length (now out)) × (count ≤ maxPoints) ⌝ }
+        × (at ≤ length (now input)) × (at ≤ maxPlace) × (count ≤ length (now out)) × (count ≤ maxPoints) ⌝ }
     ensures { λ r. ⌜ CodedRead (positionsTests (now (input .entry))) (readPositions (tableOf form) count) (now (input .entry)) at r (now (out .entry)) (now (out .exit)) ⌝ }
 {
     if has_many(form, input, at, count) {
@@ -171,7 +171,7 @@ pub(crate) fn read_ratios(
     out: &mut [u64],
 ) -> Part
     requires { ⌜ (at ≡ ratiosAt (now input)) × (count ≡ countIn (now input))
-        × (at ≤ length (now input)) × (at ≤ farthest) × (count ≤ length (now out)) × (count ≤ maxPoints) ⌝ }
+        × (at ≤ length (now input)) × (at ≤ maxPlace) × (count ≤ length (now out)) × (count ≤ maxPoints) ⌝ }
     ensures { λ r. ⌜ CodedRead (ratiosTests (ratiosBy openly) (now (input .entry))) (ratiosBy openly count) (now (input .entry)) at r (now (out .entry)) (now (out .exit)) ⌝ }
 {
     let tags = [RATIOS_TAG];

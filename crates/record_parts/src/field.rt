@@ -1,14 +1,19 @@
 // A field of a record: where its body stands, or the refusal of one that is not whole or not of its kind.
 // Document 01, "The record": a tag byte, a two-byte length, then the body.
 ghost use mathlib.Core.Path.{_≡_};
-ghost use Prim.Native.Nat.{_≤_, _<_};
-ghost use lib.Dec.{eqb};
+ghost use Prim.Native.Nat.{_+_, _≤_, _<_};
+ghost use lib.Dec.{leb, eqb};
 ghost use lib.ListN.{length};
 ghost use Rattle.lists.specs.Lists.{member};
-ghost use Rattle.record_format.specs.Fields.{tagAt, fieldTests};
-ghost use Rattle.record_parts.specs.Fields.{farthest, lengthAsked, lengthGood, FieldRead};
+ghost use Rattle.record_format.specs.Fields.{headSize, tagAt, fieldTests};
+ghost use Rattle.record_parts.specs.Fields.{maxPlace, lengthAsked, lengthGood, FieldRead};
 use record_format::HEAD_SIZE;
 use refusals::Refusal;
+
+// The head of a field: its tag, and then the length of its body.
+pub(crate) const TAG_SIZE: usize = 1;
+
+pub(crate) const LENGTH_SIZE: usize = HEAD_SIZE - TAG_SIZE;
 
 // The length that a field must state.
 pub enum Length {
@@ -37,6 +42,14 @@ fn is_among(tags: &[u8], tag: u8) -> bool
     false
 }
 
+// Whether the head of the field at an offset is whole.
+pub(crate) fn has_head(input: &[u8], at: usize) -> bool
+    requires { ⌜ at ≤ length (now input) ⌝ }
+    ensures { λ r. ⌜ r ≡ leb (at + headSize) (length (now (input .entry))) ⌝ }
+{
+    HEAD_SIZE <= input.len() - at
+}
+
 // Whether the field at an offset has this tag, which is not 0; past the end of the input there is none.
 pub(crate) fn has_tag(input: &[u8], at: usize, tag: u8) -> bool
     requires { ⌜ 0 < tag ⌝ }
@@ -57,7 +70,7 @@ fn is_length(asked: Length, n: usize) -> bool
 
 // No field: the refusal with this number, at its offset.
 fn no_field(number: u32, at: usize) -> Field
-    requires { ⌜ at ≤ farthest ⌝ }
+    requires { ⌜ at ≤ maxPlace ⌝ }
     ensures { λ r. ⌜ r ≡ record { refusal = record { number = number; place = at }; from = 0; to = 0 } ⌝ }
 {
     Field {
@@ -72,7 +85,7 @@ fn no_field(number: u32, at: usize) -> Field
 
 // The field at an offset: whole head, a tag of those that are good, the length that is asked for, whole body.
 pub(crate) fn read_field(input: &[u8], at: usize, tags: &[u8], asked: Length) -> Field
-    requires { ⌜ (at ≤ length (now input)) × (at ≤ farthest) ⌝ }
+    requires { ⌜ (at ≤ length (now input)) × (at ≤ maxPlace) ⌝ }
     ensures { λ r. ⌜ FieldRead (fieldTests (now (input .entry)) (now (tags .entry)) (lengthAsked asked) at) (now (input .entry)) at r ⌝ }
 {
     if input.len() - at < HEAD_SIZE {
@@ -81,7 +94,7 @@ pub(crate) fn read_field(input: &[u8], at: usize, tags: &[u8], asked: Length) ->
     if !is_among(tags, input[at]) {
         return no_field(11, at);
     }
-    let n = bits::get_bytes(input, at + 1, 2) as usize;
+    let n = bits::get_bytes(input, at + TAG_SIZE, LENGTH_SIZE) as usize;
     if !is_length(asked, n) {
         return no_field(12, at);
     }

@@ -8,7 +8,7 @@ ghost use lib.ListN.{length};
 ghost use Rattle.record_format.specs.Fields.{fieldTests};
 ghost use Rattle.record_format.specs.Runs.{rateSize, countSize};
 ghost use Rattle.record_format.specs.Reading.{otherRate, rateAt, sideAt, rateTests, countTests, countAt};
-ghost use Rattle.record_parts.specs.Fields.{farthest, NumberRead, SideRead, FrontRead};
+ghost use Rattle.record_parts.specs.Fields.{maxPlace, NumberRead, SideRead, FrontRead};
 use super::field::Length;
 use super::field::has_tag;
 use super::field::read_field;
@@ -40,7 +40,7 @@ pub struct Front {
 
 // No number: the refusal with this number, at the field's offset.
 fn no_number(number: u32, at: usize) -> Number
-    requires { ⌜ at ≤ farthest ⌝ }
+    requires { ⌜ at ≤ maxPlace ⌝ }
     ensures { λ r. ⌜ r ≡ record { refusal = record { number = number; place = at }; value = 0; end = 0 } ⌝ }
 {
     Number {
@@ -55,7 +55,7 @@ fn no_number(number: u32, at: usize) -> Number
 
 // The field of a tag at an offset that holds a number in n bytes.
 fn read_number(input: &[u8], at: usize, tag: u8, n: usize) -> Number
-    requires { ⌜ (at ≤ length (now input)) × (at ≤ farthest) × (n ≤ 8) ⌝ }
+    requires { ⌜ (at ≤ length (now input)) × (at ≤ maxPlace) × (n ≤ 8) ⌝ }
     ensures { λ r. ⌜ NumberRead n (fieldTests (now (input .entry)) (tag ∷ []) (some n) at) (now (input .entry)) at r ⌝ }
 {
     let tags = [tag];
@@ -106,7 +106,7 @@ fn read_rate(expected: u32, input: &[u8]) -> Number
 
 // The side, at the offset past the rate: 20. Where another field stands there, or none, it is 0, and ends where it begins.
 fn read_side(input: &[u8], at: usize) -> Number
-    requires { ⌜ (at ≡ sideAt (now input)) × (at ≤ length (now input)) × (at ≤ farthest) ⌝ }
+    requires { ⌜ (at ≡ sideAt (now input)) × (at ≤ length (now input)) × (at ≤ maxPlace) ⌝ }
     ensures { λ r. ⌜ SideRead (now (input .entry)) r ⌝ }
 {
     if !has_tag(input, at, SIDE_TAG) {
@@ -133,7 +133,7 @@ fn read_side(input: &[u8], at: usize) -> Number
 
 // The count, at the offset past the side: 15.
 fn read_count(input: &[u8], at: usize) -> Number
-    requires { ⌜ (at ≡ countAt (now input)) × (at ≤ length (now input)) × (at ≤ farthest) ⌝ }
+    requires { ⌜ (at ≡ countAt (now input)) × (at ≤ length (now input)) × (at ≤ maxPlace) ⌝ }
     ensures { λ r. ⌜ NumberRead countSize (countTests (now (input .entry))) (now (input .entry)) at r ⌝ }
 {
     let found = read_number(input, at, COUNT_TAG, COUNT_SIZE);

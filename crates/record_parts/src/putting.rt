@@ -1,22 +1,25 @@
 // Fields put at the front of an output: those that hold a number, those of coded numbers, and the front of a record with its positions.
-ghost use mathlib.Core.List.{[], _∷_, _++_};
+ghost use mathlib.Core.List.{[], _∷_};
 ghost use mathlib.Core.Path.{_≡_};
 ghost use mathlib.Core.Bool.{true};
 ghost use Prim.Native.Nat.{_≤_};
-ghost use lib.ListN.{length, drop};
+ghost use lib.ListN.{length};
 ghost use Rattle.bits.specs.Digits.{bytesOf};
 ghost use Rattle.limits.specs.Points.{maxPoints};
-ghost use Rattle.outputs.specs.Outputs.{Placed};
+ghost use Rattle.outputs.specs.Outputs.{over, Placed, Left, Next};
 ghost use Rattle.position_format.specs.Positions.{validPositions};
 ghost use Rattle.position_format.specs.Tables.{tableOf};
 ghost use Rattle.record_format.specs.Fields.{fieldOf, headSize, laid};
-ghost use Rattle.record_format.specs.Runs.{sideFields, frontFields};
+ghost use Rattle.record_format.specs.Runs.{sideFields};
 ghost use Rattle.record_parts.specs.Fields.{tagOf, codedBy, Codable};
 ghost use Rattle.record_parts.specs.Leads.{leadFields};
 use super::coding::Coding;
 use super::coding::put_body;
 use super::coding::tag_of;
+use super::field::LENGTH_SIZE;
+use super::field::TAG_SIZE;
 use outputs::Wrote;
+use outputs::sum_of;
 use position_format::Form;
 use record_format::COUNT_SIZE;
 use record_format::COUNT_TAG;
@@ -29,10 +32,10 @@ use record_format::SIDE_TAG;
 // The tag and the length of a field, at the front of the output.
 fn put_head(out: &mut [u8], tag: u8, n: usize)
     requires { ⌜ headSize ≤ length (now out) ⌝ }
-    ensures { λ _. ⌜ now (out .exit) ≡ tag ∷ (bytesOf 2 n ++ drop headSize (now (out .entry))) ⌝ }
+    ensures { λ _. ⌜ now (out .exit) ≡ over (tag ∷ bytesOf 2 n) (now (out .entry)) ⌝ }
 {
     out[0] = tag;
-    bits::put_bytes(out, 1, 2, n as u64);
+    bits::put_bytes(out, TAG_SIZE, LENGTH_SIZE, n as u64);
 }
 
 // A field that holds a number in n bytes, at the front of the output.
@@ -49,7 +52,7 @@ fn put_number(out: &mut [u8], tag: u8, n: usize, x: u64) -> Wrote
 }
 
 // A field of coded numbers, at the front of the output: the body past the head, and then the head.
-pub fn put_coded(coding: Coding, numbers: &[u64], out: &mut [u8]) -> Wrote
+fn put_coded(coding: Coding, numbers: &[u64], out: &mut [u8]) -> Wrote
     requires { ⌜ Codable coding (now numbers) ⌝ }
     ensures { λ r. ⌜ Placed (laid (fieldOf (tagOf coding) (codedBy coding (now (numbers .entry))) ∷ [])) r (now (out .entry)) (now (out .exit)) ⌝ }
 {
@@ -63,36 +66,37 @@ pub fn put_coded(coding: Coding, numbers: &[u64], out: &mut [u8]) -> Wrote
     Wrote::Done(n + HEAD_SIZE)
 }
 
-// The field of a side, at the front of the output: nothing for side 0.
-fn put_side(side: u32, out: &mut [u8]) -> Wrote
-    ensures { λ r. ⌜ Placed (laid (sideFields side)) r (now (out .entry)) (now (out .exit)) ⌝ }
+// A field that holds a number, past the bytes of a writer before.
+fn put_number_next(wrote: Wrote, out: &mut [u8], tag: u8, n: usize, x: u64) -> Wrote
+    requires { ⌜ Left wrote (now out) × (n ≤ 8) ⌝ }
+    ensures { λ r. ⌜ Next (laid (fieldOf tag (bytesOf n x) ∷ [])) wrote r (now (out .entry)) (now (out .exit)) ⌝ }
 {
-    if side == 0 {
-        return Wrote::Done(0);
-    }
-    put_number(out, SIDE_TAG, SIDE_SIZE, side as u64)
+    let Wrote::Done(at) = wrote else {
+        return Wrote::NoRoom;
+    };
+    sum_of(at, put_number(&mut out[at..], tag, n, x))
 }
 
-// The fields of the rate, of the side and of the count, at the front of the output.
-fn put_front(rate: u32, side: u32, count: usize, out: &mut [u8]) -> Wrote
-    ensures { λ r. ⌜ Placed (laid (frontFields rate side count)) r (now (out .entry)) (now (out .exit)) ⌝ }
+// The field of a side: nothing for side 0.
+fn put_side_next(wrote: Wrote, side: u32, out: &mut [u8]) -> Wrote
+    requires { ⌜ Left wrote (now out) ⌝ }
+    ensures { λ r. ⌜ Next (laid (sideFields side)) wrote r (now (out .entry)) (now (out .exit)) ⌝ }
 {
-    let Wrote::Done(rate_end) = put_number(out, RATE_TAG, RATE_SIZE, rate as u64) else {
+    if side == 0 {
+        return wrote;
+    }
+    put_number_next(wrote, out, SIDE_TAG, SIDE_SIZE, side as u64)
+}
+
+// A field of coded numbers.
+pub fn put_coded_next(wrote: Wrote, coding: Coding, numbers: &[u64], out: &mut [u8]) -> Wrote
+    requires { ⌜ Left wrote (now out) × Codable coding (now numbers) ⌝ }
+    ensures { λ r. ⌜ Next (laid (fieldOf (tagOf coding) (codedBy coding (now (numbers .entry))) ∷ [])) wrote r (now (out .entry)) (now (out .exit)) ⌝ }
+{
+    let Wrote::Done(at) = wrote else {
         return Wrote::NoRoom;
     };
-    let Wrote::Done(side_size) = put_side(side, &mut out[rate_end..]) else {
-        return Wrote::NoRoom;
-    };
-    let side_end = rate_end + side_size;
-    let Wrote::Done(count_size) = put_number(
-        &mut out[side_end..],
-        COUNT_TAG,
-        COUNT_SIZE,
-        count as u64,
-    ) else {
-        return Wrote::NoRoom;
-    };
-    Wrote::Done(side_end + count_size)
+    sum_of(at, put_coded(coding, numbers, &mut out[at..]))
 }
 
 // The fields of the rate, of the side, of the count and of the positions in a form, at the front of the output: all but the ratios'.
@@ -100,15 +104,9 @@ pub fn put_lead(rate: u32, side: u32, form: Form, positions: &[u64], out: &mut [
     requires { ⌜ (validPositions (tableOf form) (now positions) ≡ true) × (length (now positions) ≤ maxPoints) ⌝ }
     ensures { λ r. ⌜ Placed (laid (leadFields rate side form (now (positions .entry)))) r (now (out .entry)) (now (out .exit)) ⌝ }
 {
-    let Wrote::Done(front_end) = put_front(rate, side, positions.len(), out) else {
-        return Wrote::NoRoom;
-    };
-    let Wrote::Done(positions_size) = put_coded(
-        Coding::Positions(form),
-        positions,
-        &mut out[front_end..],
-    ) else {
-        return Wrote::NoRoom;
-    };
-    Wrote::Done(front_end + positions_size)
+    let rate_end = put_number(out, RATE_TAG, RATE_SIZE, rate as u64);
+    let side_end = put_side_next(rate_end, side, out);
+    let count = positions.len() as u64;
+    let count_end = put_number_next(side_end, out, COUNT_TAG, COUNT_SIZE, count);
+    put_coded_next(count_end, Coding::Positions(form), positions, out)
 }

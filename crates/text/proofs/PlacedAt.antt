@@ -52,6 +52,10 @@ put-put {m} {n} {a} {b} {at} {e} {f} {o} {p} {q} room h g = record {
       ∙ overAt-overAt o at (length a) a refl (omega (arith, h .most)) (length b) b ∙ ap (λ (k : ℕ). overAt o at k (a ++ b)) (sym (length-append a b));
 }
 
+-- a text of two parts, and then the next one after both
+pub put-parts : (a b : List ℕ) {m n : ℕ} {c : List ℕ} {at e f : ℕ} {o p q : List ℕ} → at + m ≤ length o → PlacedAt m (a ++ b) at e o p → PlacedAt n c e f p q → PlacedAt (m + n) (a ++ (b ++ c)) at f o q
+put-parts a b {m} {n} {c} room h g = put-same (append-assoc a b c) (put-put room h g)
+
 -- A number n whose text is spelled by the fewest digits that hold it, in the base b and at least l of them: they stand at the front of d, and the
 -- text has at most m bytes.
 module _ (b l m n k : ℕ) (ts d : List ℕ) (spells : Fewest b l n k → digits b k n ≡ ts) (most : length ts ≤ m)

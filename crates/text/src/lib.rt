@@ -5,7 +5,7 @@ ghost use mathlib.Core.List.{_++_};
 ghost use Prim.Native.Nat.{_+_, _*_, _≤_};
 ghost use lib.IntN.{natAbs};
 ghost use lib.ListN.{length};
-ghost use Rattle.text.specs.Lines.{newline, rateLine, sideLine, countLine, spanLine, pointLine, refusedLine, pointLines, listing};
+ghost use Rattle.text.specs.Lines.{newline, space, rateLine, sideLine, countLine, spanLine, pointLine, refusedLine, pointLines, listing};
 ghost use Rattle.text.specs.Numbers.{decimal, hex16, signed};
 ghost use Rattle.text.specs.PlacedAt.{PlacedAt};
 
@@ -42,6 +42,23 @@ pub fn put_hex(out: &mut [u8], at: usize, v: u64) -> usize
     put_text(out, at, &digits[..k])
 }
 
+// A space, and 64 bits as 16 hex digits.
+pub fn put_bits(out: &mut [u8], at: usize, v: u64) -> usize
+    requires { ⌜ at + 17 ≤ length (now out) ⌝ }
+    ensures { λ r. ⌜ PlacedAt 17 (space ++ hex16 v) at r (now (out .entry)) (now (out .exit)) ⌝ }
+{
+    let digits = put_text(out, at, b" ");
+    put_hex(out, digits, v)
+}
+
+// A line's end.
+pub fn put_newline(out: &mut [u8], at: usize) -> usize
+    requires { ⌜ at + 1 ≤ length (now out) ⌝ }
+    ensures { λ r. ⌜ PlacedAt 1 newline at r (now (out .entry)) (now (out .exit)) ⌝ }
+{
+    put_text(out, at, b"\n")
+}
+
 // The absolute value, of the most negative number too.
 fn magnitude(z: i64) -> u64
     ensures { λ r. ⌜ r ≡ natAbs z ⌝ }
@@ -65,25 +82,52 @@ fn put_signed(out: &mut [u8], at: usize, z: i64) -> usize
     put_decimal(out, at, n)
 }
 
-// A word, a number in base 10 and the line's end.
-pub fn put_named(out: &mut [u8], at: usize, word: &[u8], n: u64) -> usize
+// A word and a number in base 10.
+pub fn put_numbered(out: &mut [u8], at: usize, word: &[u8], n: u64) -> usize
+    requires { ⌜ at + (length (now word) + 20) ≤ length (now out) ⌝ }
+    ensures { λ r. ⌜ PlacedAt (length (now (word .entry)) + 20) (now (word .entry) ++ decimal n) at r (now (out .entry)) (now (out .exit)) ⌝ }
+{
+    let number = put_text(out, at, word);
+    put_decimal(out, number, n)
+}
+
+// A line of a word and a number in base 10.
+pub fn put_one(out: &mut [u8], at: usize, word: &[u8], n: u64) -> usize
     requires { ⌜ at + (length (now word) + 21) ≤ length (now out) ⌝ }
     ensures { λ r. ⌜ PlacedAt (length (now (word .entry)) + 21) (now (word .entry) ++ (decimal n ++ newline)) at r (now (out .entry)) (now (out .exit)) ⌝ }
 {
-    let number = put_text(out, at, word);
-    let end = put_decimal(out, number, n);
-    put_text(out, end, b"\n")
+    let end = put_numbered(out, at, word, n);
+    put_newline(out, end)
 }
 
-// A word and a number in base 10, another word and another number, and the line's end.
+// A line of two words, each with a number in base 10.
 pub fn put_two(out: &mut [u8], at: usize, first: &[u8], m: u64, second: &[u8], n: u64) -> usize
     requires { ⌜ at + (length (now first) + (20 + (length (now second) + 21))) ≤ length (now out) ⌝ }
     ensures { λ r. ⌜ PlacedAt (length (now (first .entry)) + (20 + (length (now (second .entry)) + 21)))
         (now (first .entry) ++ (decimal m ++ (now (second .entry) ++ (decimal n ++ newline)))) at r (now (out .entry)) (now (out .exit)) ⌝ }
 {
-    let number = put_text(out, at, first);
-    let word = put_decimal(out, number, m);
-    put_named(out, word, second, n)
+    let rest = put_numbered(out, at, first, m);
+    put_one(out, rest, second, n)
+}
+
+// A line of three words, each with a number in base 10.
+pub fn put_three(
+    out: &mut [u8],
+    at: usize,
+    first: &[u8],
+    l: u64,
+    second: &[u8],
+    m: u64,
+    third: &[u8],
+    n: u64,
+) -> usize
+    requires { ⌜ at + (length (now first) + (20 + (length (now second) + (20 + (length (now third) + 21))))) ≤ length (now out) ⌝ }
+    ensures { λ r. ⌜ PlacedAt (length (now (first .entry)) + (20 + (length (now (second .entry)) + (20 + (length (now (third .entry)) + 21)))))
+        (now (first .entry) ++ (decimal l ++ (now (second .entry) ++ (decimal m ++ (now (third .entry) ++ (decimal n ++ newline)))))) at r
+        (now (out .entry)) (now (out .exit)) ⌝ }
+{
+    let rest = put_numbered(out, at, first, l);
+    put_two(out, rest, second, m, third, n)
 }
 
 // The line of the rate.
@@ -91,7 +135,7 @@ fn put_rate(out: &mut [u8], at: usize, rate: u32) -> usize
     requires { ⌜ at + 26 ≤ length (now out) ⌝ }
     ensures { λ r. ⌜ PlacedAt 26 (rateLine rate) at r (now (out .entry)) (now (out .exit)) ⌝ }
 {
-    put_named(out, at, b"rate ", rate as u64)
+    put_one(out, at, b"rate ", rate as u64)
 }
 
 // The line of the side, if there is one.
@@ -102,7 +146,7 @@ fn put_side(out: &mut [u8], at: usize, side: u32) -> usize
     if side == 0 {
         return at;
     }
-    put_named(out, at, b"side ", side as u64)
+    put_one(out, at, b"side ", side as u64)
 }
 
 // The line of the count.
@@ -110,7 +154,7 @@ fn put_count(out: &mut [u8], at: usize, count: u64) -> usize
     requires { ⌜ at + 27 ≤ length (now out) ⌝ }
     ensures { λ r. ⌜ PlacedAt 27 (countLine count) at r (now (out .entry)) (now (out .exit)) ⌝ }
 {
-    put_named(out, at, b"count ", count)
+    put_one(out, at, b"count ", count)
 }
 
 // The line of the span.
@@ -120,7 +164,7 @@ fn put_span(out: &mut [u8], at: usize, span: i64) -> usize
 {
     let number = put_text(out, at, b"span ");
     let end = put_signed(out, number, span);
-    put_text(out, end, b"\n")
+    put_newline(out, end)
 }
 
 // The line of a point.
@@ -129,9 +173,8 @@ fn put_point(out: &mut [u8], at: usize, position: u64, ratio: u64) -> usize
     ensures { λ r. ⌜ PlacedAt 38 (pointLine position ratio) at r (now (out .entry)) (now (out .exit)) ⌝ }
 {
     let gap = put_decimal(out, at, position);
-    let digits = put_text(out, gap, b" ");
-    let end = put_hex(out, digits, ratio);
-    put_text(out, end, b"\n")
+    let end = put_bits(out, gap, ratio);
+    put_newline(out, end)
 }
 
 // The line of a refusal.

@@ -39,14 +39,14 @@ put-ratio-requires c κs = search needs
 enum-known-difference-4 : tie.Need-enum-known-difference-4
 enum-known-difference-4 c = search needs
 
-slice-aggregate-put-named : tie.Need-slice-aggregate-put-named
-slice-aggregate-put-named c = search needs
+slice-aggregate-put-one : tie.Need-slice-aggregate-put-one
+slice-aggregate-put-one c = search needs
 
-cast-put-named : tie.Need-cast-put-named
-cast-put-named c = search needs
+cast-put-one : tie.Need-cast-put-one
+cast-put-one c = search needs
 
-put-named-requires : tie.Need-put-named-requires
-put-named-requires c κs = search needs
+put-one-requires : tie.Need-put-one-requires
+put-one-requires c κs = search needs
 
 returns : tie.Need-returns
 returns c =
@@ -90,7 +90,7 @@ unfolding moreLine
 returns-5 c =
     let put = c .before .before in
     let told = put .before .before .before .before in
-    put-known lineOf (omega arith) (told .difference4 .given .1) (put .put-named .ensures)
+    put-known lineOf (omega arith) (told .difference4 .given .1) (put .put-one .ensures)
 
 pub put-difference-spec : {M : Type 1} → statement M
 put-difference-spec =
@@ -107,9 +107,9 @@ put-difference-spec =
     enum-known-difference-3
     put-ratio-requires
     enum-known-difference-4
-    slice-aggregate-put-named
-    cast-put-named
-    put-named-requires
+    slice-aggregate-put-one
+    cast-put-one
+    put-one-requires
     returns
     same-length
     returns-2

@@ -1,4 +1,4 @@
--- `put_ratio` meets its contract: seven texts, one after the other.
+-- `put_ratio` meets its contract: the index, kind and bits of each ratio, and the line's end.
 use native.Mathlib.Omega.{arith}
 use Rattle.text.proofs.PlacedAt.{put-put}
 use Rattle.compare.specs.Lines.{ratioLine}
@@ -6,14 +6,30 @@ use borrow.Author.Needs.{needs}
 use Rattle.compare.proofs.put_ratio.Statement.{statement}
 use Rattle.compare.proofs.put_ratio.Tie as tie
 
-slice-aggregate-put-text : tie.Need-slice-aggregate-put-text
-slice-aggregate-put-text c = search needs
+-- ---- places
 
-put-text-requires : tie.Need-put-text-requires
-put-text-requires c κs = search needs
+abbrev second-bits : tie.After-put-newline → tie.After-put-hex2
+second-bits k = k .before .before .before .before
 
-put-decimal-requires : tie.Need-put-decimal-requires
-put-decimal-requires c κs = search needs
+abbrev second-kind : tie.After-put-hex2 → tie.After-put-kind2
+second-kind k = k .before .before .before .before
+
+abbrev first-bits : tie.After-put-kind2 → tie.After-put-hex
+first-bits k = k .before .before .before .before
+
+abbrev first-kind : tie.After-put-hex → tie.After-put-kind
+first-kind k = k .before .before .before .before
+
+abbrev index : tie.After-put-kind → tie.After-put-numbered
+index k = k .before .before .before .before
+
+-- ---- the needs
+
+slice-aggregate-put-numbered : tie.Need-slice-aggregate-put-numbered
+slice-aggregate-put-numbered c = search needs
+
+put-numbered-requires : tie.Need-put-numbered-requires
+put-numbered-requires c κs = search needs
 
 put-kind-requires : tie.Need-put-kind-requires
 put-kind-requires c κs = search needs
@@ -27,11 +43,8 @@ put-kind-requires-2 c κs = search needs
 put-hex-requires-2 : tie.Need-put-hex-requires-2
 put-hex-requires-2 c κs = search needs
 
-slice-aggregate-put-text-2 : tie.Need-slice-aggregate-put-text-2
-slice-aggregate-put-text-2 c = search needs
-
-put-text-requires-2 : tie.Need-put-text-requires-2
-put-text-requires-2 c κs = search needs
+put-newline-requires : tie.Need-put-newline-requires
+put-newline-requires c κs = search needs
 
 same-length : tie.Need-same-length
 same-length c = search needs
@@ -40,31 +53,26 @@ returns : tie.Need-returns
 unfolding ratioLine
 returns c =
     let end = c .before .before in
-    let second-bits = let lent = end .before .before in lent .before .before .before in
-    let second-word = second-bits .before .before .before .before in
-    let first-bits = second-word .before .before .before .before in
-    let first-word = first-bits .before .before .before .before in
-    let index = first-word .before .before .before .before in
-    let word = index .before .before .before .before in
-    put-put (omega arith) (word .put-text .ensures)
-    (put-put (omega arith) (index .put-decimal .ensures)
-    (put-put (omega arith) (first-word .put-kind .ensures)
-    (put-put (omega arith) (first-bits .put-hex .ensures)
-    (put-put (omega arith) (second-word .put-kind2 .ensures)
-    (put-put (omega arith) (second-bits .put-hex2 .ensures) (end .put-text2 .ensures))))))
+    let w = second-bits end in
+    let l = second-kind w in
+    let v = first-bits l in
+    let k = first-kind v in
+    let i = index k in
+    put-put (omega arith) (i .put-numbered .ensures)
+    (put-put (omega arith) (k .put-kind .ensures)
+    (put-put (omega arith) (v .put-hex .ensures)
+    (put-put (omega arith) (l .put-kind2 .ensures) (put-put (omega arith) (w .put-hex2 .ensures) (end .put-newline .ensures)))))
 
 pub put-ratio-spec : {M : Type 1} → statement M
 put-ratio-spec =
     tie.close
     (tie.spec
-    slice-aggregate-put-text
-    put-text-requires
-    put-decimal-requires
+    slice-aggregate-put-numbered
+    put-numbered-requires
     put-kind-requires
     put-hex-requires
     put-kind-requires-2
     put-hex-requires-2
-    slice-aggregate-put-text-2
-    put-text-requires-2
+    put-newline-requires
     same-length
     returns)

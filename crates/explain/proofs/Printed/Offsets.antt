@@ -8,15 +8,15 @@ use lib.Seq.{take-all, drop-append-seam, drop-drop}
 use Rattle.limits.specs.Points.{maxPoints}
 use Rattle.ratio_format.specs.Bodies.{codedFrom, codedRatios}
 use Rattle.ratio_format.specs.Choice.{ratioForm}
-use Rattle.ratio_format.specs.Forms.{written}
+use Rattle.ratio_format.specs.RatioForms.{written}
 use Rattle.ratio_format.specs.Windows.{windowSize}
-use Rattle.record_format.specs.Fields.{fieldOf, bodyAt}
-use Rattle.record_format.specs.Runs.{Run, ratiosTag, recordOf}
+use Rattle.record_format.specs.Fields.{bodyAt}
+use Rattle.record_format.specs.Runs.{Run, ratiosField, recordOf}
 use Rattle.record_format.proofs.Fields.{length-field}
 use Rattle.record_format.proofs.Claims.Returned.{at-end, ratios-stand}
 use Rattle.record_format.proofs.Writing.{Fitting, fitting-few}
 use Rattle.reasons.specs.Reasons.{windowAt}
-use Rattle.reasons.proofs.Claims.{names-form}
+use Rattle.reasons.proofs.Claims.{names-ratio-form}
 use Rattle.explain.specs.Printed.{bodyIn, offsetOf}
 
 module _ (r : Run) (fit : Fitting r) (rest : List ℕ) where
@@ -25,7 +25,7 @@ module _ (r : Run) (fit : Fitting r) (rest : List ℕ) where
 
   -- its body ends where the record ends
   pub body-end : bodyIn s + length (codedRatios (r .ratios)) ≡ length (recordOf r)
-  body-end = omega (arith, at-end r fit rest, ratios-stand r fit rest .next, length-field (fieldOf ratiosTag (codedRatios (r .ratios))))
+  body-end = omega (arith, at-end r fit rest, ratios-stand r fit rest .next, length-field (ratiosField (r .ratios)))
 
   -- so what stands after the offset where it begins is the body, and what follows the record
   pub body-within : take (length (codedRatios (r .ratios))) (drop (bodyIn s) s) ≡ codedRatios (r .ratios)
@@ -54,5 +54,5 @@ ratio-bytes r fit i h =
     let vs = r .ratios in
     let few : length vs ≤ maxPoints = omega (arith, fit .paired, fitting-few r fit) in
     sym (drop-drop (length (codedRatios (take i vs))) (bodyIn (recordOf r)) (recordOf r))
-    ∙ ap (drop (length (codedRatios (take i vs)))) (record-body r fit ∙ names-form vs i few h .1)
+    ∙ ap (drop (length (codedRatios (take i vs)))) (record-body r fit ∙ names-ratio-form vs i few h .1)
     ∙ drop-append-seam (codedRatios (take i vs)) _

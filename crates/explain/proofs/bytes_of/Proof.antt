@@ -5,7 +5,7 @@ use native.Mathlib.Omega.{arith}
 use lib.ListN.{length, getD, take, length-append}
 use lib.Seq.{length-take-le}
 use Rattle.ratio_format.specs.Bodies.{codedRatios}
-use Rattle.ratio_format.specs.Forms.{coded}
+use Rattle.ratio_format.specs.RatioForms.{coded}
 use Rattle.ratio_format.specs.Windows.{windowSize}
 use Rattle.ratio_format.proofs.Bodies.{coded-more}
 use Rattle.reasons.specs.Reasons.{windowAt}

@@ -1,4 +1,4 @@
--- `put_cost` meets its contract: seven texts, one after the other.
+-- `put_cost` meets its contract: the index, the bits, and then the cost and the offset.
 use native.Mathlib.Omega.{arith}
 use Rattle.text.proofs.PlacedAt.{put-put}
 use Rattle.explain.specs.Lines.{costLine}
@@ -6,38 +6,36 @@ use borrow.Author.Needs.{needs}
 use Rattle.explain.proofs.put_cost.Statement.{statement}
 use Rattle.explain.proofs.put_cost.Tie as tie
 
-slice-aggregate-put-text : tie.Need-slice-aggregate-put-text
-slice-aggregate-put-text c = search needs
+-- ---- places
 
-put-text-requires : tie.Need-put-text-requires
-put-text-requires c κs = search needs
+abbrev cost-lent : tie.After-put-two → tie.After-slice-known3
+cost-lent k = k .before .before .before .before
 
-put-decimal-requires : tie.Need-put-decimal-requires
-put-decimal-requires c κs = search needs
+abbrev bits : tie.After-put-two → tie.After-put-bits
+bits k = cost-lent k .before .before
 
-slice-aggregate-put-text-2 : tie.Need-slice-aggregate-put-text-2
-slice-aggregate-put-text-2 c = search needs
+abbrev index : tie.After-put-bits → tie.After-put-numbered
+index k = k .before .before .before .before
 
-put-text-requires-2 : tie.Need-put-text-requires-2
-put-text-requires-2 c κs = search needs
+-- ---- the needs
 
-put-hex-requires : tie.Need-put-hex-requires
-put-hex-requires c κs = search needs
+slice-aggregate-put-numbered : tie.Need-slice-aggregate-put-numbered
+slice-aggregate-put-numbered c = search needs
 
-slice-aggregate-put-text-3 : tie.Need-slice-aggregate-put-text-3
-slice-aggregate-put-text-3 c = search needs
+put-numbered-requires : tie.Need-put-numbered-requires
+put-numbered-requires c κs = search needs
 
-put-text-requires-3 : tie.Need-put-text-requires-3
-put-text-requires-3 c κs = search needs
+put-bits-requires : tie.Need-put-bits-requires
+put-bits-requires c κs = search needs
 
-put-decimal-requires-2 : tie.Need-put-decimal-requires-2
-put-decimal-requires-2 c κs = search needs
+slice-aggregate-put-two : tie.Need-slice-aggregate-put-two
+slice-aggregate-put-two c = search needs
 
-slice-aggregate-put-named : tie.Need-slice-aggregate-put-named
-slice-aggregate-put-named c = search needs
+slice-aggregate-put-two-2 : tie.Need-slice-aggregate-put-two-2
+slice-aggregate-put-two-2 c = search needs
 
-put-named-requires : tie.Need-put-named-requires
-put-named-requires c κs = search needs
+put-two-requires : tie.Need-put-two-requires
+put-two-requires c κs = search needs
 
 same-length : tie.Need-same-length
 same-length c = search needs
@@ -45,34 +43,19 @@ same-length c = search needs
 returns : tie.Need-returns
 unfolding costLine
 returns c =
-    let end = c .before .before in
-    let cost = let lent = end .before .before in lent .before .before .before in
-    let gap = cost .before .before .before .before in
-    let bits = let lent = gap .before .before in lent .before .before .before in
-    let space = bits .before .before .before .before in
-    let index = let lent = space .before .before in lent .before .before .before in
-    let word = index .before .before .before .before in
-    put-put (omega arith) (word .put-text .ensures)
-    (put-put (omega arith) (index .put-decimal .ensures)
-    (put-put (omega arith) (space .put-text2 .ensures)
-    (put-put (omega arith) (bits .put-hex .ensures)
-    (put-put (omega arith) (gap .put-text3 .ensures)
-    (put-put (omega arith) (cost .put-decimal2 .ensures) (end .put-named .ensures))))))
+    let cost = c .before .before in
+    let ratio = bits cost in
+    put-put (omega arith) (index ratio .put-numbered .ensures) (put-put (omega arith) (ratio .put-bits .ensures) (cost .put-two .ensures))
 
 pub put-cost-spec : {M : Type 1} → statement M
 put-cost-spec =
     tie.close
     (tie.spec
-    slice-aggregate-put-text
-    put-text-requires
-    put-decimal-requires
-    slice-aggregate-put-text-2
-    put-text-requires-2
-    put-hex-requires
-    slice-aggregate-put-text-3
-    put-text-requires-3
-    put-decimal-requires-2
-    slice-aggregate-put-named
-    put-named-requires
+    slice-aggregate-put-numbered
+    put-numbered-requires
+    put-bits-requires
+    slice-aggregate-put-two
+    slice-aggregate-put-two-2
+    put-two-requires
     same-length
     returns)

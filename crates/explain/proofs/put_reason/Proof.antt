@@ -10,11 +10,11 @@ use Rattle.explain.proofs.put_reason.Tie as tie
 enum-known-reason : tie.Need-enum-known-reason
 enum-known-reason c = search needs
 
-slice-aggregate-put-named : tie.Need-slice-aggregate-put-named
-slice-aggregate-put-named c = search needs
+slice-aggregate-put-one : tie.Need-slice-aggregate-put-one
+slice-aggregate-put-one c = search needs
 
-put-named-requires : tie.Need-put-named-requires
-put-named-requires c κs = search needs
+put-one-requires : tie.Need-put-one-requires
+put-one-requires c κs = search needs
 
 enum-known-reason-2 : tie.Need-enum-known-reason-2
 enum-known-reason-2 c = search needs
@@ -25,11 +25,11 @@ put-xor-requires c κs = search needs
 enum-known-reason-3 : tie.Need-enum-known-reason-3
 enum-known-reason-3 c = search needs
 
-slice-aggregate-put-named-2 : tie.Need-slice-aggregate-put-named-2
-slice-aggregate-put-named-2 c = search needs
+slice-aggregate-put-one-2 : tie.Need-slice-aggregate-put-one-2
+slice-aggregate-put-one-2 c = search needs
 
-put-named-requires-2 : tie.Need-put-named-requires-2
-put-named-requires-2 c κs = search needs
+put-one-requires-2 : tie.Need-put-one-requires-2
+put-one-requires-2 c κs = search needs
 
 enum-told : tie.Need-enum-told
 enum-told c = search needs
@@ -54,7 +54,7 @@ unfolding reasonLine
 returns c =
     let put = c .before .before in
     let told = put .before .before .before in
-    put-more (omega arith) (put-same (sym (ap reasonLine (told .before .reason .given .1))) (put .put-named .ensures))
+    put-more (omega arith) (put-same (sym (ap reasonLine (told .before .reason .given .1))) (put .put-one .ensures))
 
 same-length-2 : tie.Need-same-length-2
 same-length-2 c = search needs
@@ -74,7 +74,7 @@ unfolding reasonLine
 returns-3 c =
     let put = c .before .before in
     let told = put .before .before .before in
-    put-more (omega arith) (put-same (sym (ap reasonLine (told .before .reason3 .given .1))) (put .put-named2 .ensures))
+    put-more (omega arith) (put-same (sym (ap reasonLine (told .before .reason3 .given .1))) (put .put-one2 .ensures))
 
 same-length-4 : tie.Need-same-length-4
 same-length-4 c = search needs
@@ -101,13 +101,13 @@ put-reason-spec =
     tie.close
     (tie.spec
     enum-known-reason
-    slice-aggregate-put-named
-    put-named-requires
+    slice-aggregate-put-one
+    put-one-requires
     enum-known-reason-2
     put-xor-requires
     enum-known-reason-3
-    slice-aggregate-put-named-2
-    put-named-requires-2
+    slice-aggregate-put-one-2
+    put-one-requires-2
     enum-told
     slice-aggregate-put-text
     put-text-requires

@@ -14,7 +14,7 @@ use mir.Syntax.{w64}
 use mir.Val.{toZ, ofZ}
 use Rattle.lists.specs.Compare.{both, begins, same}
 use Rattle.lists.proofs.Compare.{both-true, same-is}
-use Rattle.bits.specs.Digits.{digitsOf, bitsOf}
+use Rattle.bits.specs.Digits.{digitsOf, bitsOf, byteOf}
 use Rattle.position_format.specs.declared.Form.{Form}
 use Rattle.position_format.specs.declared.Form.the-variants.{Old, Wide}
 use Rattle.position_format.specs.Rows.{Row, row, rows, wideRows, neg, codeLength, noRow}
@@ -22,7 +22,7 @@ use Rattle.position_format.specs.Tables.{tableOf}
 use Rattle.position_format.proofs.Rows.Extended.{ranged, ranged-at}
 use Rattle.position_format.proofs.Tables.{form-sound, InWord, row-words}
 use Rattle.position_format.proofs.Tables.WideRows.{wide-count}
-use Rattle.position_codec.specs.Codes.{byteOf, PrefixIs}
+use Rattle.position_codec.specs.Codes.{PrefixIs}
 use Rattle.position_codec.specs.Found.{Leads}
 
 -- a test of every number below a bound

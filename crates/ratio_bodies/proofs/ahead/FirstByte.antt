@@ -10,11 +10,12 @@ use lib.Bits.{bitXor}
 use lib.Seq.{getD-drop, drop-drop}
 use lib.Dec.{ltb}
 use borrow.Author.Tests.{ltb-true, ltb-false}
+use Rattle.ratio_format.specs.RatioForms.{xorByte, exceptionByte}
 use Rattle.bits.specs.Digits.{numberOf}
 use Rattle.ratio_format.specs.declared.Read.{Read}
 use Rattle.ratio_format.specs.declared.Read.the-variants.{Ratio, Nothing}
 use Rattle.ratio_format.specs.Windows.{windowSize, windowOf}
-use Rattle.ratio_format.specs.Open.{openRead, openXor}
+use Rattle.ratio_format.specs.Open.{openOne, openXor}
 use Rattle.ratio_format.proofs.Open.{xor-high, xor-good, open-reference, open-far, open-xor, open-away, open-exception}
 use Rattle.ratio_format.proofs.Windows.{window-few}
 use Rattle.ratio_codec.proofs.read.References.{Named}
@@ -52,8 +53,8 @@ module _ (u at : ℕ) (l : List ℕ) (room : at + 9 ≤ length l) where
 pub ahead-some : (at : ℕ) (l : List ℕ) → at + 10 ≤ length l → length (drop at l) ≡ 0 → ⊥
 ahead-some at l h e = omega (arith, length-drop at l)
 
-pub ahead-exception : (w : List ℕ) (at : ℕ) (l : List ℕ) → at + 10 ≤ length l → (v : ℕ) → getD l at 0 ≡ 255
-    → v ≡ numberOf 256 (take 8 (drop (at + 1) l)) → Ratio v 9 ≡ openRead w (drop at l)
+pub ahead-exception : (w : List ℕ) (at : ℕ) (l : List ℕ) → at + 10 ≤ length l → (v : ℕ) → getD l at 0 ≡ exceptionByte
+    → v ≡ numberOf 256 (take 8 (drop (at + 1) l)) → Ratio v 9 ≡ openOne w (drop at l)
 ahead-exception w at l h v b e =
     open-exception w (drop at l) v (omega (arith, rest-first at l, b)) (omega (arith, length-drop at l)) (rw (drop-drop 1 at l) e)
 
@@ -65,35 +66,35 @@ module _ (rs : List ℕ) (i : ℕ) (room : i ≤ length rs) where
   most : (length w ≤ windowSize) × (length w ≤ i)
   most = let n = window-few windowSize (take i rs) in let k = length-take i rs in (n .0, omega arith)
 
-  module _ (s : List ℕ) (b : ℕ) (is : getD s 0 0 ≡ b) (filled : length s ≡ 0 → ⊥) (byte : b < 256) (plain : b ≡ 255 → ⊥) where
+  module _ (s : List ℕ) (b : ℕ) (is : getD s 0 0 ≡ b) (filled : length s ≡ 0 → ⊥) (byte : b < 256) (plain : b ≡ exceptionByte → ⊥) where
     -- no ratio stands at the place
-    place-none : length w ≤ b % 128 → Nothing ≡ openRead w s
-    place-none h = go (ltb b 128) refl
+    place-none : length w ≤ b % xorByte → Nothing ≡ openOne w s
+    place-none h = go (ltb b xorByte) refl
       where
-        go : (t : Bool) → ltb b 128 ≡ t → Nothing ≡ openRead w s
-        go true e = let l = ltb-true b 128 e in open-far w s filled (omega arith) (omega arith)
-        go false e = let l = ltb-false b 128 e in open-away w s filled (omega arith) (omega arith) (omega arith)
+        go : (t : Bool) → ltb b xorByte ≡ t → Nothing ≡ openOne w s
+        go true e = let l = ltb-true b xorByte e in open-far w s filled (omega arith) (omega arith)
+        go false e = let l = ltb-false b xorByte e in open-away w s filled (omega arith) (omega arith) (omega arith)
 
-    pub place-far : i ≤ b % 128 → Nothing ≡ openRead w s
+    pub place-far : i ≤ b % xorByte → Nothing ≡ openOne w s
     place-far h = place-none (omega (arith, most))
 
-    pub place-past : b % 128 ≡ windowSize → Nothing ≡ openRead w s
+    pub place-past : b % xorByte ≡ windowSize → Nothing ≡ openOne w s
     place-past e = place-none (omega (arith, most))
 
     -- one does
-    module _ (v : ℕ) (in-list : b % 128 < i) (in-window : b % 128 ≡ windowSize → ⊥) (at : v ≡ getD rs (i - 1 - b % 128) 0) where
-      few : b % 128 < windowSize
+    module _ (v : ℕ) (in-list : b % xorByte < i) (in-window : b % xorByte ≡ windowSize → ⊥) (at : v ≡ getD rs (i - 1 - b % xorByte) 0) where
+      few : b % xorByte < windowSize
       few = omega arith
 
-      holds : (p : ℕ) → p ≡ b % 128 → (p < length w) × (v ≡ getD w p 0)
-      holds p e = rw e (window-has windowSize rs i room (b % 128) few in-list, at ∙ sym (window-at windowSize rs i room (b % 128) few in-list))
+      holds : (p : ℕ) → p ≡ b % xorByte → (p < length w) × (v ≡ getD w p 0)
+      holds p e = rw e (window-has windowSize rs i room (b % xorByte) few in-list, at ∙ sym (window-at windowSize rs i room (b % xorByte) few in-list))
 
-      pub place-reference : b < 128 → Ratio v 1 ≡ openRead w s
+      pub place-reference : b < xorByte → Ratio v 1 ≡ openOne w s
       place-reference l =
           let h = holds (getD s 0 0) (omega arith) in
           open-reference w s v filled (omega arith) (h .0) (h .1)
 
-      pub place-xor : 128 ≤ b → (r : Read) → r ≡ openXor v (drop 1 s) → r ≡ openRead w s
+      pub place-xor : xorByte ≤ b → (r : Read) → r ≡ openXor v (drop 1 s) → r ≡ openOne w s
       place-xor l r e =
-          let h = holds (getD s 0 0 - 128) (omega arith) in
+          let h = holds (getD s 0 0 - xorByte) (omega arith) in
           open-xor w s v r filled (omega arith) (omega arith) (h .0) (h .1) e

@@ -3,14 +3,14 @@
 use Prim.Native.Nat.{_-_}
 use native.Mathlib.Omega.{arith}
 use borrow.Author.Needs.{needs}
-use Rattle.ratio_format.specs.Open.{openRead}
+use Rattle.ratio_format.specs.Open.{openOne}
 use Rattle.ratio_format.proofs.Bodies.Taken.{open-within}
 use Rattle.ratio_bodies.proofs.Taking.{Taking, taking-none, taking-all, taking-stop, taking-within, taking-more}
 use Rattle.ratio_bodies.proofs.get_open.Statement.{statement}
 use Rattle.ratio_bodies.proofs.get_open.Tie as tie
 
 abbrev Inv-loop : tie.InvT-loop
-Inv-loop body count out₀ at₀ i₀ out at i = Taking openRead count body out₀ out at i
+Inv-loop body count out₀ at₀ i₀ out at i = Taking openOne count body out₀ out at i
 
 abbrev μ-loop : tie.MeasureT-loop
 μ-loop body count out₀ at₀ i₀ out at i = count - i
@@ -18,7 +18,7 @@ abbrev μ-loop : tie.MeasureT-loop
 loop-holds : tie.Need-loop-holds Inv-loop μ-loop
 loop-holds c =
     let a = c .before .before .args in
-    taking-none openRead (a .count) (a .body .now) (a .out .now)
+    taking-none openOne (a .count) (a .body .now) (a .out .now)
 
 open-from-requires : tie.Need-open-from-requires Inv-loop μ-loop
 open-from-requires c κs = search needs
@@ -40,7 +40,7 @@ returns c =
     let l = turn .loop in
     let start = turn .before .before .before in
     let a = start .args in
-    taking-stop openRead (a .count) (a .body .now) (a .out .now) (l .out) (l .at) (l .i) (l .inv) (omega arith) (r .result) (r .ensures) (start .pre) (c .enum-told .given .1)
+    taking-stop openOne (a .count) (a .body .now) (a .out .now) (l .out) (l .at) (l .i) (l .inv) (omega arith) (r .result) (r .ensures) (start .pre) (c .enum-told .given .1)
 
 mul-out : tie.Need-mul-out Inv-loop μ-loop
 mul-out c = search needs
@@ -57,7 +57,7 @@ add-at c =
     let turn = read .before .before .before in
     let l = turn .loop in
     let a = turn .before .before .before .args in
-    omega (arith, taking-within openRead (a .count) (a .body .now) (a .out .now) (l .out) (l .at) (l .i) (l .inv) (omega arith) (r .result) (r .ensures) open-within (g .0 .0) (g .0 .1 .0) (g .1))
+    omega (arith, taking-within openOne (a .count) (a .body .now) (a .out .now) (l .out) (l .at) (l .i) (l .inv) (omega arith) (r .result) (r .ensures) open-within (g .0 .0) (g .0 .1 .0) (g .1))
 
 add-i : tie.Need-add-i Inv-loop μ-loop
 add-i c = search needs
@@ -75,7 +75,7 @@ loop-again c =
     let l = turn .loop in
     let start = turn .before .before .before in
     let a = start .args in
-    taking-more openRead (a .count) (a .body .now) (a .out .now) (l .out) (l .at) (l .i) (l .inv) (omega arith) (r .result) (r .ensures) open-within (g .0 .0) (g .0 .1 .0) (g .1) (start .pre)
+    taking-more openOne (a .count) (a .body .now) (a .out .now) (l .out) (l .at) (l .i) (l .inv) (omega arith) (r .result) (r .ensures) open-within (g .0 .0) (g .0 .1 .0) (g .1) (start .pre)
 
 same-length-2 : tie.Need-same-length-2 Inv-loop μ-loop
 same-length-2 c = search needs
@@ -86,7 +86,7 @@ returns-2 c =
     let l = turn .loop in
     let start = turn .before .before .before in
     let a = start .args in
-    taking-all openRead (a .count) (a .body .now) (a .out .now) (l .out) (l .at) (l .i) (l .inv) (omega arith) (start .pre)
+    taking-all openOne (a .count) (a .body .now) (a .out .now) (l .out) (l .at) (l .i) (l .inv) (omega arith) (start .pre)
 
 pub get-open-spec : {M : Type 1} → statement M
 get-open-spec =

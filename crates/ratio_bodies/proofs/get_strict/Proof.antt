@@ -11,8 +11,8 @@ use lib.ListN.{length, getD, take, drop, set, replicate}
 use Rattle.lists.specs.Compare.{begins}
 use Rattle.ratio_format.specs.declared.Read.the-variants.{Ratio, Nothing}
 use Rattle.ratio_format.specs.Windows.{windowSize, windowOf}
-use Rattle.ratio_format.specs.Forms.{coded}
-use Rattle.ratio_format.specs.Open.{openRead, strictRead}
+use Rattle.ratio_format.specs.RatioForms.{coded}
+use Rattle.ratio_format.specs.Open.{openOne, strictOne}
 use Rattle.ratio_format.proofs.Open.{strict-nothing, strict-good, strict-other}
 use Rattle.ratio_format.proofs.Bodies.Taken.{strict-within}
 use Rattle.ratio_format.proofs.Windows.Before.{window-inside}
@@ -28,7 +28,7 @@ use Rattle.ratio_bodies.proofs.get_strict.Tie as tie
 
 abbrev Inv-loop : tie.InvT-loop
 Inv-loop body count out₀ planes₀ again₀ done₀ at₀ i₀ out planes again done at i =
-    Taking strictRead count body out₀ out at i × Kept planes out done × (done ≤ i) × Marks again out i
+    Taking strictOne count body out₀ out at i × Kept planes out done × (done ≤ i) × Marks again out i
 
 abbrev μ-loop : tie.MeasureT-loop
 μ-loop body count out₀ planes₀ again₀ done₀ at₀ i₀ out planes again done at i = count - i
@@ -36,7 +36,7 @@ abbrev μ-loop : tie.MeasureT-loop
 loop-holds : tie.Need-loop-holds Inv-loop μ-loop
 loop-holds c =
     let a = c .before .before .args in (
-      taking-none strictRead (a .count) (a .body .now) (a .out .now),
+      taking-none strictOne (a .count) (a .body .now) (a .out .now),
       kept-none (replicate cells 0) (a .out .now) refl,
       omega arith,
       marks-none (replicate slots 0) (a .out .now) refl,
@@ -91,7 +91,7 @@ returns c =
     let t = c .before .before in
     let o = t .open-near in
     let a = start t .args in
-    taking-stop strictRead (a .count) (body t) (a .out .now) (out t) (at t) (i t) (turn t .loop .inv .0) (more t) Nothing
+    taking-stop strictOne (a .count) (body t) (a .out .now) (out t) (at t) (i t) (turn t .loop .inv .0) (more t) Nothing
     (strict-nothing (w t) (rest t) (o .result) (o .ensures) (c .enum-told .given .1)) (start t .pre) refl
 
 refresh-requires : tie.Need-refresh-requires Inv-loop μ-loop
@@ -113,7 +113,7 @@ module _ (c : tie.After-refresh Inv-loop μ-loop) where
   abbrev n : ℕ
   n = known .r .given .0 .1 .0
 
-  opens : openRead (w t) (rest t) ≡ Ratio v n
+  opens : openOne (w t) (rest t) ≡ Ratio v n
   opens = sym (t .open-near .ensures) ∙ known .r .given .1
 
 accepts-requires : tie.Need-accepts-requires Inv-loop μ-loop
@@ -144,7 +144,7 @@ returns-2 c =
     let a = start x .args in
     let o = x .open-near in
     let j = c .before .accepts in
-    taking-stop strictRead (a .count) (body x) (a .out .now) (out x) (at x) (i x) (turn x .loop .inv .0) (more x) Nothing
+    taking-stop strictOne (a .count) (body x) (a .out .now) (out x) (at x) (i x) (turn x .loop .inv .0) (more x) Nothing
     (strict-other (w x) (rest x) (o .result) (o .ensures) (v r) (n r) (j .result) (known r .r .given .1) (j .ensures) (not-true (j .result) (c .if1 .taken)))
     (start x .pre) refl
 
@@ -159,7 +159,7 @@ module _ (c : tie.Else1 Inv-loop μ-loop) where
   begun : begins (coded (v r) (w (t r))) (rest (t r)) ≡ true
   begun = sym (c .before .accepts .ensures) ∙ good
 
-  accepted : Ratio (v r) (n r) ≡ strictRead (w (t r)) (rest (t r))
+  accepted : Ratio (v r) (n r) ≡ strictOne (w (t r)) (rest (t r))
   accepted =
       let o = t r .open-near in
       strict-good (w (t r)) (rest (t r)) (o .result) (o .ensures) (v r) (n r) (c .before .accepts .result) (known r .r .given .1) (c .before .accepts .ensures) good
@@ -195,7 +195,7 @@ add-at c =
     let q = r e in
     let x = t q in
     let a = start x .args in
-    omega (arith, start x .good .0 .0, taking-within strictRead (a .count) (body x) (a .out .now) (out x) (at x) (i x) (turn x .loop .inv .0) (more x) (Ratio (v q) (n q)) (accepted e) strict-within (v q) (n q) refl)
+    omega (arith, start x .good .0 .0, taking-within strictOne (a .count) (body x) (a .out .now) (out x) (at x) (i x) (turn x .loop .inv .0) (more x) (Ratio (v q) (n q)) (accepted e) strict-within (v q) (n q) refl)
 
 add-i : tie.Need-add-i Inv-loop μ-loop
 add-i c = let x = t (r (passed c)) in omega (arith, more x)
@@ -211,7 +211,7 @@ loop-again c =
     let l = turn x .loop in
     let a = start x .args in
     let f = q .refresh in (
-      taking-more strictRead (a .count) (body x) (a .out .now) (out x) (at x) (i x) (l .inv .0) (more x) (Ratio (v q) (n q)) (accepted e) strict-within (v q) (n q) refl (start x .pre),
+      taking-more strictOne (a .count) (body x) (a .out .now) (out x) (at x) (i x) (l .inv .0) (more x) (Ratio (v q) (n q)) (accepted e) strict-within (v q) (n q) refl (start x .pre),
       kept-set (f .last .0) (out x) (f .result) (i x) (v q) (f .ensures .1) (f .ensures .0),
       omega (arith, f .ensures .1),
       marks-more (l .again) (out x) (i x) (v q) (l .inv .3) (omega (arith, inside x)) (inside x) (rest x) (c .mark .last .0) (n q) (opens q) (begun e) (marked c) (c .mark .ensures .1),
@@ -226,7 +226,7 @@ returns-3 c =
     let l = turn .loop in
     let start = turn .before .before .before in
     let a = start .args in
-    taking-all strictRead (a .count) (a .body .now) (a .out .now) (l .out) (l .at) (l .i) (l .inv .0) (omega arith) (start .pre)
+    taking-all strictOne (a .count) (a .body .now) (a .out .now) (l .out) (l .at) (l .i) (l .inv .0) (omega arith) (start .pre)
 
 pub get-strict-spec : {M : Type 1} → statement M
 get-strict-spec =

@@ -6,7 +6,7 @@ use native.Mathlib.Omega.{arith}
 use lib.ListN.{getD}
 use Rattle.outputs.specs.Outputs.{Placed}
 use Rattle.ratio_format.specs.declared.RatioForm.{RatioForm}
-use Rattle.ratio_format.specs.Forms.{written, coded}
+use Rattle.ratio_format.specs.RatioForms.{written, coded}
 use Rattle.ratio_codec.proofs.write.Chosen.{window-fit}
 use borrow.Author.Needs.{needs}
 use Rattle.ratio_bodies.proofs.put_nth.Statement.{statement}
@@ -37,8 +37,8 @@ choose-nth-requires c κs =
     let d = c .before .before .before .before in
     (omega arith, d .pre .2 (c .before .if1 .left))
 
-put-form-requires : tie.Need-put-form-requires
-put-form-requires c κs =
+put-ratio-form-requires : tie.Need-put-ratio-form-requires
+put-ratio-form-requires c κs =
     let chosen = c .before in
     let f = chosen .choose-nth in
     let other = chosen .before .before in
@@ -53,7 +53,7 @@ returns-2 : tie.Need-returns-2
 unfolding coded
 returns-2 c =
     let put = c .before .before in
-    let p = put .put-form in
+    let p = put .put-ratio-form in
     let chosen = put .before .before in
     let f = chosen .choose-nth in
     let other = chosen .before .before in
@@ -70,6 +70,6 @@ put-nth-spec =
     mul-v
     shared-slice-read-v
     choose-nth-requires
-    put-form-requires
+    put-ratio-form-requires
     same-length-2
     returns-2)

@@ -14,8 +14,8 @@ use Rattle.bits.specs.Digits.{numberOf}
 use Rattle.ratio_format.specs.declared.Read.the-variants.{Ratio, Nothing}
 use Rattle.ratio_format.specs.Windows.{windowSize}
 use Rattle.ratio_format.specs.Choice.{find, ratioForm}
-use Rattle.ratio_format.specs.Forms.{written, coded}
-use Rattle.ratio_format.specs.Open.{openRead, openXor, strictRead}
+use Rattle.ratio_format.specs.RatioForms.{xorByte, exceptionByte, written, coded}
+use Rattle.ratio_format.specs.Open.{openOne, openXor, strictOne}
 use Rattle.ratio_format.proofs.Choice.{find-at, find-lt}
 use Rattle.ratio_format.proofs.Open.{open-reference, strict-good, strict-other}
 use Rattle.ratio_format.proofs.Open.{read-reference}
@@ -38,13 +38,13 @@ module _ (w : List ℕ) (v : ℕ) where
 
     -- only then it is accepted
     module _ (small : length w ≤ windowSize) where
-      named-open : Ratio v 1 ≡ openRead w s
+      named-open : Ratio v 1 ≡ openOne w s
       named-open = open-reference w s v (λ e. omega arith) (omega arith) (n .1) (sym (n .2))
 
-      pub named-good : find v w ≡ getD s 0 0 → Ratio v 1 ≡ strictRead w s
+      pub named-good : find v w ≡ getD s 0 0 → Ratio v 1 ≡ strictOne w s
       named-good e = strict-good w s (Ratio v 1) named-open v 1 (eqb (find v w) (getD s 0 0)) refl (sym named-begins) (eq-eqb (find v w) (getD s 0 0) e)
 
-      pub named-other : (find v w ≡ getD s 0 0 → ⊥) → Nothing ≡ strictRead w s
+      pub named-other : (find v w ≡ getD s 0 0 → ⊥) → Nothing ≡ strictOne w s
       named-other e = strict-other w s (Ratio v 1) named-open v 1 (eqb (find v w) (getD s 0 0)) refl (sym named-begins) (ne-eqb (find v w) (getD s 0 0) e)
 
   -- a ratio that was read from one byte is named
@@ -61,18 +61,18 @@ module _ (w : List ℕ) (v : ℕ) where
       go true false e = never e
       go false y e = never e
 
-  pub named-one : (s : List ℕ) → openRead w s ≡ Ratio v 1 → Named s
-  unfolding openRead
+  pub named-one : (s : List ℕ) → openOne w s ≡ Ratio v 1 → Named s
+  unfolding openOne
   named-one [] e = never e
-  named-one (b ∷ s) e = go (ltb b 128) (ltb b (length w)) refl (ltb b 255) (ltb (b - 128) (length w)) (leb 8 (length s)) e
+  named-one (b ∷ s) e = go (ltb b xorByte) (ltb b (length w)) refl (ltb b exceptionByte) (ltb (b - xorByte) (length w)) (leb 8 (length s)) e
     where
       go : (x y : Bool) → ltb b (length w) ≡ y → (z t u : Bool)
           → cond x (cond y (Ratio (getD w b 0) 1) Nothing)
-          (cond z (cond t (openXor (getD w (b - 128) 0) s) Nothing) (cond u (Ratio (numberOf 256 (take 8 s)) 9) Nothing)) ≡ Ratio v 1
+          (cond z (cond t (openXor (getD w (b - xorByte) 0) s) Nothing) (cond u (Ratio (numberOf 256 (take 8 s)) 9) Nothing)) ≡ Ratio v 1
           → Named (b ∷ s)
       go true true f z t u e = (omega arith, ltb-true b (length w) f, cc)
       go true false f z t u e = never e
-      go false y f true true u e = absurd (xor-longer (getD w (b - 128) 0) s e)
+      go false y f true true u e = absurd (xor-longer (getD w (b - xorByte) 0) s e)
       go false y f true false u e = never e
       go false y f false t true e = let n : _≡_ {A = ℕ} 9 1 = cc in absurd (omega arith)
       go false y f false t false e = never e
@@ -87,10 +87,10 @@ module _ (w : List ℕ) (v : ℕ) where
       go true f g = sym (eqb-true a b f)
       go false f g = let z : _≡_ {A = ℕ} 0 1 = cc in absurd (omega arith)
 
-  pub named-absent : length w ≤ windowSize → (s : List ℕ) (n : ℕ) → openRead w s ≡ Ratio v n → begins (coded v w) s ≡ true → (n ≡ 1 → ⊥)
+  pub named-absent : length w ≤ windowSize → (s : List ℕ) (n : ℕ) → openOne w s ≡ Ratio v n → begins (coded v w) s ≡ true → (n ≡ 1 → ⊥)
       → (p : ℕ) → p < length w → getD w p 0 ≡ v → ⊥
   named-absent small s n e g m p h q =
       let f = find-lt v w p h q in
       let r = begins-one s (find v w) (ap (λ (c : List ℕ). begins c s) (sym (coded-in p h q)) ∙ g) in
-      let o = ap (openRead w) (r .1) ∙ read-reference w (r .0) small v (find v w) f (find-at v w f) in
+      let o = ap (openOne w) (r .1) ∙ read-reference w (r .0) small v (find v w) f (find-at v w f) in
       m (let z : n ≡ 1 = cc in z)

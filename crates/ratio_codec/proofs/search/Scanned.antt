@@ -10,7 +10,7 @@ use borrow.Author.Tests.{leb-true, leb-false}
 use lib.Dec.{leb}
 use lib.ListN.{length, take, drop, getD, length-take, length-reverse, take-append-drop}
 use lib.Seq.{take-suc, take-all, take-add, length-take-le, append-snoc, getD-take, getD-drop}
-use Rattle.ratio_format.specs.Zeros.{sumOf}
+use Rattle.ratio_format.specs.Zeros.{equalSum, sumOf}
 use Rattle.ratio_format.specs.Choice.{Best, newer, best}
 use Rattle.ratio_format.proofs.Zeros.Sums.{sum-same}
 use Rattle.ratio_format.proofs.Choice.{best-most, best-wins, best-stays}
@@ -123,9 +123,9 @@ module _ (v : ℕ) where
     scanned-loses k = scanned-pass l i p s h (i + 1) (omega arith) (passed-one v (reverse l) s i (rw (reverse-back l i g) k)) (omega arith)
 
     -- an equal one ends the scan
-    pub scanned-equal : next ≡ v → best v (reverse l) ≡ record { place = i; sum = 16 }
+    pub scanned-equal : next ≡ v → best v (reverse l) ≡ record { place = i; sum = equalSum }
     scanned-equal e =
-        let q : sumOf v next ≡ 16 = ap (sumOf v) e ∙ sum-same v in
+        let q : sumOf v next ≡ equalSum = ap (sumOf v) e ∙ sum-same v in
         let b = wins (omega arith) in
         ap (best v) (sym (take-append-drop (i + 1) (reverse l)))
         ∙ best-over (take (i + 1) (reverse l)) (drop (i + 1) (reverse l))

@@ -11,10 +11,10 @@ use Rattle.bits.proofs.Digits.{pow-bytes}
 use Rattle.ratio_format.specs.declared.RatioForm.{RatioForm}
 use Rattle.ratio_format.specs.declared.RatioForm.the-variants.{Reference, Xor, Exception}
 use Rattle.ratio_format.specs.Windows.{windowSize, windowOf}
-use Rattle.ratio_format.specs.Zeros.{leadZeros, trailZeros}
+use Rattle.ratio_format.specs.Zeros.{equalSum, leadZeros, trailZeros}
 use Rattle.ratio_format.specs.Choice.{best, ratioForm}
-use Rattle.ratio_format.specs.Forms.{Fit}
-use Rattle.ratio_format.proofs.Choice.{form-fit, form-reference, form-xor, form-exception, sum-small, best-at, best-xor}
+use Rattle.ratio_format.specs.RatioForms.{Fit}
+use Rattle.ratio_format.proofs.Choice.{ratio-form-fit, ratio-form-reference, ratio-form-xor, ratio-form-exception, sum-small, best-at, best-xor}
 use Rattle.ratio_format.proofs.Windows.{reverse-back, reverse-below, window-of}
 use Rattle.ratio_window.specs.Searched.{Searched}
 
@@ -22,16 +22,16 @@ module _ (l : List ℕ) (v p s : ℕ) (known : (k : ℕ) → getD l k 0 < 2 ^ 64
   all64 : Below (2 ^ 64) (reverse l)
   all64 = reverse-below (2 ^ 64) l (below-of (2 ^ 64) l known)
 
-  pub chosen-reference : s ≡ 16 → Reference p ≡ ratioForm v (reverse l)
+  pub chosen-reference : s ≡ equalSum → Reference p ≡ ratioForm v (reverse l)
   chosen-reference e =
       let b = found .0 (omega arith) in
-      ap Reference (b .0) ∙ sym (form-reference v (reverse l) v64 all64 (sym (b .1) ∙ e))
+      ap Reference (b .0) ∙ sym (ratio-form-reference v (reverse l) v64 all64 (sym (b .1) ∙ e))
 
   pub chosen-exception : s < 2 → Exception ≡ ratioForm v (reverse l)
-  chosen-exception h = sym (form-exception v (reverse l) v64 all64 (found .1 h))
+  chosen-exception h = sym (ratio-form-exception v (reverse l) v64 all64 (found .1 h))
 
   -- the xor form: x is the xor with the ratio at the place, in the slice
-  module _ (other : s ≡ 16 → ⊥) (h : 2 ≤ s) where
+  module _ (other : s ≡ equalSum → ⊥) (h : 2 ≤ s) where
     abbrev x : ℕ
     x = bitXor v (getD l (length l - 1 - p) 0)
 
@@ -56,7 +56,7 @@ module _ (l : List ℕ) (v p s : ℕ) (known : (k : ℕ) → getD l k 0 < 2 ^ 64
 
     pub chosen-xor : (t : ℕ) → t ≡ trailZeros x → Xor p t (8 - s) (x / 2 ^ (8 * t)) ≡ ratioForm v (reverse l)
     chosen-xor t e =
-        let f = form-xor v (reverse l) v64 all64 (λ e. other (sum ∙ e)) (omega (arith, sum)) in
+        let f = ratio-form-xor v (reverse l) v64 all64 (λ e. other (sum ∙ e)) (omega (arith, sum)) in
         let q = pow-bytes t in
         cc (same-xor, place, sum)
 
@@ -68,7 +68,7 @@ fit-more m n Exception h g = tt
 
 pub chosen-fit : (l : List ℕ) (v : ℕ) (f : RatioForm) → f ≡ ratioForm v (reverse l) → length l ≤ windowSize → Fit windowSize f
 chosen-fit l v f e h =
-    subst (Fit windowSize) (sym e) (fit-more (length (reverse l)) windowSize (ratioForm v (reverse l)) (rw length-reverse h) (form-fit v (reverse l)))
+    subst (Fit windowSize) (sym e) (fit-more (length (reverse l)) windowSize (ratioForm v (reverse l)) (rw length-reverse h) (ratio-form-fit v (reverse l)))
 
 -- of the window of ratio i of a list
 pub window-fit : (l : List ℕ) (i v : ℕ) (f : RatioForm) → i ≤ length l → f ≡ ratioForm v (windowOf windowSize (take i l)) → Fit windowSize f

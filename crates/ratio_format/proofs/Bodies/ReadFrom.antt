@@ -12,8 +12,8 @@ use Rattle.lists.proofs.Below.{below-drop}
 use Rattle.ratio_format.specs.declared.Read.{Read}
 use Rattle.ratio_format.specs.declared.Read.the-variants.{Ratio, Nothing}
 use Rattle.ratio_format.specs.Windows.{windowSize, push}
-use Rattle.ratio_format.specs.Forms.{coded}
-use Rattle.ratio_format.specs.Open.{openRead}
+use Rattle.ratio_format.specs.RatioForms.{coded}
+use Rattle.ratio_format.specs.Open.{openOne}
 use Rattle.ratio_format.specs.Bodies.{codedFrom, openFrom, before, atEnd, onRatio}
 use Rattle.ratio_format.proofs.Windows.{push-length, push-below}
 use Rattle.ratio_format.proofs.Open.{read-back, open-value}
@@ -27,13 +27,13 @@ unfoldable pub readFrom : Rule → ℕ → List ℕ → ℕ → List ℕ → Opt
 readFrom rule size w zero s = atEnd s
 readFrom rule size w (suc n) s = onRatio (rule w s) (λ v k. before v (readFrom rule size (push size v w) n (drop k s)))
 
-pub open-is : (size : ℕ) (w : List ℕ) (n : ℕ) (s : List ℕ) → openFrom size w n s ≡ readFrom openRead size w n s
+pub open-is : (size : ℕ) (w : List ℕ) (n : ℕ) (s : List ℕ) → openFrom size w n s ≡ readFrom openOne size w n s
 unfolding openFrom readFrom
 open-is size w zero s = refl
-open-is size w (suc n) s = go (λ v k. open-is size (push size v w) n (drop k s)) (openRead w s)
+open-is size w (suc n) s = go (λ v k. open-is size (push size v w) n (drop k s)) (openOne w s)
   where
-    go : ((v k : ℕ) → openFrom size (push size v w) n (drop k s) ≡ readFrom openRead size (push size v w) n (drop k s)) → (r : Read)
-        → onRatio r (λ v k. before v (openFrom size (push size v w) n (drop k s))) ≡ onRatio r (λ v k. before v (readFrom openRead size (push size v w) n (drop k s)))
+    go : ((v k : ℕ) → openFrom size (push size v w) n (drop k s) ≡ readFrom openOne size (push size v w) n (drop k s)) → (r : Read)
+        → onRatio r (λ v k. before v (openFrom size (push size v w) n (drop k s))) ≡ onRatio r (λ v k. before v (readFrom openOne size (push size v w) n (drop k s)))
     go ih Nothing = refl
     go ih (Ratio v k) = ap (before v) (ih v k)
 
@@ -107,12 +107,12 @@ read-below rule fits size w (suc n) s vs hs ha e =
 pub open-coded : (size : ℕ) → size ≤ windowSize → (w vs : List ℕ) → length w ≤ windowSize → Below (2 ^ 64) w → Below (2 ^ 64) vs
     → openFrom size w (length vs) (codedFrom size w vs) ≡ some vs
 open-coded size hz w vs hw ha hs =
-    open-is size w (length vs) (codedFrom size w vs) ∙ read-coded openRead read-back size hz w vs hw ha hs
+    open-is size w (length vs) (codedFrom size w vs) ∙ read-coded openOne read-back size hz w vs hw ha hs
 
 module _ (size : ℕ) (w : List ℕ) (n : ℕ) (s vs : List ℕ) where
   pub open-length : openFrom size w n s ≡ some vs → length vs ≡ n
-  open-length e = read-length openRead size w n s vs (sym (open-is size w n s) ∙ e)
+  open-length e = read-length openOne size w n s vs (sym (open-is size w n s) ∙ e)
 
   pub open-below : Below 256 s → Below (2 ^ 64) w → openFrom size w n s ≡ some vs → Below (2 ^ 64) vs
   open-below hs ha e =
-      read-below openRead (λ w s v k b a q. open-value w s v k b a q .0) size w n s vs hs ha (sym (open-is size w n s) ∙ e)
+      read-below openOne (λ w s v k b a q. open-value w s v k b a q .0) size w n s vs hs ha (sym (open-is size w n s) ∙ e)

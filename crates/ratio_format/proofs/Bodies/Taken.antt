@@ -16,8 +16,8 @@ use Rattle.lists.proofs.Below.{below-drop}
 use Rattle.ratio_format.specs.declared.Read.{Read}
 use Rattle.ratio_format.specs.declared.Read.the-variants.{Ratio, Nothing}
 use Rattle.ratio_format.specs.Windows.{windowSize, push}
-use Rattle.ratio_format.specs.Forms.{coded}
-use Rattle.ratio_format.specs.Open.{openRead, strictRead}
+use Rattle.ratio_format.specs.RatioForms.{coded}
+use Rattle.ratio_format.specs.Open.{openOne, strictOne}
 use Rattle.ratio_format.specs.Bodies.{codedFrom, codedRatios, before, openRatios, strictRatios, Taken, noneTaken, andTaken, onTaken, takenFrom, openTaken, strictTaken, wholeTaken}
 use Rattle.ratio_format.proofs.Windows.{push-length, push-below}
 use Rattle.ratio_format.proofs.Open.{strict-takes, strict-open, strict-only, open-used, open-value}
@@ -66,10 +66,10 @@ whole-none n s t never = go (eqb (length (t .ratios)) n) refl (eqb (t .used) (le
 abbrev pub RuleWithin : Rule → Type 0
 RuleWithin rule = (w s : List ℕ) (v k : ℕ) → rule w s ≡ Ratio v k → k ≤ length s
 
-pub open-within : RuleWithin openRead
+pub open-within : RuleWithin openOne
 open-within = open-used
 
-pub strict-within : RuleWithin strictRead
+pub strict-within : RuleWithin strictOne
 strict-within w s v k e = open-used w s v k (strict-open v k w s e .0)
 
 read-taken : (rule : Rule) → RuleWithin rule → (size : ℕ) (w : List ℕ) (n : ℕ) (s : List ℕ) → readFrom rule size w n s ≡ wholeTaken n s (takenFrom rule size w n s)
@@ -101,12 +101,12 @@ read-taken rule within size w (suc n) s = go (λ v k. read-taken rule within siz
 
 -- openly
 pub open-taken : (n : ℕ) (s : List ℕ) → openRatios n s ≡ wholeTaken n s (openTaken n s)
-open-taken n s = open-is windowSize [] n s ∙ read-taken openRead open-within windowSize [] n s
+open-taken n s = open-is windowSize [] n s ∙ read-taken openOne open-within windowSize [] n s
 
 -- strictly
 
 -- the ratio that is read has 64 bits
-strict-gives : Gives64 strictRead
+strict-gives : Gives64 strictOne
 strict-gives w s v k hs ha e = open-value w s v k hs ha (strict-open v k w s e .0) .0
 
 module _ (size : ℕ) (hz : size ≤ windowSize) where
@@ -130,25 +130,25 @@ module _ (size : ℕ) (hz : size ≤ windowSize) where
         (hv, f .2),
       )
 
-  taken-coded : (w : List ℕ) (n : ℕ) (s : List ℕ) → length w ≤ windowSize → Below (2 ^ 64) w → Below 256 s → CodedFront w s (takenFrom strictRead size w n s)
+  taken-coded : (w : List ℕ) (n : ℕ) (s : List ℕ) → length w ≤ windowSize → Below (2 ^ 64) w → Below 256 s → CodedFront w s (takenFrom strictOne size w n s)
   unfolding takenFrom
   taken-coded w zero s hw ha hs = coded-front-none w s
   taken-coded w (suc n) s hw ha hs =
-      go (λ v k hv. taken-coded (push size v w) n (drop k s) (omega (arith, push-length size v w)) (push-below (2 ^ 64) size v w hv ha) (below-drop 256 k s hs)) (strictRead w s) refl
+      go (λ v k hv. taken-coded (push size v w) n (drop k s) (omega (arith, push-length size v w)) (push-below (2 ^ 64) size v w hv ha) (below-drop 256 k s hs)) (strictOne w s) refl
     where
-      go : ((v k : ℕ) → v < 2 ^ 64 → CodedFront (push size v w) (drop k s) (takenFrom strictRead size (push size v w) n (drop k s))) → (r : Read) → strictRead w s ≡ r
-          → CodedFront w s (takenFrom strictRead size w (suc n) s)
-      go ih Nothing e = rw (taken-stop strictRead size w n s e) (coded-front-none w s)
+      go : ((v k : ℕ) → v < 2 ^ 64 → CodedFront (push size v w) (drop k s) (takenFrom strictOne size (push size v w) n (drop k s))) → (r : Read) → strictOne w s ≡ r
+          → CodedFront w s (takenFrom strictOne size w (suc n) s)
+      go ih Nothing e = rw (taken-stop strictOne size w n s e) (coded-front-none w s)
       go ih (Ratio v k) e =
           let hv = strict-gives w s v k hs ha e in
           let o = strict-only v k w s hv ha hw e in
-          rw (taken-next strictRead size w n s v k e) (coded-front-next w s v k (takenFrom strictRead size (push size v w) n (drop k s)) (o .0) (o .1) (o .2) hv (ih v k hv))
+          rw (taken-next strictOne size w n s v k e) (coded-front-next w s v k (takenFrom strictOne size (push size v w) n (drop k s)) (o .0) (o .1) (o .2) hv (ih v k hv))
 
   -- every other list with whose coding they begin is a beginning of it
   taken-most : (w : List ℕ) (n : ℕ) (s vs r : List ℕ) → length w ≤ windowSize → Below (2 ^ 64) w → Below (2 ^ 64) vs → length vs ≤ n
-      → s ≡ codedFrom size w vs ++ r → (us : List ℕ) × (takenFrom strictRead size w n s .ratios ≡ vs ++ us)
+      → s ≡ codedFrom size w vs ++ r → (us : List ℕ) × (takenFrom strictOne size w n s .ratios ≡ vs ++ us)
   unfolding codedFrom Below
-  taken-most w n s [] r hw ha hs h e = (takenFrom strictRead size w n s .ratios, refl)
+  taken-most w n s [] r hw ha hs h e = (takenFrom strictOne size w n s .ratios, refl)
   taken-most w zero s (v ∷ vs) r hw ha hs h e = absurd (omega arith)
   taken-most w (suc n) s (v ∷ vs) r hw ha hs h e =
       let c = coded v w in
@@ -156,9 +156,9 @@ module _ (size : ℕ) (hz : size ≤ windowSize) where
       let k = length c in
       let x : s ≡ c ++ (codedFrom size p vs ++ r) = e ∙ append-assoc c (codedFrom size p vs) r in
       let d : drop k s ≡ codedFrom size p vs ++ r = ap (drop k) x ∙ drop-at c (codedFrom size p vs ++ r) k refl in
-      let one = ap (strictRead w) x ∙ strict-takes v w (codedFrom size p vs ++ r) (hs .0) ha hw in
+      let one = ap (strictOne w) x ∙ strict-takes v w (codedFrom size p vs ++ r) (hs .0) ha hw in
       let o = taken-most p n (drop k s) vs r (omega (arith, push-length size v w)) (push-below (2 ^ 64) size v w (hs .0) ha) (hs .1) (omega arith) d in
-      (o .0, ap (λ (t : Taken). t .ratios) (taken-next strictRead size w n s v k one) ∙ ap (λ (l : List ℕ). v ∷ l) (o .1))
+      (o .0, ap (λ (t : Taken). t .ratios) (taken-next strictOne size w n s v k one) ∙ ap (λ (l : List ℕ). v ∷ l) (o .1))
 
 module _ (n : ℕ) (s : List ℕ) where
   abbrev t : Taken
@@ -191,7 +191,7 @@ module _ (n : ℕ) (s : List ℕ) where
       same : (vs : List ℕ) → length vs ≡ n → Below (2 ^ 64) vs → codedRatios vs ≡ s → t .ratios ≡ vs
       same vs e hv q =
           let o = strict-taken-most vs [] hv (omega arith) (sym q ∙ sym (append-nil (codedRatios vs))) in
-          let z : length (o .0) ≡ 0 = omega (arith, ap length (o .1), length-append vs (o .0), taken-count strictRead windowSize [] n s) in
+          let z : length (o .0) ≡ 0 = omega (arith, ap length (o .1), length-append vs (o .0), taken-count strictOne windowSize [] n s) in
           o .1 ∙ ap (λ (l : List ℕ). vs ++ l) (empty (o .0) z) ∙ append-nil vs
         where
           empty : (l : List ℕ) → length l ≡ 0 → l ≡ []

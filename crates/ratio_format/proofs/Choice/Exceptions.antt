@@ -16,12 +16,12 @@ use Rattle.lists.proofs.Below.{below-at, below-take}
 use Rattle.ratio_format.specs.Zeros.{zerosAt, leadZeros, trailZeros, sumOf}
 use Rattle.ratio_format.specs.Windows.{windowOf}
 use Rattle.ratio_format.specs.Choice.{best}
-use Rattle.ratio_format.specs.Forms.{coded}
+use Rattle.ratio_format.specs.RatioForms.{coded}
 use Rattle.ratio_format.specs.Bodies.{codedFrom}
 use Rattle.ratio_format.proofs.Zeros.{lowBytes, trail-is}
 use Rattle.ratio_format.proofs.Zeros.Sums.{xor-zero}
-use Rattle.ratio_format.proofs.Choice.{best-at, form-exception}
-use Rattle.ratio_format.proofs.Forms.{formLen, coded-is}
+use Rattle.ratio_format.proofs.Choice.{best-at, ratio-form-exception}
+use Rattle.ratio_format.proofs.RatioForms.{ratioFormLen, coded-is}
 use Rattle.ratio_format.proofs.Windows.{reverse-back-at, window-below}
 use Rattle.ratio_format.proofs.Bodies.{coded-more}
 
@@ -59,7 +59,7 @@ nine-apart v w hv ha apart =
     (λ (g : 2 ≤ best v w .sum).
     let b = best-at v w (omega arith) in
     omega (arith, b .1, sum-apart v (getD w (best v w .place) 0) hv (below-at (2 ^ 64) (lit< tt) w ha (best v w .place)) (apart (best v w .place) (b .0)))) in
-    coded-is v w ∙ ap formLen (form-exception v w hv ha none)
+    coded-is v w ∙ ap ratioFormLen (ratio-form-exception v w hv ha none)
 
 -- ratios of which each is apart from those before it, as many as a window holds
 module _ (size : ℕ) (vs : List ℕ) (words : Below (2 ^ 64) vs)

@@ -6,11 +6,11 @@ use native.Mathlib.Omega.{arith}
 use lib.Bits.{bitXor, xor-lt}
 use lib.Count.{under}
 use lib.Dec.{lit<}
-use Rattle.ratio_format.specs.Zeros.{zerosAt, leadZeros, trailZeros, sumOf}
+use Rattle.ratio_format.specs.Zeros.{equalSum, zerosAt, leadZeros, trailZeros, sumOf}
 use Rattle.ratio_format.proofs.Zeros.{lowBytes, trailBytes, trail-is, lead-le, trail-le, middle-fits}
 
 -- no sum is above 16
-pub sum-le : (v u : ℕ) → sumOf v u ≤ 16
+pub sum-le : (v u : ℕ) → sumOf v u ≤ equalSum
 unfolding sumOf
 sum-le v u = omega (arith, lead-le (bitXor v u), trail-le (bitXor v u))
 

@@ -7,7 +7,7 @@ use lib.Arith.{bin-ind}
 use lib.Bits.{bitXor, differ, xor-self, xor-add-and, and-le-l, and-le-r, xor-lt, xor-step, xor-shr, xor-mod}
 use lib.Dec.{lit<}
 use Rattle.bits.specs.Digits.{digitsOf}
-use Rattle.ratio_format.specs.Zeros.{zerosAt, leadZeros, trailZeros, sumOf}
+use Rattle.ratio_format.specs.Zeros.{equalSum, zerosAt, leadZeros, trailZeros, sumOf}
 use Rattle.ratio_format.proofs.Zeros.{zeros-apart}
 
 -- only equal numbers have the xor 0
@@ -33,7 +33,7 @@ xor-back a =
     ∙ ap₂ (λ (x y : ℕ). x * 2 + y) (ih (b / 2)) (bit-back (n % 2) (b % 2) (mod-lt n (lit< tt)) (mod-lt b (lit< tt)))
     ∙ div-add-mod' n 2) a
 
-pub sum-same : (v : ℕ) → sumOf v v ≡ 16
+pub sum-same : (v : ℕ) → sumOf v v ≡ equalSum
 unfolding sumOf zerosAt digitsOf leadZeros trailZeros
 sum-same v = rw xor-self
 

@@ -9,7 +9,8 @@ use borrow.Author.Tests.{eqb-true, eqb-false, leb-true, leb-false}
 use lib.Dec.{eqb, leb}
 use lib.ListN.{getD}
 use Rattle.ratio_format.specs.Zeros.{sumOf}
-use Rattle.ratio_search.specs.BytePlanes.{byteAt, slots, Differs, Planes}
+use Rattle.bits.specs.Digits.{byteOf}
+use Rattle.ratio_search.specs.BytePlanes.{slots, Differs, Planes}
 use Rattle.ratio_search.specs.Apart.{Apart}
 use Rattle.ratio_search.proofs.Apart.{apart-differ}
 
@@ -53,7 +54,7 @@ module _ (ps : List ℕ) (a x b y c z d w : ℕ) where
       go false f = let g = eqb-false t n f in q (o .0) t (omega arith)
 
 -- a slot of a quiet block, by its own number: a is the start of the part of byte j
-pub slot-differs : (ps : List ℕ) (v i j slot x y t : ℕ) → x ≡ byteAt v i → y ≡ byteAt v j → slot ≤ t
+pub slot-differs : (ps : List ℕ) (v i j slot x y t : ℕ) → x ≡ byteOf v i → y ≡ byteOf v j → slot ≤ t
     → Off ps (i * slots + slot) x (j * slots + slot) y (t - slot) → Differs ps v i j t
 slot-differs ps v i j slot x y t ex ey h o =
     let ei : i * slots + slot + (t - slot) ≡ i * slots + t = omega arith in

@@ -8,7 +8,7 @@ use borrow.Author.Tests.{leb-true, leb-false}
 use lib.Dec.{leb}
 use lib.ListN.{length, take, getD}
 use Rattle.ratio_format.specs.Windows.{windowSize, windowOf}
-use Rattle.ratio_format.specs.Zeros.{sumOf}
+use Rattle.ratio_format.specs.Zeros.{equalSum, sumOf}
 use Rattle.ratio_format.proofs.Zeros.Sums.{sum-same}
 use Rattle.ratio_window.specs.Searched.{Searched}
 use Rattle.ratio_window.specs.Passed.{Passed}
@@ -70,9 +70,9 @@ module _ (v : ℕ) (l : List ℕ) (i : ℕ) where
       searching-loses e = (omega arith, s .1, s .2, s .3, s .4, passed-more v l sum q i (omega arith) e (s .5), s .6)
 
       -- an equal one ends the search
-      pub searching-equal : i ≤ length l → getD l (q - 1) 0 ≡ v → Searched v (windowOf windowSize (take i l)) (i - q) 16
+      pub searching-equal : i ≤ length l → getD l (q - 1) 0 ≡ v → Searched v (windowOf windowSize (take i l)) (i - q) equalSum
       searching-equal h e =
           let p : i - 1 - (q - 1) ≡ i - q = omega arith in
           subst (λ (n : ℕ). Searched v (windowOf windowSize (take i l)) n 16) p
-          (searched-best windowSize l v i h (q - 1) 16 (omega arith) (omega arith) (omega arith) (ap (sumOf v) e ∙ sum-same v)
+          (searched-best windowSize l v i h (q - 1) equalSum (omega arith) (omega arith) (omega arith) (ap (sumOf v) e ∙ sum-same v)
           (λ k a b. omega (arith, s .5 k (omega arith) b)) (λ k a b. sum-le v (getD l k 0)))

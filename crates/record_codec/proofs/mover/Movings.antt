@@ -30,7 +30,7 @@ use Rattle.record_parts.specs.declared.front.Front.{Front}
 use Rattle.record_parts.specs.declared.points.Points.{Points}
 use Rattle.record_parts.specs.Fields.{FrontRead, PointsRead}
 use Rattle.record_parts.specs.Leads.{leadFields}
-use Rattle.record_parts.proofs.putting.Writings.{short-of, wrote-all}
+use Rattle.outputs.proofs.Outputs.Writers.{short-of, wrote-all}
 use Rattle.record_codec.specs.Answers.{Moved}
 use Rattle.record_codec.specs.Movable.{NotThere, Movable, Opened}
 

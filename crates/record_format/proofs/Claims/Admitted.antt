@@ -2,30 +2,29 @@
 -- strict reading, bytes that begin with the record of a run that the writer accepts.
 use mathlib.Core.Path.{_≡_, sym, ap, _∙_, subst}
 use mathlib.Core.Bool.{true, not}
-use mathlib.Core.List.{List, [], _∷_, _++_, append-assoc}
+use mathlib.Core.List.{List, [], _∷_, _++_}
 use mathlib.Core.Option.{Option, none, some}
 use Prim.Native.Nat.{ℕ, _≤_, _^_}
 use borrow.Author.Tests.{ltb-false, not-false}
 use lib.Dec.{ltb, lit<}
 use lib.ListN.{length, drop}
 use Rattle.lists.specs.Below.{Below}
-use Rattle.bits.specs.Digits.{bytesOf}
 use Rattle.limits.specs.Rates.{isRate}
 use Rattle.limits.specs.Points.{maxPoints}
 use Rattle.limits.specs.Sides.{maxSide}
 use Rattle.refusals.specs.Tests.{Test, test, firstOf}
 use Rattle.refusals.proofs.Tests.{first-clear}
-use Rattle.position_format.specs.Positions.{codedPositions, validPositions}
+use Rattle.position_format.specs.Positions.{validPositions}
 use Rattle.position_format.specs.Tables.{tableOf, pointsOf}
 use Rattle.position_format.proofs.Positions.{read-only}
-use Rattle.ratio_format.specs.Bodies.{codedRatios, strictRatios}
+use Rattle.ratio_format.specs.Bodies.{strictRatios}
 use Rattle.ratio_format.proofs.Bodies.Strict.{strict-only-body, strict-below}
-use Rattle.record_format.specs.Fields.{Field, fieldOf, tagAt, bodyAt, nextAt, laid}
-use Rattle.record_format.specs.Runs.{Run, run, rateTag, countTag, positionsTag, ratiosTag, rateSize, countSize, sideFields, frontFields, recordOf}
+use Rattle.record_format.specs.Fields.{Field, tagAt, bodyAt, nextAt, laid}
+use Rattle.record_format.specs.Runs.{Run, run, rateTag, countTag, positionsTag, ratiosTag, rateSize, countSize, sideFields, countField, positionsField, ratiosField, frontFields, fieldsOf, recordOf}
 use Rattle.record_format.specs.Reading.{recordAnswer, readTests, readStrict, readWith, rateAt, sideAt, countAt, positionsAt, ratiosAt, rateIn, sideIn, countIn, formIn, positionsIn, ratiosIn, missing, otherRate, sideTests, countTests, frontTests, roomTests, positionsTests, ratiosTests}
 use Rattle.record_format.proofs.Fields.{Follow, pastAll, past-append, follow-laid, follow-append}
 use Rattle.record_format.proofs.Reading.{FieldSound, field-clear, sound-follows, sound-below, sound-number, missing-some, front-flat, answer-clear}
-use Rattle.record_format.proofs.Runs.{tag-named, flatFields, record-flat}
+use Rattle.record_format.proofs.Runs.{tag-named}
 use Rattle.record_format.proofs.Reading.Sides.{SideSound, side-clear, side-follows}
 use Rattle.record_format.proofs.Writing.{Fitting}
 
@@ -81,32 +80,37 @@ passed k e s m n clear =
 
 -- ---- the front
 
--- rate and side, and then fields from the count's on
-front-follows : (s : List ℕ) → Below 256 s → FrontSound s → (fs : List Field) → Follow s (countAt s) fs
-    → Follow s rateAt (fieldOf rateTag (bytesOf rateSize (rateIn s)) ∷ (sideFields (sideIn s) ++ fs))
-front-follows s bytes h fs later =
-    let d = side-follows s bytes (h .side) in
-    (sound-follows bytes (h .rate) _ (sound-number bytes (h .rate)), follow-append s (sideAt s) (sideFields (sideIn s)) fs (d .follows) (subst (λ (p : ℕ). Follow s p fs) (sym (d .past)) later))
+-- the fields of the front that is read in them follow one another, up to the positions'
+front-follows : (s : List ℕ) → Below 256 s → FrontSound s
+    → let front = frontFields (rateIn s) (sideIn s) (countIn s) in Follow s rateAt front × (pastAll s rateAt front ≡ positionsAt s)
+front-follows s bytes h =
+    let sides = sideFields (sideIn s) in
+    let count = countField (countIn s) ∷ [] in
+    let d = side-follows s bytes (h .side) in (
+      (
+        sound-follows bytes (h .rate) _ (sound-number bytes (h .rate)),
+        follow-append s (sideAt s) sides count (d .follows)
+            (subst (λ (p : ℕ). Follow s p count) (sym (d .past)) (sound-follows bytes (h .count) _ (sound-number bytes (h .count)), tt)),
+      ),
+      past-append s (sideAt s) sides count ∙ ap (nextAt s) (d .past),
+    )
 
--- so the bytes begin with the front that is read in them
+-- so the bytes begin with it
 pub front-splits : (s : List ℕ) → Below 256 s → FrontSound s → s ≡ laid (frontFields (rateIn s) (sideIn s) (countIn s)) ++ drop (positionsAt s) s
 front-splits s bytes h =
-    let count = fieldOf countTag (bytesOf countSize (countIn s)) in
-    let d = side-follows s bytes (h .side) in
-    let past : pastAll s (sideAt s) (sideFields (sideIn s) ++ (count ∷ [])) ≡ positionsAt s = past-append s (sideAt s) (sideFields (sideIn s)) (count ∷ []) ∙ ap (nextAt s) (d .past) in
-    follow-laid s rateAt (frontFields (rateIn s) (sideIn s) (countIn s)) (front-follows s bytes h (count ∷ []) (sound-follows bytes (h .count) _ (sound-number bytes (h .count)), tt))
-    ∙ ap (λ (p : ℕ). laid (frontFields (rateIn s) (sideIn s) (countIn s)) ++ drop p s) past
+    let f = front-follows s bytes h in
+    follow-laid s rateAt (frontFields (rateIn s) (sideIn s) (countIn s)) (f .0)
+    ∙ ap (λ (p : ℕ). laid (frontFields (rateIn s) (sideIn s) (countIn s)) ++ drop p s) (f .1)
 
 -- and with the positions, as they are read in their form
 positions-follow : (s : List ℕ) → Below 256 s → (k : ℕ → List ℕ → Option (List ℕ)) → (h : Read k s) → (fs : List Field) → Follow s (ratiosAt s) fs
-    → Follow s rateAt
-    (fieldOf rateTag (bytesOf rateSize (rateIn s))
-    ∷ (sideFields (sideIn s)
-    ++ (fieldOf countTag (bytesOf countSize (length (h .points .0))) ∷ fieldOf (positionsTag (formIn s)) (codedPositions (tableOf (formIn s)) (h .points .0)) ∷ fs)))
+    → Follow s rateAt (frontFields (rateIn s) (sideIn s) (length (h .points .0)) ++ (positionsField (formIn s) (h .points .0) ∷ fs))
 positions-follow s bytes k h fs later =
     let p = read-only (tableOf (formIn s)) (countIn s) (bodyAt s (positionsAt s)) (h .points .0) (h .points .1) in
-    front-follows s bytes (h .front) _
-    (sound-follows bytes (h .front .count) _ (sound-number bytes (h .front .count) ∙ ap (bytesOf countSize) (sym (p .2))), (sound-follows bytes (h .positions) _ (p .0), later))
+    let f = front-follows s bytes (h .front) in
+    let points = positionsField (formIn s) (h .points .0) ∷ fs in
+    subst (λ (n : ℕ). Follow s rateAt (frontFields (rateIn s) (sideIn s) n ++ points)) (sym (p .2))
+    (follow-append s rateAt (frontFields (rateIn s) (sideIn s) (countIn s)) points (f .0) (subst (λ (q : ℕ). Follow s q points) (sym (f .1)) (sound-follows bytes (h .positions) _ (p .0), later)))
 
 -- the front and the positions of bytes that are not refused
 pub record FrontStands (s : List ℕ) : Type 0 where
@@ -118,17 +122,14 @@ pub record FrontStands (s : List ℕ) : Type 0 where
   pub few : length points ≤ pointsOf (formIn s)
   pub valid : validPositions (tableOf (formIn s)) points ≡ true
   pub rest : List ℕ
-  pub splits : s ≡ laid (frontFields (rateIn s) (sideIn s) (length points) ++ (fieldOf (positionsTag (formIn s)) (codedPositions (tableOf (formIn s)) points) ∷ [])) ++ rest
+  pub splits : s ≡ laid (frontFields (rateIn s) (sideIn s) (length points) ++ (positionsField (formIn s) points ∷ [])) ++ rest
 
 pub front-stands : (k : ℕ → List ℕ → Option (List ℕ)) (e : ℕ) (s : List ℕ) (m n : ℕ) → Below 256 s → firstOf (readTests k e s m n) .number ≡ 0 → FrontStands s
 front-stands k e s m n bytes clear =
     let h = passed k e s m n clear in
     let ps = h .points .0 in
     let p = read-only (tableOf (formIn s)) (countIn s) (bodyAt s (positionsAt s)) ps (h .points .1) in
-    let body = fieldOf (positionsTag (formIn s)) (codedPositions (tableOf (formIn s)) ps) in
-    let count = fieldOf countTag (bytesOf countSize (length ps)) in
-    let flat = fieldOf rateTag (bytesOf rateSize (rateIn s)) ∷ (sideFields (sideIn s) ++ (count ∷ body ∷ [])) in
-    let follow : Follow s rateAt flat = positions-follow s bytes k h [] tt in
+    let fields = frontFields (rateIn s) (sideIn s) (length ps) ++ (positionsField (formIn s) ps ∷ []) in
     record {
       listed = h .front .listed;
       sided = side-follows s bytes (h .front .side) .sided;
@@ -137,9 +138,8 @@ front-stands k e s m n bytes clear =
       many = sym (p .2);
       few = subst (λ (c : ℕ). c ≤ pointsOf (formIn s)) (sym (p .2)) (h .few);
       valid = p .1;
-      rest = drop (pastAll s rateAt flat) s;
-      splits = follow-laid s rateAt flat follow
-          ∙ ap (λ (l : List Field). laid (fieldOf rateTag (bytesOf rateSize (rateIn s)) ∷ l) ++ drop (pastAll s rateAt flat) s) (sym (append-assoc (sideFields (sideIn s)) (count ∷ []) (body ∷ [])));
+      rest = drop (pastAll s rateAt fields) s;
+      splits = follow-laid s rateAt fields (positions-follow s bytes k h [] tt);
     }
 
 -- ---- the whole record, by strict reading
@@ -153,13 +153,14 @@ pub record Begins (s : List ℕ) : Type 0 where
   pub splits : s ≡ recordOf own ++ rest
 
 begins : (s : List ℕ) → Below 256 s → Read strictRatios s → Begins s
+unfolding recordOf
 begins s bytes h =
     let ts = h .points .0 in
     let vs = h .values .0 in
     let p = read-only (tableOf (formIn s)) (countIn s) (bodyAt s (positionsAt s)) ts (h .points .1) in
     let q = strict-only-body (countIn s) (bodyAt s (ratiosAt s)) vs (h .values .1) in
     let r = run (rateIn s) (sideIn s) (formIn s) ts vs in
-    let follow : Follow s rateAt (flatFields r) = positions-follow s bytes strictRatios h (fieldOf ratiosTag (codedRatios vs) ∷ []) (sound-follows bytes (h .ratios) _ (q .0), tt) in
+    let follow : Follow s rateAt (fieldsOf r) = positions-follow s bytes strictRatios h (ratiosField vs ∷ []) (sound-follows bytes (h .ratios) _ (q .0), tt) in
     record {
       own = r;
       fits = record {
@@ -170,8 +171,8 @@ begins s bytes h =
         valid = p .1;
       };
       ratios = strict-below (countIn s) (bodyAt s (ratiosAt s)) vs (sound-below bytes (h .ratios)) (h .values .1);
-      rest = drop (pastAll s rateAt (flatFields r)) s;
-      splits = follow-laid s rateAt (flatFields r) follow ∙ ap (λ (l : List ℕ). l ++ drop (pastAll s rateAt (flatFields r)) s) (sym (record-flat r));
+      rest = drop (pastAll s rateAt (fieldsOf r)) s;
+      splits = follow-laid s rateAt (fieldsOf r) follow;
     }
 
 -- bytes that strict reading's tests do not refuse begin with a run's record

@@ -12,17 +12,15 @@ use Rattle.refusals.specs.declared.Refusal.{Refusal}
 use Rattle.refusals.specs.Tests.{test, firstOf, refused}
 use Rattle.refusals.proofs.Tests.{first-skip}
 use Rattle.outputs.specs.Outputs.{over}
-use Rattle.position_format.specs.Positions.{codedPositions}
-use Rattle.position_format.specs.Tables.{tableOf}
 use Rattle.ratio_format.specs.Bodies.{codedRatios}
-use Rattle.record_format.specs.Fields.{Field, fieldOf}
-use Rattle.record_format.specs.Runs.{Run, run, positionsTag, ratiosTag, frontFields, fieldsOf, recordOf}
+use Rattle.record_format.specs.Fields.{Field}
+use Rattle.record_format.specs.Runs.{Run, run, positionsTag, ratiosTag, countSize, positionsField, ratiosField, frontFields, fieldsOf, recordOf}
 use Rattle.record_format.specs.Claims.{ownTests, ownAnswer, runAnswer}
 use Rattle.record_format.specs.Reading.{Answer, refusalAnswer, recordAnswer, readTests, readWith, rateAt, positionsAt, ratiosAt, endAt, rateIn, sideIn, countIn, formIn, positionsIn, ratiosIn, missing, listOf, otherRate, lacksRoom, ratiosTests}
-use Rattle.record_format.proofs.Fields.{FieldStands, StandAll, laid-stand, pastAll, stand-past, small-append, stand-append, past-append}
-use Rattle.record_format.proofs.Reading.Fronts.{first-cong, front-small, count-at, front-past, rate-is, side-is, count-is, front-tests, form-is, positions-are, positions-pass}
+use Rattle.record_format.proofs.Fields.{FieldStands, StandAll, laid-stand, pastAll, stand-past, stand-append, past-append}
+use Rattle.record_format.proofs.Reading.Fronts.{first-cong, count-at, front-past, rate-is, side-is, count-is, front-tests, form-is, positions-are, positions-pass}
 use Rattle.record_format.proofs.Reading.{field-passes}
-use Rattle.record_format.proofs.Runs.{same-run, bodies-small}
+use Rattle.record_format.proofs.Runs.{same-run, fields-small}
 use Rattle.record_format.proofs.Writing.{Fitting, fitting-few}
 
 module _ (r : Run) (fit : Fitting r) (rest : List ℕ) where
@@ -34,40 +32,35 @@ module _ (r : Run) (fit : Fitting r) (rest : List ℕ) where
   abbrev front : List Field
   front = frontFields (r .rate) (r .side) (length (r .positions))
 
-  abbrev positions-field : Field
-  positions-field = fieldOf (positionsTag (r .form)) (codedPositions (tableOf (r .form)) (r .positions))
-
-  abbrev ratios-field : Field
-  ratios-field = fieldOf ratiosTag (codedRatios (r .ratios))
+  abbrev points-fields : List Field
+  points-fields = positionsField (r .form) (r .positions) ∷ ratiosField (r .ratios) ∷ []
 
   all : StandAll s rateAt (fieldsOf r)
   unfolding recordOf
-  all =
-      let b = bodies-small r fit in
-      laid-stand [] (fieldsOf r) rest (small-append front (positions-field ∷ ratios-field ∷ []) (front-small (r .rate) (r .side) (length (r .positions))) (b .0, (b .1, tt)))
+  all = laid-stand [] (fieldsOf r) rest (fields-small r fit)
 
-  parts : StandAll s rateAt front × StandAll s (pastAll s rateAt front) (positions-field ∷ ratios-field ∷ [])
-  parts = stand-append s rateAt front (positions-field ∷ ratios-field ∷ []) all
+  parts : StandAll s rateAt front × StandAll s (pastAll s rateAt front) points-fields
+  parts = stand-append s rateAt front points-fields all
 
-  counts : length (r .positions) < 256 ^ 2
+  counts : length (r .positions) < 256 ^ countSize
   counts = omega (arith, fitting-few r fit)
 
   past : pastAll s rateAt front ≡ positionsAt s
   past = front-past s (r .rate) (r .side) (length (r .positions)) (fit .listed) (fit .sided) counts (parts .0)
 
-  later : StandAll s (positionsAt s) (positions-field ∷ ratios-field ∷ [])
-  later = subst (λ (p : ℕ). StandAll s p (positions-field ∷ ratios-field ∷ [])) past (parts .1)
+  later : StandAll s (positionsAt s) points-fields
+  later = subst (λ (p : ℕ). StandAll s p points-fields) past (parts .1)
 
-  pub positions-stand : FieldStands s (positionsAt s) positions-field
+  pub positions-stand : FieldStands s (positionsAt s) (positionsField (r .form) (r .positions))
   positions-stand = later .0
 
-  pub ratios-stand : FieldStands s (ratiosAt s) ratios-field
+  pub ratios-stand : FieldStands s (ratiosAt s) (ratiosField (r .ratios))
   ratios-stand = later .1 .0
 
   pub at-end : endAt s ≡ length (recordOf r)
   unfolding recordOf
   at-end =
-      ap (λ (p : ℕ). pastAll s p (positions-field ∷ ratios-field ∷ [])) (sym past) ∙ sym (past-append s rateAt front (positions-field ∷ ratios-field ∷ []))
+      ap (λ (p : ℕ). pastAll s p points-fields) (sym past) ∙ sym (past-append s rateAt front points-fields)
       ∙ stand-past s rateAt (fieldsOf r) all ∙ omega arith
 
   -- ---- what is read in them

@@ -14,12 +14,11 @@ use Rattle.limits.specs.Sides.{isSide}
 use Rattle.refusals.specs.Tests.{Test, test, firstOf, refused}
 use Rattle.outputs.specs.Outputs.{over}
 use Rattle.position_format.specs.declared.Form.{Form}
-use Rattle.position_format.specs.declared.Form.the-variants.{Old, Wide}
 use Rattle.position_format.specs.Positions.{readPositions}
 use Rattle.position_format.specs.Tables.{tableOf, pointsOf}
 use Rattle.ratio_format.specs.Bodies.{strictRatios}
 use Rattle.record_format.specs.Fields.{tagAt, bodyAt, nextAt, headTests, bodyTests, fieldTests}
-use Rattle.record_format.specs.Runs.{Run, rateTag, sideTag, countTag, positionsTag, formOf, ratiosTag, rateSize, sideSize, countSize, recordOf}
+use Rattle.record_format.specs.Runs.{Run, rateTag, sideTag, countTag, positionsTag, positionsTags, formOf, ratiosTag, rateSize, sideSize, countSize, recordOf}
 use Rattle.record_format.specs.Reading.{Answer, recordAnswer, answerBy, readTests, readWith, rateAt, sideAt, hasSide, countAt, endAt, rateIn, sideIn, countIn, formIn, positionsIn, ratiosIn, missing, otherRate, lacksRoom, contentsTests, rateTests, sideTests, countTests, frontTests, roomTests, manyTests, positionsTestsBy, ratiosTests}
 use Rattle.record_format.specs.Moves.{otherForm, inForm, runIn, sourceTests, targetTests, moveTests, Move, refusedMove, recordMove, moveOf}
 use Rattle.record_format.specs.Claims.{Followed, MoveFollowed}
@@ -175,7 +174,7 @@ module _ (k : ℕ → List ℕ → Option (List ℕ)) (e : ℕ) (s rest ts vs : 
   tests-same : readTests k e (s ++ rest) (length ts) (length vs) ≡ readTests k e s (length ts) (length vs)
   tests-same =
       ap₂ (λ (a b : List Test). a ++ b) front-tests
-      (ap₂ (λ (a b : List Test). a ++ b) room-tests (ap₂ (λ (a b : List Test). a ++ b) (positions-tests (positionsTag Old ∷ positionsTag Wide ∷ [])) ratios-tests))
+      (ap₂ (λ (a b : List Test). a ++ b) room-tests (ap₂ (λ (a b : List Test). a ++ b) (positions-tests positionsTags) ratios-tests))
 
   answer-same : recordAnswer k (s ++ rest) ts vs ≡ recordAnswer k s ts vs
   answer-same =

@@ -12,7 +12,7 @@ use lib.Dec.{ltb, lit<}
 use lib.ListN.{length, getD, length-append}
 use lib.Seq.{getD-append-add}
 use Rattle.lists.specs.Lists.{member}
-use Rattle.bits.specs.Digits.{bytesOf, numberOf}
+use Rattle.bits.specs.Digits.{numberOf}
 use Rattle.bits.proofs.Digits.{length-digits, number-digits-lt}
 use Rattle.limits.specs.Points.{maxPoints}
 use Rattle.limits.specs.Rates.{isRate}
@@ -21,18 +21,17 @@ use Rattle.limits.proofs.Rates.{rate-high}
 use Rattle.refusals.specs.Tests.{Test, test, firstOf}
 use Rattle.refusals.proofs.Tests.{first-skip}
 use Rattle.position_format.specs.declared.Form.{Form}
-use Rattle.position_format.specs.declared.Form.the-variants.{Old, Wide}
-use Rattle.position_format.specs.Positions.{codedPositions, validPositions, readPositions}
+use Rattle.position_format.specs.Positions.{validPositions, readPositions}
 use Rattle.position_format.specs.Tables.{tableOf, pointsOf}
 use Rattle.position_format.proofs.Positions.{read-coded}
 use Rattle.position_format.proofs.Tables.{table-good}
-use Rattle.record_format.specs.Fields.{Field, fieldOf, headSize, tagAt, bodyAt, nextAt}
-use Rattle.record_format.specs.Runs.{rateTag, countTag, positionsTag, formOf, rateSize, countSize, sideFields, sideLength, frontFields}
+use Rattle.record_format.specs.Fields.{Field, headSize, tagAt, bodyAt, nextAt}
+use Rattle.record_format.specs.Runs.{rateTag, countTag, positionsTags, formOf, rateSize, countSize, rateField, sideFields, sideLength, countField, positionsField, frontFields}
 use Rattle.record_format.specs.Reading.{rateAt, sideAt, countAt, positionsAt, rateIn, sideIn, countIn, formIn, positionsIn, missing, otherRate, lacksRoom, readTests, sideTests, countTests, frontTests, roomTests, positionsTests, ratiosTests}
 use Rattle.record_format.specs.WideClaims.{frontBytes}
-use Rattle.record_format.proofs.Fields.{FieldStands, StandAll, Small, length-field, laid-stand, pastAll, stand-past, small-append, stand-append, past-append}
+use Rattle.record_format.proofs.Fields.{FieldStands, StandAll, length-field, laid-stand, pastAll, stand-past, stand-append, past-append}
 use Rattle.record_format.proofs.Reading.{field-passes, positions-few, front-flat}
-use Rattle.record_format.proofs.Runs.{form-of, tag-good, length-side, side-small}
+use Rattle.record_format.proofs.Runs.{form-of, tag-good, length-side, front-small}
 use Rattle.record_format.proofs.Reading.Sides.{stand-count, stand-side, side-passes}
 
 -- a test before two lists that give the same
@@ -40,18 +39,11 @@ pub first-cong : (t : Test) (us ts : List Test) → firstOf us ≡ firstOf ts �
 unfolding firstOf
 first-cong t us ts e = ap (cond (t .applies) (record { number = t .number; place = t .place })) e
 
--- the bodies of the front are short
-pub front-small : (rate side count : ℕ) → Small (frontFields rate side count)
-front-small rate side count = (
-  omega (arith, length-digits 256 rateSize rate),
-  small-append (sideFields side) _ (side-small side) (omega (arith, length-digits 256 countSize count), tt),
-)
-
 -- ---- the front
 
-module _ (s : List ℕ) (rate side count : ℕ) (listed : isRate rate ≡ true) (sided : side ≤ maxSide) (counts : count < 256 ^ 2) (all : StandAll s rateAt (frontFields rate side count)) where
+module _ (s : List ℕ) (rate side count : ℕ) (listed : isRate rate ≡ true) (sided : side ≤ maxSide) (counts : count < 256 ^ countSize) (all : StandAll s rateAt (frontFields rate side count)) where
   abbrev count-field : Field
-  count-field = fieldOf countTag (bytesOf countSize count)
+  count-field = countField count
 
   abbrev sides : List Field
   sides = sideFields side
@@ -69,7 +61,7 @@ module _ (s : List ℕ) (rate side count : ℕ) (listed : isRate rate ≡ true) 
   pub count-at : countAt s ≡ headSize + rateSize + sideLength side
   count-at =
       sym past-sides ∙ stand-past s (sideAt s) sides (past-rate .0)
-      ∙ omega (arith, all .0 .next, length-side side, length-field (fieldOf rateTag (bytesOf rateSize rate)), length-digits 256 rateSize rate)
+      ∙ omega (arith, all .0 .next, length-side side, length-field (rateField rate), length-digits 256 rateSize rate)
 
   pub positions-at : positionsAt s ≡ countAt s + (headSize + countSize)
   positions-at = count-stands .next ∙ omega (arith, length-field count-field, length-digits 256 countSize count)
@@ -115,7 +107,7 @@ module _ (s : List ℕ) (rate side count : ℕ) (listed : isRate rate ≡ true) 
 
 -- ---- the front, laid, and then any bytes
 
-module _ (r d n : ℕ) (rest : List ℕ) (listed : isRate r ≡ true) (sided : d ≤ maxSide) (counts : n < 256 ^ 2) where
+module _ (r d n : ℕ) (rest : List ℕ) (listed : isRate r ≡ true) (sided : d ≤ maxSide) (counts : n < 256 ^ countSize) where
   abbrev pub input : List ℕ
   input = frontBytes r d n ++ rest
 
@@ -136,7 +128,7 @@ module _ (r d n : ℕ) (rest : List ℕ) (listed : isRate r ≡ true) (sided : d
 -- ---- the positions past it
 
 module _ (s : List ℕ) (f : Form) (ps : List ℕ) (few : length ps ≤ pointsOf f) (valid : validPositions (tableOf f) ps ≡ true) (counted : countIn s ≡ length ps)
-    (stands : FieldStands s (positionsAt s) (fieldOf (positionsTag f) (codedPositions (tableOf f) ps))) where
+    (stands : FieldStands s (positionsAt s) (positionsField f ps)) where
   pub form-is : formIn s ≡ f
   form-is = ap formOf (stands .tagged) ∙ form-of f
 
@@ -150,5 +142,5 @@ module _ (s : List ℕ) (f : Form) (ps : List ℕ) (few : length ps ≤ pointsOf
   unfolding member
   positions-pass ts =
       positions-few s ts (le-ltb _ _ (subst (λ (c : ℕ). c ≤ pointsOf (formIn s)) (sym counted) (subst (λ (x : Form). length ps ≤ pointsOf x) (sym form-is) few)))
-      ∙ field-passes stands (positionsTag Old ∷ positionsTag Wide ∷ []) none (test (missing (positionsIn s)) 17 (positionsAt s) ∷ ts) (tag-good f) tt
+      ∙ field-passes stands positionsTags none (test (missing (positionsIn s)) 17 (positionsAt s) ∷ ts) (tag-good f) tt
       ∙ first-skip _ _ (ap missing positions-are)

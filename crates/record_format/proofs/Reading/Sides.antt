@@ -22,6 +22,7 @@ use Rattle.record_format.specs.Fields.{Field, fieldOf, bodyAt, nextAt, f
 use Rattle.record_format.specs.Runs.{sideTag, countTag, sideSize, sideFields}
 use Rattle.record_format.specs.Reading.{sideAt, hasSide, countAt, sideIn, sideTests}
 use Rattle.record_format.proofs.Fields.{FieldStands, StandAll, Follow, pastAll, fieldIn}
+use Rattle.record_format.proofs.Runs.{sideIndex}
 use Rattle.record_format.proofs.Reading.{FieldSound, field-passes, field-clear, sound-follows, sound-number}
 
 -- ---- by whether it stands there
@@ -137,9 +138,9 @@ pub sides-same : (m n : ℕ) → m ≤ maxSide → n ≤ maxSide → (c d : Fiel
     → sideFields m ++ (c ∷ fs) ≡ sideFields n ++ (d ∷ gs) → (m ≡ n) × (_≡_ {A = List Field} (c ∷ fs) (d ∷ gs))
 sides-same zero zero a b c d fs gs x y e = (refl, e)
 sides-same zero (suc n) a b c d fs gs x y e =
-    let t : countTag ≡ sideTag = sym x ∙ ap (λ (l : List Field). fieldIn l 0 .tag) e in absurd (omega arith)
+    let t : countTag ≡ sideTag = sym x ∙ ap (λ (l : List Field). fieldIn l sideIndex .tag) e in absurd (omega arith)
 sides-same (suc m) zero a b c d fs gs x y e =
-    let t : sideTag ≡ countTag = ap (λ (l : List Field). fieldIn l 0 .tag) e ∙ y in absurd (omega arith)
+    let t : sideTag ≡ countTag = ap (λ (l : List Field). fieldIn l sideIndex .tag) e ∙ y in absurd (omega arith)
 sides-same (suc m) (suc n) a b c d fs gs x y e =
-    let t : bytesOf sideSize (suc m) ≡ bytesOf sideSize (suc n) = ap (λ (l : List Field). fieldIn l 0 .body) e in
+    let t : bytesOf sideSize (suc m) ≡ bytesOf sideSize (suc n) = ap (λ (l : List Field). fieldIn l sideIndex .body) e in
     (sym (number-digits-lt (lit< tt) sideSize (omega arith)) ∙ ap (numberOf 256) t ∙ number-digits-lt (lit< tt) sideSize (omega arith), ap (drop 1) e)

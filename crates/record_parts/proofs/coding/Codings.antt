@@ -16,11 +16,10 @@ use Rattle.refusals.specs.declared.Refusal.{Refusal}
 use Rattle.refusals.specs.Tests.{Test, test, firstOf}
 use Rattle.refusals.proofs.Tests.{first-here, first-skip, first-end}
 use Rattle.position_format.specs.declared.Form.{Form}
-use Rattle.position_format.specs.declared.Form.the-variants.{Old, Wide}
 use Rattle.position_format.specs.Positions.{readPositions}
 use Rattle.position_format.specs.Tables.{tableOf, pointsOf}
 use Rattle.record_format.specs.Fields.{headSize, tagAt, lengthAt, bodyAt, nextAt, headTests, fieldTests}
-use Rattle.record_format.specs.Runs.{positionsTag}
+use Rattle.record_format.specs.Runs.{positionsTags}
 use Rattle.record_format.specs.Reading.{missing, listOf, countAt, positionsAt, countIn, formIn, positionsTests}
 use Rattle.record_format.proofs.Reading.{refusal, positions-few, positions-many, many-tag}
 use Rattle.record_parts.specs.declared.field.Field.{Field}
@@ -101,9 +100,6 @@ head-cut s tags p us ts cut = first-here _ _ cut ∙ sym (first-here _ _ cut)
 
 -- ---- the positions' field, by whether its head is whole and its form has fewer points than the count
 
-abbrev pub positions-tags : List ℕ
-positions-tags = positionsTag Old ∷ positionsTag Wide ∷ []
-
 module _ (s : List ℕ) (form : Form) (count at : ℕ) (is : form ≡ formIn s) (here : at ≡ positionsAt s) (counted : count ≡ countIn s) (t : Bool)
     (et : t ≡ both (leb (at + headSize) (length s)) (ltb (pointsOf form) count)) where
   -- the same of what reading looks at
@@ -120,15 +116,15 @@ module _ (s : List ℕ) (form : Form) (count at : ℕ) (is : form ≡ formIn s) 
       ∙ positions-many s [] (leb-true _ _ (p .0)) (many-tag (tagAt s (positionsAt s)) (countIn s) (omega arith) (ltb-true _ _ (p .1))) (p .1)
 
   -- and else its tests are those of any field of coded numbers
-  pub many-passed : t ≡ false → firstOf (positionsTests s) ≡ firstOf (codedTests s positions-tags (readPositions (tableOf form) count) 17 at)
+  pub many-passed : t ≡ false → firstOf (positionsTests s) ≡ firstOf (codedTests s positionsTags (readPositions (tableOf form) count) 17 at)
   many-passed e =
       go (leb (positionsAt s + headSize) (length s)) refl
-      ∙ ap₂ (λ (p c : ℕ). firstOf (codedTests s positions-tags (readPositions (tableOf (formIn s)) c) 17 p)) (sym here) (sym counted)
-      ∙ ap (λ (f : Form). firstOf (codedTests s positions-tags (readPositions (tableOf f) count) 17 at)) (sym is)
+      ∙ ap₂ (λ (p c : ℕ). firstOf (codedTests s positionsTags (readPositions (tableOf (formIn s)) c) 17 p)) (sym here) (sym counted)
+      ∙ ap (λ (f : Form). firstOf (codedTests s positionsTags (readPositions (tableOf f) count) 17 at)) (sym is)
     where
       go : (b : Bool) → leb (positionsAt s + headSize) (length s) ≡ b
-          → firstOf (positionsTests s) ≡ firstOf (codedTests s positions-tags (readPositions (tableOf (formIn s)) (countIn s)) 17 (positionsAt s))
+          → firstOf (positionsTests s) ≡ firstOf (codedTests s positionsTags (readPositions (tableOf (formIn s)) (countIn s)) 17 (positionsAt s))
       go true q = positions-few s [] (ap (λ (b : Bool). both b (ltb (pointsOf (formIn s)) (countIn s))) (sym q) ∙ tested ∙ e)
       go false q =
           let cut : ltb (length s) (positionsAt s + headSize) ≡ true = lt-ltb (length s) (positionsAt s + headSize) (leb-false (positionsAt s + headSize) (length s) q) in
-          head-cut s positions-tags (positionsAt s) _ _ cut
+          head-cut s positionsTags (positionsAt s) _ _ cut

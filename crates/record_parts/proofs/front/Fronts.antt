@@ -4,7 +4,7 @@ use mathlib.Core.Path.{_≡_, refl, sym, ap, _∙_, subst}
 use mathlib.Core.Bool.{true, false, not}
 use mathlib.Core.List.{List, [], _∷_, _++_}
 use mathlib.Core.Option.{some}
-use Prim.Native.Nat.{ℕ, _+_, _*_, _^_, _≤_, _<_}
+use Prim.Native.Nat.{ℕ, _+_, _^_, _≤_, _<_}
 use native.Mathlib.Omega.{arith}
 use borrow.Author.Tests.{ltb-false, le-ltb, lt-ltb}
 use lib.Dec.{ltb, lit<}
@@ -25,7 +25,7 @@ use Rattle.record_format.proofs.Reading.Sides.{absent-count, absent-side, absen
 use Rattle.record_parts.specs.declared.field.Field.{Field}
 use Rattle.record_parts.specs.declared.front.Number.{Number}
 use Rattle.record_parts.specs.declared.front.Front.{Front}
-use Rattle.record_parts.specs.Fields.{longestField, PartRead, FieldRead, NumberRead, SideRead, CountFound, FrontRead}
+use Rattle.record_parts.specs.Fields.{farthest, PartRead, FieldRead, NumberRead, SideRead, CountFound, FrontRead}
 use Rattle.record_parts.proofs.Fields.{part-refused, part-first, part-then, part-both, field-numbered, number-is}
 
 -- ---- a number
@@ -240,6 +240,6 @@ module _ (e : ℕ) (s : List ℕ) (f : Number) (h : NumberRead rateSize (rateTes
           }
 
 -- the count's field begins before it ends
-pub place-near : {s : List ℕ} {count place at : ℕ} → CountFound s count place at → place ≤ 3 * longestField
+pub place-near : {s : List ℕ} {count place at : ℕ} → CountFound s count place at → place ≤ farthest 3
 unfolding nextAt
 place-near h = omega (arith, h .stands, h .near)

@@ -2,7 +2,7 @@
 use mathlib.Core.Path.{_≡_, refl, sym, ap, ap₂, _∙_}
 use mathlib.Core.List.{List, _++_}
 use mathlib.Core.Option.{Option}
-use Prim.Native.Nat.{ℕ, _+_, _*_, _≤_}
+use Prim.Native.Nat.{ℕ, _+_, _≤_}
 use native.Mathlib.Omega.{arith}
 use lib.ListN.{length}
 use Rattle.outputs.specs.Outputs.{over}
@@ -16,7 +16,7 @@ use Rattle.record_format.specs.Fields.{bodyAt, nextAt}
 use Rattle.record_format.specs.Reading.{positionsAt, ratiosAt, endAt, countIn, formIn, listOf, positionsTests, ratiosTests}
 use Rattle.record_parts.specs.declared.coding.Part.{Part}
 use Rattle.record_parts.specs.declared.points.Points.{Points}
-use Rattle.record_parts.specs.Fields.{longestField, PartRead, CountFound, CodedRead, PointsRead}
+use Rattle.record_parts.specs.Fields.{farthest, PartRead, CountFound, CodedRead, PointsRead}
 
 -- a part that is not refused: its tests refuse nothing
 part-clear : {tests : List Test} {s : List ℕ} {p : ℕ} {f : Refusal} {e : ℕ} → PartRead tests s p f e → f .number ≡ 0 → firstOf tests .number ≡ 0
@@ -53,7 +53,7 @@ module _ (k : ℕ → List ℕ → Option (List ℕ)) (s ts vs : List ℕ) {c pl
     pub ratios-inside : g .end ≤ length s
     ratios-inside = omega (arith, i .part .next good, i .part .inside good)
 
-    pub ratios-near : g .end ≤ 4 * longestField
+    pub ratios-near : g .end ≤ farthest 4
     ratios-near = omega (arith, i .part .next good, i .part .near good, h .next, h .near)
 
     past-positions : firstOf (positionsTests s ++ ratiosTests k s) ≡ firstOf (ratiosTests k s)

@@ -1,13 +1,13 @@
 -- Laws of a record as it is written: a head, a field, and fields after others, put at the front of an output.
 use mathlib.Core.Path.{_≡_, refl, sym, ap, ap₂, _∙_, subst}
-use mathlib.Core.List.{List, [], _∷_, _++_, append-assoc}
+use mathlib.Core.List.{List, [], _∷_, _++_, append-assoc, append-nil}
 use Prim.Native.Nat.{ℕ, zero, suc, _+_, _-_, _≤_, _<_}
 use native.Mathlib.Omega.{arith}
-use lib.ListN.{length, take, drop, set, length-append, length-drop}
+use lib.ListN.{length, take, drop, length-drop}
 use lib.Seq.{take-at, drop-at, drop-drop, length-take-le}
 use borrow.Rule.Slice.PartMut.{putMid}
 use Rattle.bits.specs.Digits.{bytesOf}
-use Rattle.outputs.specs.Outputs.{over, overAt, Placed}
+use Rattle.outputs.specs.Outputs.{over, overAt, Placed, Next}
 use Rattle.bits.proofs.Digits.{length-digits}
 use Rattle.outputs.proofs.Outputs.Parts.{rest-is, put-rest}
 use Rattle.outputs.specs.declared.Wrote.{Wrote}
@@ -18,16 +18,19 @@ use Rattle.record_format.proofs.Fields.{length-field, length-laid, laid-append,
 
 -- ---- a head, and a field of a number
 
-pub head-on : (o bs : List ℕ) (tag : ℕ) → headSize ≤ length o → overAt (set o 0 tag) 1 2 bs ≡ tag ∷ (bs ++ drop headSize o)
-head-on [] bs tag h = absurd (omega arith)
-head-on (x ∷ o) bs tag h = refl
+-- a tag, and the length of a body of n bytes
+abbrev head-of : ℕ → ℕ → List ℕ
+head-of tag n = tag ∷ bytesOf 2 n
 
-module _ (o p q : List ℕ) (tag n x : ℕ) (h : p ≡ tag ∷ (bytesOf 2 n ++ drop headSize o)) (g : q ≡ overAt p headSize n (bytesOf n x)) where
-  abbrev lead : List ℕ
-  lead = tag ∷ bytesOf 2 n
+length-head : (tag n : ℕ) → length (head-of tag n) ≡ headSize
+length-head tag n = ap suc (length-digits 256 2 n)
 
-  led : length lead ≡ headSize
-  led = ap suc (length-digits 256 2 n)
+over-head : (tag n : ℕ) (o : List ℕ) → over (head-of tag n) o ≡ head-of tag n ++ drop headSize o
+over-head tag n o = ap (λ (k : ℕ). head-of tag n ++ drop k o) (length-head tag n)
+
+module _ (o p q : List ℕ) (tag n x : ℕ) (h : p ≡ over (tag ∷ bytesOf 2 n) o) (g : q ≡ overAt p headSize n (bytesOf n x)) where
+  headed : p ≡ head-of tag n ++ drop headSize o
+  headed = h ∙ over-head tag n o
 
   -- the body after the head
   pub number-on : q ≡ over (fieldBytes (fieldOf tag (bytesOf n x))) o
@@ -37,8 +40,8 @@ module _ (o p q : List ℕ) (tag n x : ℕ) (h : p ≡ tag ∷ (bytesOf 2 n ++ d
       let f : length (fieldBytes (fieldOf tag (bytesOf n x))) ≡ headSize + n = length-field (fieldOf tag (bytesOf n x)) ∙ ap (λ (k : ℕ). headSize + k) l in
       g
       ∙ ap₂ (λ (a b : List ℕ). a ++ (bytesOf n x ++ b))
-      (ap (take headSize) h ∙ take-at lead (drop headSize o) headSize led)
-      (ap (drop (headSize + n)) h ∙ sym (drop-drop n headSize (lead ++ drop headSize o)) ∙ ap (drop n) (drop-at lead (drop headSize o) headSize led) ∙ drop-drop n headSize o)
+      (ap (take headSize) headed ∙ take-at (head-of tag n) (drop headSize o) headSize (length-head tag n))
+      (ap (drop (headSize + n)) headed ∙ sym (drop-drop n headSize (head-of tag n ++ drop headSize o)) ∙ ap (drop n) (drop-at (head-of tag n) (drop headSize o) headSize (length-head tag n)) ∙ drop-drop n headSize o)
       ∙ ap₂ (λ (k m : ℕ). tag ∷ (bytesOf 2 k ++ (bytesOf n x ++ drop m o))) (sym l) (sym f)
       ∙ sym (append-assoc (tag ∷ bytesOf 2 (length (bytesOf n x))) (bytesOf n x) (drop (length (fieldBytes (fieldOf tag (bytesOf n x)))) o))
 
@@ -74,7 +77,7 @@ module _ (tag : ℕ) (body o q : List ℕ) (w : Wrote) (h : headSize ≤ length 
     pub field-fits : n + headSize ≤ length o
     field-fits = omega (arith, body-done .0, body-done .1, length-drop headSize o)
 
-    pub field-done : (r : List ℕ) (t : ℕ) → t ≡ tag → r ≡ t ∷ (bytesOf 2 n ++ drop headSize (putMid headSize (length o - headSize) o q)) → Placed (laid (fieldOf tag body ∷ [])) (Done (n + headSize)) o r
+    pub field-done : (r : List ℕ) (t : ℕ) → t ≡ tag → r ≡ over (t ∷ bytesOf 2 n) (putMid headSize (length o - headSize) o q) → Placed (laid (fieldOf tag body ∷ [])) (Done (n + headSize)) o r
     unfolding fieldBytes
     field-done r t tagged g =
         let f : headSize + length body ≡ length (fieldBytes (fieldOf tag body)) = sym (length-field (fieldOf tag body)) in
@@ -82,6 +85,7 @@ module _ (tag : ℕ) (body o q : List ℕ) (w : Wrote) (h : headSize ≤ length 
           omega (arith, body-done .0, f),
           omega (arith, field-fits, body-done .0, f),
           g
+              ∙ over-head t n (putMid headSize (length o - headSize) o q)
               ∙ ap (λ (x : ℕ). x ∷ (bytesOf 2 n ++ drop headSize (putMid headSize (length o - headSize) o q))) tagged
               ∙ ap (λ (l : List ℕ). tag ∷ (bytesOf 2 n ++ l))
               (ap (drop headSize) (put-rest headSize o q) ∙ drop-at (take headSize o) q headSize (length-take-le headSize o h) ∙ body-done .2 ∙ ap (λ (l : List ℕ). body ++ l) (drop-drop (length body) headSize o))
@@ -89,97 +93,20 @@ module _ (tag : ℕ) (body o q : List ℕ) (w : Wrote) (h : headSize ≤ length 
               ∙ sym (append-assoc (tag ∷ bytesOf 2 (length body)) body (drop (length (fieldBytes (fieldOf tag body))) o)),
         )
 
--- ---- bytes, and then more bytes in the rest, by what their writer answers
+-- ---- fields, and then more fields in the rest
 
-module _ (xs ys o p : List ℕ) (n : ℕ) (done : Placed xs (Done n) o p) where
-  -- an output keeps its length
-  same : length p ≡ length o
-  same = ap length (done .2) ∙ length-append xs (drop (length xs) o) ∙ omega (arith, length-drop (length xs) o, done .1)
-
-  pub rest-left : n ≤ length p
-  rest-left = omega (arith, done .0, done .1, same)
-
-  rest-now : take (length p - n) (drop n p) ≡ drop n o
-  rest-now = rest-is n p ∙ ap (drop n) (done .2) ∙ drop-at xs (drop (length xs) o) n (sym (done .0)) ∙ ap (λ (k : ℕ). drop k o) (sym (done .0))
-
-  module _ (q : List ℕ) (w : Wrote) (put : Placed ys w (take (length p - n) (drop n p)) q) where
-    in-rest : Placed ys w (drop n o) q
-    in-rest = subst (λ (l : List ℕ). Placed ys w l q) rest-now put
-
-    pub then-none : w ≡ NoRoom → length o < length (xs ++ ys)
-    then-none e =
-        let h : Placed ys NoRoom (drop n o) q = subst (λ (x : Wrote). Placed ys x (drop n o) q) e in-rest in
-        omega (arith, length-append xs ys, length-drop n o, done .0, rest-left, same)
-
-    module _ (m : ℕ) (e : w ≡ Done m) where
-      in-done : Placed ys (Done m) (drop n o) q
-      in-done = subst (λ (x : Wrote). Placed ys x (drop n o) q) e in-rest
-
-      pub then-fits : n + m ≤ length o
-      then-fits = omega (arith, in-done .0, in-done .1, length-drop n o, rest-left, same)
-
-      pub then-done : Placed (xs ++ ys) (Done (n + m)) o (putMid n (length p - n) p q)
-      then-done =
-          let h : n + length ys ≡ length (xs ++ ys) = omega (arith, length-append xs ys, done .0) in (
-            omega (arith, in-done .0, h),
-            omega (arith, then-fits, in-done .0, h),
-            put-rest n p q
-                ∙ ap₂ (λ (a b : List ℕ). a ++ b) (ap (take n) (done .2) ∙ take-at xs (drop (length xs) o) n (sym (done .0)))
-                (in-done .2 ∙ ap (λ (l : List ℕ). ys ++ l) (drop-drop (length ys) n o))
-                ∙ sym (append-assoc xs ys (drop (n + length ys) o))
-                ∙ ap (λ (k : ℕ). (xs ++ ys) ++ drop k o) h,
-          )
-
--- ---- the same of fields
-
--- too long for the first is too long for all
-pub first-none : (fs gs all : List Field) → all ≡ fs ++ gs → (o p : List ℕ) (w : Wrote) → Placed (laid fs) w o p → w ≡ NoRoom → length o < length (laid all)
-first-none fs gs all is o p w put e =
-    let h : Placed (laid fs) NoRoom o p = subst (λ (x : Wrote). Placed (laid fs) x o p) e put in
-    omega (arith, ap length (ap laid is ∙ laid-append fs gs), length-append (laid fs) (laid gs))
-
-pub first-done : (fs : List Field) (o p : List ℕ) (w : Wrote) (n : ℕ) → Placed (laid fs) w o p → w ≡ Done n → Placed (laid fs) (Done n) o p
-first-done fs o p w n put e = subst (λ (x : Wrote). Placed (laid fs) x o p) e put
-
-module _ (fs gs : List Field) (o p : List ℕ) (n : ℕ) (done : Placed (laid fs) (Done n) o p) where
-  pub room-left : n ≤ length p
-  room-left = rest-left (laid fs) (laid gs) o p n done
-
-  module _ (q : List ℕ) (w : Wrote) (put : Placed (laid gs) w (take (length p - n) (drop n p)) q) where
-    pub more-none : (hs all : List Field) → all ≡ fs ++ (gs ++ hs) → w ≡ NoRoom → length o < length (laid all)
-    more-none hs all is e =
-        let l : length (laid all) ≡ length (laid fs ++ laid gs) + length (laid hs) =
-        ap length (ap laid is ∙ laid-append fs (gs ++ hs) ∙ ap (λ (x : List ℕ). laid fs ++ x) (laid-append gs hs) ∙ sym (append-assoc (laid fs) (laid gs) (laid hs)))
-        ∙ length-append (laid fs ++ laid gs) (laid hs) in
-        omega (arith, then-none (laid fs) (laid gs) o p n done q w put e)
-
-    module _ (m : ℕ) (e : w ≡ Done m) where
-      pub more-fits : n + m ≤ length o
-      more-fits = then-fits (laid fs) (laid gs) o p n done q w put m e
-
-      pub more-done : (all : List Field) → all ≡ fs ++ gs → Placed (laid all) (Done (n + m)) o (putMid n (length p - n) p q)
-      more-done all is =
-          subst (λ (l : List ℕ). Placed l (Done (n + m)) o (putMid n (length p - n) p q)) (sym (ap laid is ∙ laid-append fs gs))
-          (then-done (laid fs) (laid gs) o p n done q w put m e)
+pub fields-next : (fs gs all : List Field) → all ≡ fs ++ gs → (w v : Wrote) (o p q : List ℕ) → Next (laid gs) w v p q → Placed (laid fs) w o p → Placed (laid all) v o q
+fields-next fs gs all is w v o p q next put = subst (λ (l : List ℕ). Placed l v o q) (sym (ap laid is ∙ laid-append fs gs)) (next (laid fs) o put)
 
 -- ---- the side's field, if there is one
 
 -- no side takes no byte
-pub side-none : (o : List ℕ) → Placed (laid (sideFields 0)) (Done 0) o o
+pub side-none : (n : ℕ) → n ≡ 0 → (w : Wrote) (p : List ℕ) → Next (laid (sideFields n)) w w p p
 unfolding laid
-side-none o = (refl, omega arith, refl)
+side-none zero e w p xs o put = subst (λ (l : List ℕ). Placed l w o p) (sym (append-nil xs)) put
+side-none (suc n) e w p xs o put = absurd (omega arith)
 
 -- any other is one field
 pub side-one : (n : ℕ) → (n ≡ 0 → ⊥) → sideFields n ≡ fieldOf sideTag (bytesOf sideSize n) ∷ []
 side-one zero d = absurd (d refl)
 side-one (suc n) d = refl
-
--- ---- what an answer of a writer says
-
-module _ (bs o p : List ℕ) (w : Wrote) (put : Placed bs w o p) where
-  pub short-of : w ≡ NoRoom → length o < length bs
-  short-of e = subst (λ (x : Wrote). Placed bs x o p) e put
-
-  module _ (n : ℕ) (e : w ≡ Done n) where
-    pub wrote-all : (n ≡ length bs) × (length bs ≤ length o) × (p ≡ over bs o)
-    wrote-all = subst (λ (x : Wrote). Placed bs x o p) e put

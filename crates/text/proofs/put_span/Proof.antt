@@ -1,14 +1,27 @@
--- `text::put_span` meets its contract: three texts, one after the other.
+-- `text::put_span` meets its contract: the word, the number, and the line's end.
 use mathlib.Core.Path.{ap}
 use native.Mathlib.Omega.{arith}
-use borrow.Author.Needs.{needs}
 use mir.Syntax.{w64}
 use mir.ValLaws.{toZ-ofZ}
 use Rattle.text.specs.Lines.{spanLine}
 use Rattle.text.specs.Numbers.{signed}
 use Rattle.text.proofs.PlacedAt.{put-same, put-put}
+use borrow.Author.Needs.{needs}
 use Rattle.text.proofs.put_span.Statement.{statement}
 use Rattle.text.proofs.put_span.Tie as tie
+
+-- ---- places
+
+abbrev number : tie.After-put-newline → tie.After-put-signed
+number k = k .before .before .before .before
+
+abbrev word : tie.After-put-signed → tie.After-put-text
+word k = k .before .before .before .before
+
+abbrev start : tie.After-put-text → tie.Start
+start k = k .before .before .before .before
+
+-- ---- the needs
 
 slice-aggregate-put-text : tie.Need-slice-aggregate-put-text
 slice-aggregate-put-text c = search needs
@@ -19,11 +32,8 @@ put-text-requires c κs = search needs
 put-signed-requires : tie.Need-put-signed-requires
 put-signed-requires c κs = search needs
 
-slice-aggregate-put-text-2 : tie.Need-slice-aggregate-put-text-2
-slice-aggregate-put-text-2 c = search needs
-
-put-text-requires-2 : tie.Need-put-text-requires-2
-put-text-requires-2 c κs = search needs
+put-newline-requires : tie.Need-put-newline-requires
+put-newline-requires c κs = search needs
 
 same-length : tie.Need-same-length
 same-length c = search needs
@@ -31,12 +41,11 @@ same-length c = search needs
 returns : tie.Need-returns
 unfolding spanLine
 returns c =
-    let newline = c .before .before in
-    let number = let lent = newline .before .before in lent .before .before .before in
-    let word = number .before .before .before .before in
-    let start = word .before .before .before .before in
-    put-put (omega arith) (word .put-text .ensures)
-    (put-put (omega arith) (put-same (ap signed (toZ-ofZ w64 (start .args .span) (start .fits .span))) (number .put-signed .ensures)) (newline .put-text2 .ensures))
+    let end = c .before .before in
+    let signed-put = number end in
+    let s = start (word signed-put) in
+    put-put (omega arith) (word signed-put .put-text .ensures)
+    (put-put (omega arith) (put-same (ap signed (toZ-ofZ w64 (s .args .span) (s .fits .span))) (signed-put .put-signed .ensures)) (end .put-newline .ensures))
 
 pub put-span-spec : {M : Type 1} → statement M
 put-span-spec =
@@ -45,7 +54,6 @@ put-span-spec =
     slice-aggregate-put-text
     put-text-requires
     put-signed-requires
-    slice-aggregate-put-text-2
-    put-text-requires-2
+    put-newline-requires
     same-length
     returns)

@@ -10,7 +10,7 @@ use Rattle.limits.specs.Points.{maxPoints}
 use Rattle.refusals.specs.Tests.{firstOf}
 use Rattle.ratio_format.specs.declared.Live.{Live}
 use Rattle.ratio_format.specs.Windows.{windowSize}
-use Rattle.ratio_format.specs.Forms.{coded}
+use Rattle.ratio_format.specs.RatioForms.{coded}
 use Rattle.ratio_format.specs.Lives.{badLive, stateTests}
 use Rattle.ratio_format.proofs.Lives.{good-fill, good-live, state-passed}
 use Rattle.live.specs.States.{liveOf}

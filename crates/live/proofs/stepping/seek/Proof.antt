@@ -10,7 +10,7 @@ use lib.Seq.{length-take-le}
 use Rattle.outputs.proofs.Outputs.Parts.{rest-is}
 use Rattle.ratio_format.specs.declared.Cursor.{Cursor}
 use Rattle.ratio_format.specs.Windows.{windowSize, held}
-use Rattle.ratio_format.specs.Open.{strictRead}
+use Rattle.ratio_format.specs.Open.{strictOne}
 use Rattle.ratio_format.specs.Stepping.{badCursor, nextRead}
 use Rattle.ratio_format.proofs.Lives.{good-fill}
 use Rattle.ratio_format.proofs.Stepping.{Good, good-cursor, left-bad, left-end, left-over, left-no, left-ratio}
@@ -23,7 +23,7 @@ use Rattle.live.proofs.stepping.seek.Tie as tie
 abbrev start : tie.After-bad-state → tie.Start
 start c = c .before .before .before
 
-abbrev tested : tie.After-read-strict → tie.Else2
+abbrev tested : tie.After-read-one-strict → tie.Else2
 tested c = c .before .before .before
 
 -- the body and the reader's state
@@ -82,26 +82,26 @@ returns-3 c =
     let s = d .before in
     is-none (body s) (state s) (c .nothing3 .result) 18 (c .nothing3 .ensures) (left-over (body s) (state s) (not-bad d) (c .before .before .if2 .taken) (c .before .if3 .left))
 
-slice-aggregate-read-strict : tie.Need-slice-aggregate-read-strict
-slice-aggregate-read-strict c = sym (part (c .before .before))
+slice-aggregate-read-one-strict : tie.Need-slice-aggregate-read-one-strict
+slice-aggregate-read-one-strict c = sym (part (c .before .before))
 
-sub-read-strict : tie.Need-sub-read-strict
-sub-read-strict c = good (c .before .before) .place
+sub-read-one-strict : tie.Need-sub-read-one-strict
+sub-read-one-strict c = good (c .before .before) .place
 
-part-read-strict-start : tie.Need-part-read-strict-start
-part-read-strict-start c = good (c .before .before) .place
+part-read-one-strict-start : tie.Need-part-read-one-strict-start
+part-read-one-strict-start c = good (c .before .before) .place
 
-part-read-strict-end : tie.Need-part-read-strict-end
-part-read-strict-end c = search needs
+part-read-one-strict-end : tie.Need-part-read-one-strict-end
+part-read-one-strict-end c = search needs
 
-read-strict-requires : tie.Need-read-strict-requires
-read-strict-requires c κs = let d = c .before .before .before in omega (arith, fits d, part d)
+read-one-strict-requires : tie.Need-read-one-strict-requires
+read-one-strict-requires c κs = let d = c .before .before .before in omega (arith, fits d, part d)
 
 -- what was read
-reads : (c : tie.After-read-strict) → let s = tested c .before .before in nextRead (body s) (state s) ≡ c .read-strict .result
+reads : (c : tie.After-read-one-strict) → let s = tested c .before .before in nextRead (body s) (state s) ≡ c .read-one-strict .result
 reads c =
     let s = tested c .before .before in
-    sym (c .read-strict .ensures ∙ ap (strictRead (held (state s .window))) (rest-is (start s .args .place) (body s)))
+    sym (c .read-one-strict .ensures ∙ ap (strictOne (held (state s .window))) (rest-is (start s .args .place) (body s)))
 
 enum-known-read : tie.Need-enum-known-read
 enum-known-read c = search needs
@@ -138,11 +138,11 @@ seek-spec =
     returns-2
     nothing-requires-3
     returns-3
-    slice-aggregate-read-strict
-    sub-read-strict
-    part-read-strict-start
-    part-read-strict-end
-    read-strict-requires
+    slice-aggregate-read-one-strict
+    sub-read-one-strict
+    part-read-one-strict-start
+    part-read-one-strict-end
+    read-one-strict-requires
     enum-known-read
     enum-told
     nothing-requires-4

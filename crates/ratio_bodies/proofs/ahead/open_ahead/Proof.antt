@@ -6,6 +6,7 @@ use native.Mathlib.Omega.{arith}
 use borrow.Author.Needs.{needs}
 use lib.ListN.{length, getD, take, drop}
 use lib.Seq.{drop-drop}
+use Rattle.ratio_format.specs.RatioForms.{xorByte}
 use Rattle.ratio_format.specs.Open.{openXor}
 use Rattle.ratio_format.specs.Windows.{windowSize, windowOf}
 use Rattle.ratio_bodies.proofs.ahead.FirstByte.{rest-first, ahead-some, ahead-exception, place-far, place-past, place-reference, place-xor}
@@ -82,7 +83,7 @@ shared-slice-read-u c = search needs
 
 -- the ratio at the place
 abbrev u : tie.After-shared-slice-known3 → ℕ
-u r = getD (rs r) (i r - 1 - b r % 128) 0
+u r = getD (rs r) (i r - 1 - b r % xorByte) 0
 
 returns-4 : tie.Need-returns-4
 returns-4 c =

@@ -7,6 +7,7 @@ use lib.ListN.{getD, drop, length-drop}
 use Rattle.ratio_bodies.proofs.ahead.FirstByte.{rest-first, place-reference}
 use Rattle.ratio_bodies.proofs.ahead.open_near.Statement.{statement}
 use Rattle.ratio_bodies.proofs.ahead.open_near.Tie as tie
+use Rattle.ratio_format.specs.RatioForms.{xorByte}
 
 shared-slice-read-b : tie.Need-shared-slice-read-b
 shared-slice-read-b c = search needs
@@ -32,7 +33,7 @@ returns c =
     let start = filled .before .before .before in
     let a = start .args in
     let b = getD (a .body .now) (a .at) 0 in
-    let m : b % 128 ≡ b = omega arith in
+    let m : b % xorByte ≡ b = omega arith in
     place-reference (a .ratios .now) (a .i) (start .pre .0) (drop (a .at) (a .body .now)) b (rest-first (a .at) (a .body .now))
     (λ e. omega (arith, length-drop (a .at) (a .body .now), filled .if1 .taken)) (omega arith) (λ e. omega arith)
     (getD (a .ratios .now) (a .i - 1 - b) 0) (omega arith) (λ e. omega arith) (ap (λ (k : ℕ). getD (a .ratios .now) (a .i - 1 - k) 0) (sym m)) (omega arith)

@@ -47,20 +47,20 @@ find-requires c κs =
     let d = c .before .before .before in
     (omega arith, d .pre .0, d .pre .1 (c .if1 .left))
 
-mul-form-of : tie.Need-mul-form-of
-mul-form-of c = search needs
+mul-ratio-form-of : tie.Need-mul-ratio-form-of
+mul-ratio-form-of c = search needs
 
-sub-form-of : tie.Need-sub-form-of
-sub-form-of c = search needs
+sub-ratio-form-of : tie.Need-sub-ratio-form-of
+sub-ratio-form-of c = search needs
 
-part-form-of-start : tie.Need-part-form-of-start
-part-form-of-start c = search needs
+part-ratio-form-of-start : tie.Need-part-ratio-form-of-start
+part-ratio-form-of-start c = search needs
 
-part-form-of-end : tie.Need-part-form-of-end
-part-form-of-end c = search needs
+part-ratio-form-of-end : tie.Need-part-ratio-form-of-end
+part-ratio-form-of-end c = search needs
 
-form-of-requires : tie.Need-form-of-requires
-form-of-requires c κs =
+ratio-form-of-requires : tie.Need-ratio-form-of-requires
+ratio-form-of-requires c κs =
     let from = c .before .before .before in
     let b = c .before .find in
     subst (λ (w : List ℕ). Searched (from .before .before .args .v) w (b .result .place) (b .result .sum)) (sym (part from)) (b .ensures)
@@ -68,7 +68,7 @@ form-of-requires c κs =
 returns-2 : tie.Need-returns-2
 returns-2 c =
     let from = c .before .before .before .before in
-    c .form-of .ensures ∙ ap (ratioForm (from .before .before .args .v)) (part from)
+    c .ratio-form-of .ensures ∙ ap (ratioForm (from .before .before .args .v)) (part from)
 
 pub choose-nth-spec : {M : Type 1} → statement M
 choose-nth-spec =
@@ -82,9 +82,9 @@ choose-nth-spec =
     choose-requires
     returns
     find-requires
-    mul-form-of
-    sub-form-of
-    part-form-of-start
-    part-form-of-end
-    form-of-requires
+    mul-ratio-form-of
+    sub-ratio-form-of
+    part-ratio-form-of-start
+    part-ratio-form-of-end
+    ratio-form-of-requires
     returns-2)

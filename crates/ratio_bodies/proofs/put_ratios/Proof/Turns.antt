@@ -10,7 +10,7 @@ use Rattle.outputs.specs.declared.Wrote.{Wrote}
 use Rattle.outputs.specs.declared.Wrote.the-variants.{Done, NoRoom}
 use Rattle.outputs.specs.Outputs.{over, Placed}
 use Rattle.ratio_format.specs.Windows.{windowSize, windowOf}
-use Rattle.ratio_format.specs.Forms.{coded}
+use Rattle.ratio_format.specs.RatioForms.{coded}
 use Rattle.ratio_format.specs.Bodies.{codedFrom, codedRatios}
 use Rattle.ratio_format.proofs.Bodies.{coded-more, coded-room}
 use Rattle.outputs.proofs.Outputs.Parts.{rest-is, put-rest}

@@ -14,7 +14,7 @@ use Rattle.ratio_format.specs.Windows.{windowSize, windowOf}
 use Rattle.ratio_format.specs.Choice.{find}
 use Rattle.ratio_format.proofs.Windows.{window-few}
 use Rattle.ratio_format.proofs.Windows.Before.{window-inside}
-use Rattle.ratio_codec.specs.Heads.{formHead}
+use Rattle.ratio_codec.specs.Heads.{ratioFormHead}
 use Rattle.ratio_codec.proofs.write.Chosen.{window-fit}
 use Rattle.ratio_codec.proofs.Heads.{head-decides}
 use Rattle.ratio_codec.proofs.read.References.{Named, named-one, named-begins}
@@ -85,7 +85,7 @@ returns-2 c =
     let k = chosen .before .before .shared-slice-known2 in
     let start = chosen .before .before .before .before in
     let a = start .args in
-    c .has-head .ensures ∙ ap₂ (λ (x : RatioForm) (s : List ℕ). begins (formHead x) s) (f .ensures) (rest-is (a .at) (a .body .now))
+    c .has-head .ensures ∙ ap₂ (λ (x : RatioForm) (s : List ℕ). begins (ratioFormHead x) s) (f .ensures) (rest-is (a .at) (a .body .now))
     ∙ sym (head-decides (a .v) (a .n) (window start) (window-few windowSize (take (a .i) (a .ratios .now)) .0) (rest start)
     (below-drop 256 (a .at) (a .body .now) (below-of 256 (a .body .now) (λ i. k .given i .fits))) (start .pre .3))
 

@@ -5,8 +5,8 @@ use native.Mathlib.Omega.{arith}
 use Rattle.lists.specs.Compare.{begins}
 use Rattle.ratio_format.specs.declared.RatioForm.{RatioForm}
 use Rattle.ratio_format.specs.Windows.{windowSize}
-use Rattle.ratio_format.specs.Forms.{Fit}
-use Rattle.ratio_codec.specs.Heads.{formHead}
+use Rattle.ratio_format.specs.RatioForms.{Fit}
+use Rattle.ratio_codec.specs.Heads.{ratioFormHead}
 use borrow.Author.Needs.{needs}
 use Rattle.ratio_codec.proofs.read.has_head.Statement.{statement}
 use Rattle.ratio_codec.proofs.read.has_head.Tie as tie
@@ -46,18 +46,18 @@ returns : tie.Need-returns
 returns c =
     let known = c .before .before in
     let a = known .before .before .before .args in
-    c .has-one .ensures ∙ ap (λ (f : RatioForm). begins (formHead f) (a .s .now)) (sym (known .f .given .1))
+    c .has-one .ensures ∙ ap (λ (f : RatioForm). begins (ratioFormHead f) (a .s .now)) (sym (known .f .given .1))
 
 returns-2 : tie.Need-returns-2
 returns-2 c =
     let known = c .before .before in
     let a = known .before .before .before .args in
-    c .has-two .ensures ∙ ap (λ (f : RatioForm). begins (formHead f) (a .s .now)) (sym (known .f2 .given .1))
+    c .has-two .ensures ∙ ap (λ (f : RatioForm). begins (ratioFormHead f) (a .s .now)) (sym (known .f2 .given .1))
 
 returns-3 : tie.Need-returns-3
 returns-3 c =
     let a = c .before .before .before .before .args in
-    c .has-one2 .ensures ∙ ap (λ (f : RatioForm). begins (formHead f) (a .s .now)) (sym (c .before .enum-told .given .1))
+    c .has-one2 .ensures ∙ ap (λ (f : RatioForm). begins (ratioFormHead f) (a .s .now)) (sym (c .before .enum-told .given .1))
 
 pub has-head-spec : {M : Type 1} → statement M
 has-head-spec =

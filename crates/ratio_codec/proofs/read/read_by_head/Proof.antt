@@ -8,17 +8,17 @@ use Rattle.lists.proofs.Below.{below-of}
 use Rattle.ratio_format.specs.declared.RatioForm.{RatioForm}
 use Rattle.ratio_format.specs.declared.Read.the-variants.{Ratio}
 use Rattle.ratio_format.specs.Windows.{windowSize}
-use Rattle.ratio_format.specs.Forms.{coded}
+use Rattle.ratio_format.specs.RatioForms.{coded}
 use Rattle.ratio_format.proofs.Open.{strict-nothing, strict-good, strict-other}
-use Rattle.ratio_codec.specs.Heads.{formHead}
+use Rattle.ratio_codec.specs.Heads.{ratioFormHead}
 use Rattle.ratio_codec.proofs.write.Chosen.{chosen-fit}
 use Rattle.ratio_codec.proofs.Heads.{head-decides}
 use borrow.Author.Needs.{needs}
 use Rattle.ratio_codec.proofs.read.read_by_head.Statement.{statement}
 use Rattle.ratio_codec.proofs.read.read_by_head.Tie as tie
 
-read-open-requires : tie.Need-read-open-requires
-read-open-requires c κs = search needs
+read-one-open-requires : tie.Need-read-one-open-requires
+read-one-open-requires c κs = search needs
 
 enum-known-r : tie.Need-enum-known-r
 enum-known-r c = search needs
@@ -29,7 +29,7 @@ enum-told c = search needs
 returns : tie.Need-returns
 returns c =
     let read = c .before .before in
-    let o = read .read-open in
+    let o = read .read-one-open in
     let a = read .before .before .before .args in
     strict-nothing (reverse (a .window .now)) (a .s .now) (o .result) (o .ensures) (c .enum-told .given .1)
 
@@ -49,7 +49,7 @@ module _ (c : tie.After-has-head) where
   abbrev known : tie.After-r
   known = c .before .before .before
 
-  abbrev read : tie.After-read-open
+  abbrev read : tie.After-read-one-open
   read = known .before .before
 
   abbrev start : tie.Start
@@ -67,33 +67,33 @@ module _ (c : tie.After-has-head) where
   abbrev n : ℕ
   n = known .r .given .0 .1 .0
 
-  is : read .read-open .result ≡ Ratio v n
+  is : read .read-one-open .result ≡ Ratio v n
   is = known .r .given .1
 
   says : c .has-head .result ≡ begins (coded v (reverse l)) s
   says =
       let k = read .before .shared-slice-known2 in
       let h : length (reverse l) ≤ windowSize = rw length-reverse (start .pre) in
-      c .has-head .ensures ∙ ap (λ (f : RatioForm). begins (formHead f) s) (c .before .choose .ensures)
-      ∙ sym (head-decides v n (reverse l) h s (below-of 256 s (λ i. k .given i .fits)) (sym (read .read-open .ensures) ∙ is))
+      c .has-head .ensures ∙ ap (λ (f : RatioForm). begins (ratioFormHead f) s) (c .before .choose .ensures)
+      ∙ sym (head-decides v n (reverse l) h s (below-of 256 s (λ i. k .given i .fits)) (sym (read .read-one-open .ensures) ∙ is))
 
 returns-2 : tie.Need-returns-2
 returns-2 c =
     let d = c .before in
-    let o = read d .read-open in
+    let o = read d .read-one-open in
     strict-good (reverse (l d)) (s d) (o .result) (o .ensures) (v d) (n d) (d .has-head .result) (is d) (says d) (c .if1 .taken)
 
 returns-3 : tie.Need-returns-3
 returns-3 c =
     let d = c .before in
-    let o = read d .read-open in
+    let o = read d .read-one-open in
     strict-other (reverse (l d)) (s d) (o .result) (o .ensures) (v d) (n d) (d .has-head .result) (is d) (says d) (c .if1 .left)
 
 pub read-by-head-spec : {M : Type 1} → statement M
 read-by-head-spec =
     tie.close
     (tie.spec
-    read-open-requires
+    read-one-open-requires
     enum-known-r
     enum-told
     returns

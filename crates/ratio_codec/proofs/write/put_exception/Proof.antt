@@ -3,6 +3,7 @@ use mathlib.Core.Path.{_∙_}
 use native.Mathlib.Omega.{arith}
 use borrow.Author.Needs.{needs}
 use lib.ListN.{length-set}
+use Rattle.ratio_format.specs.RatioForms.{exceptionByte}
 use Rattle.bits.specs.Digits.{bytesOf}
 use Rattle.bits.proofs.Digits.{length-digits}
 use Rattle.outputs.proofs.Outputs.Over.{over-one-more}
@@ -29,7 +30,7 @@ returns-2 c =
     let put = c .before .before in
     let a = put .before .before .before .before .args in
     let n = length-digits 256 8 (a .v) in
-    (omega arith, omega arith, put .put-bytes .ensures ∙ over-one-more (a .out .now) (bytesOf 8 (a .v)) 255 8 n (omega arith))
+    (omega arith, omega arith, put .put-bytes .ensures ∙ over-one-more (a .out .now) (bytesOf 8 (a .v)) exceptionByte 8 n (omega arith))
 
 pub put-exception-spec : {M : Type 1} → statement M
 put-exception-spec =

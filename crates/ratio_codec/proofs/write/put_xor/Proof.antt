@@ -4,6 +4,7 @@ use Prim.Native.Nat.{_+_, _*_}
 use native.Mathlib.Omega.{arith}
 use borrow.Author.Needs.{needs}
 use lib.ListN.{length-set}
+use Rattle.ratio_format.specs.RatioForms.{xorByte}
 use Rattle.bits.specs.Digits.{bytesOf}
 use Rattle.bits.proofs.Digits.{length-digits}
 use Rattle.outputs.proofs.Outputs.Over.{over-two-more}
@@ -51,7 +52,7 @@ returns-2 c =
     let put = c .before .before in
     let a = put .before .before .before .before .args in
     let n = length-digits 256 (a .len) (a .middle) in
-    (omega arith, omega arith, put .put-bytes .ensures ∙ over-two-more (a .out .now) (bytesOf (a .len) (a .middle)) (a .place + 128) (a .trail * 16 + a .len) (a .len) n (omega arith))
+    (omega arith, omega arith, put .put-bytes .ensures ∙ over-two-more (a .out .now) (bytesOf (a .len) (a .middle)) (a .place + xorByte) (a .trail * 16 + a .len) (a .len) n (omega arith))
 
 pub put-xor-spec : {M : Type 1} → statement M
 put-xor-spec =

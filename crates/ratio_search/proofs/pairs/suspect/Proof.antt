@@ -49,14 +49,26 @@ add-d c = omega arith
 byte-of-requires : tie.Need-byte-of-requires Inv-loop μ-loop
 byte-of-requires c κs = omega arith
 
+cast-x : tie.Need-cast-x Inv-loop μ-loop
+cast-x c = omega (arith, c .byte-of .ensures)
+
 byte-of-requires-2 : tie.Need-byte-of-requires-2 Inv-loop μ-loop
 byte-of-requires-2 c κs = omega arith
+
+cast-y : tie.Need-cast-y Inv-loop μ-loop
+cast-y c = omega (arith, c .byte-of2 .ensures)
 
 byte-of-requires-3 : tie.Need-byte-of-requires-3 Inv-loop μ-loop
 byte-of-requires-3 c κs = omega arith
 
+cast-z : tie.Need-cast-z Inv-loop μ-loop
+cast-z c = omega (arith, c .byte-of3 .ensures)
+
 byte-of-requires-4 : tie.Need-byte-of-requires-4 Inv-loop μ-loop
 byte-of-requires-4 c κs = omega arith
+
+cast-w : tie.Need-cast-w Inv-loop μ-loop
+cast-w c = omega (arith, c .byte-of4 .ensures)
 
 loop-holds : tie.Need-loop-holds Inv-loop μ-loop
 loop-holds c = (omega arith, λ e t h. absurd (omega arith))
@@ -133,9 +145,13 @@ suspect-spec =
     mul-d
     add-d
     byte-of-requires
+    cast-x
     byte-of-requires-2
+    cast-y
     byte-of-requires-3
+    cast-z
     byte-of-requires-4
+    cast-w
     loop-holds
     add-any
     element-copy-out-any

@@ -1,18 +1,15 @@
 -- `zero_at` meets its contract.
-use borrow.Author.Tests.{eqb-false}
-use Rattle.ratio_search.specs.BytePlanes.{byteAt}
+use mathlib.Core.Path.{_∙_}
 use borrow.Author.Needs.{needs}
+use borrow.Author.Tests.{eqb-false}
 use Rattle.ratio_search.proofs.pairs.zero_at.Statement.{statement}
 use Rattle.ratio_search.proofs.pairs.zero_at.Tie as tie
 
-mul-result : tie.Need-mul-result
-mul-result c = search needs
-
-shr-result : tie.Need-shr-result
-shr-result c = search needs
+byte-of-requires : tie.Need-byte-of-requires
+byte-of-requires c κs = search needs
 
 returns : tie.Need-returns
-returns c = λ e q. eqb-false (byteAt (c .args .x) (c .args .j)) 0 e q
+returns c = λ e q. eqb-false (c .byte-of .result) 0 e (c .byte-of .ensures ∙ q)
 
 pub zero-at-spec : {M : Type 1} → statement M
-zero-at-spec = tie.close (tie.spec mul-result shr-result returns)
+zero-at-spec = tie.close (tie.spec byte-of-requires returns)

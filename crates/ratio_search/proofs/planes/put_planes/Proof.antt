@@ -17,6 +17,9 @@ loop-holds c = in-slot-none (c .args .planes .now) (c .args .i) (c .args .v) (c 
 byte-of-requires : tie.Need-byte-of-requires Inv-loop μ-loop
 byte-of-requires c κs = omega arith
 
+cast-planes : tie.Need-cast-planes Inv-loop μ-loop
+cast-planes c = omega (arith, c .byte-of .ensures)
+
 mul-planes : tie.Need-mul-planes Inv-loop μ-loop
 mul-planes c = omega arith
 
@@ -51,6 +54,7 @@ put-planes-spec =
     μ-loop
     loop-holds
     byte-of-requires
+    cast-planes
     mul-planes
     add-planes
     element-write-planes

@@ -10,7 +10,7 @@ use Rattle.record_format.specs.declared.WriteAnswer.{WriteAnswer}
 use Rattle.record_format.specs.Runs.{Run, run, recordOf}
 use Rattle.record_format.specs.Writing.{runTests}
 use Rattle.record_format.proofs.Writing.{accepted-fits, fitting-few, clear-accepts, run-refused, run-no-room, run-written}
-use Rattle.record_parts.proofs.putting.Writings.{short-of, wrote-all}
+use Rattle.outputs.proofs.Outputs.Writers.{short-of, wrote-all}
 use Rattle.record_codec.proofs.writer.write.Statement.{statement}
 use Rattle.record_codec.proofs.writer.write.Tie as tie
 

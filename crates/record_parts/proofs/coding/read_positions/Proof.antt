@@ -10,9 +10,10 @@ use Rattle.refusals.specs.Tests.{Test, firstOf}
 use Rattle.position_format.specs.Positions.{readPositions}
 use Rattle.position_format.specs.Tables.{tableOf}
 use Rattle.record_format.specs.Fields.{nextAt}
+use Rattle.record_format.specs.Runs.{positionsTags}
 use Rattle.record_format.specs.Reading.{positionsTests}
 use Rattle.record_parts.proofs.Fields.{part-refused}
-use Rattle.record_parts.proofs.coding.Codings.{codedTests, positions-tags, many-refused, many-passed, coded-refused, body-order, body-inside, coded-none, coded-found}
+use Rattle.record_parts.proofs.coding.Codings.{codedTests, many-refused, many-passed, coded-refused, body-order, body-inside, coded-none, coded-found}
 use Rattle.record_parts.proofs.coding.read_positions.Statement.{statement}
 use Rattle.record_parts.proofs.coding.read_positions.Tie as tie
 
@@ -42,7 +43,7 @@ module _ (k : tie.Else1) where
   abbrev start : tie.Start
   start = entry (k .before)
 
-  passed : firstOf (tests start) ≡ firstOf (codedTests (start .args .input .now) positions-tags (reads start) 17 (start .args .at))
+  passed : firstOf (tests start) ≡ firstOf (codedTests (start .args .input .now) positionsTags (reads start) 17 (start .args .at))
   passed =
       let a = start .args in
       let p = start .pre in
@@ -80,28 +81,28 @@ returns-2 c =
     let k = c .before .before in
     let e = start (few k) in
     let a = e .args in
-    coded-refused (tests e) positions-tags (reads e) 17 (λ z. omega arith) (a .input .now) (a .at) (passed (few k)) (k .read-field .result) (k .read-field .ensures) (a .out .now) (a .out .now) (c .if2 .taken)
+    coded-refused (tests e) positionsTags (reads e) 17 (λ z. omega arith) (a .input .now) (a .at) (passed (few k)) (k .read-field .result) (k .read-field .ensures) (a .out .now) (a .out .now) (c .if2 .taken)
 
 sub-get-positions : tie.Need-sub-get-positions
 sub-get-positions c =
     let k = field c in
     let e = start (few k) in
     let a = e .args in
-    body-order (tests e) positions-tags (reads e) 17 (λ z. omega arith) (a .input .now) (a .at) (passed (few k)) (k .read-field .result) (k .read-field .ensures) (c .if2 .left)
+    body-order (tests e) positionsTags (reads e) 17 (λ z. omega arith) (a .input .now) (a .at) (passed (few k)) (k .read-field .result) (k .read-field .ensures) (c .if2 .left)
 
 part-get-positions-start : tie.Need-part-get-positions-start
 part-get-positions-start c =
     let k = field c in
     let e = start (few k) in
     let a = e .args in
-    body-order (tests e) positions-tags (reads e) 17 (λ z. omega arith) (a .input .now) (a .at) (passed (few k)) (k .read-field .result) (k .read-field .ensures) (c .if2 .left)
+    body-order (tests e) positionsTags (reads e) 17 (λ z. omega arith) (a .input .now) (a .at) (passed (few k)) (k .read-field .result) (k .read-field .ensures) (c .if2 .left)
 
 part-get-positions-end : tie.Need-part-get-positions-end
 part-get-positions-end c =
     let k = field c in
     let e = start (few k) in
     let a = e .args in
-    body-inside (tests e) positions-tags (reads e) 17 (λ z. omega arith) (a .input .now) (a .at) (passed (few k)) (k .read-field .result) (k .read-field .ensures) (c .if2 .left)
+    body-inside (tests e) positionsTags (reads e) 17 (λ z. omega arith) (a .input .now) (a .at) (passed (few k)) (k .read-field .result) (k .read-field .ensures) (c .if2 .left)
 
 get-positions-requires : tie.Need-get-positions-requires
 get-positions-requires c κs = search needs
@@ -119,7 +120,7 @@ returns-3 c =
     let k = field g in
     let e = start (few k) in
     let a = e .args in
-    coded-none (tests e) positions-tags (reads e) 17 (λ z. omega arith) (a .input .now) (a .at) (passed (few k)) (k .read-field .result) (k .read-field .ensures) (g .if2 .left)
+    coded-none (tests e) positionsTags (reads e) 17 (λ z. omega arith) (a .input .now) (a .at) (passed (few k)) (k .read-field .result) (k .read-field .ensures) (g .if2 .left)
     (b .get-positions .result) (a .out .now) _ (b .get-positions .ensures) (not-true _ (c .if3 .taken))
 
 same-length-2 : tie.Need-same-length-2
@@ -132,7 +133,7 @@ returns-4 c =
     let k = field g in
     let e = start (few k) in
     let a = e .args in
-    coded-found (tests e) positions-tags (reads e) 17 (λ z. omega arith) (a .input .now) (a .at) (passed (few k)) (k .read-field .result) (k .read-field .ensures) (g .if2 .left)
+    coded-found (tests e) positionsTags (reads e) 17 (λ z. omega arith) (a .input .now) (a .at) (passed (few k)) (k .read-field .result) (k .read-field .ensures) (g .if2 .left)
     (b .get-positions .result) (a .out .now) _ (b .get-positions .ensures) (not-false _ (c .if3 .left))
 
 pub read-positions-spec : {M : Type 1} → statement M

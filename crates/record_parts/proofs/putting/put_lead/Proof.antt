@@ -1,142 +1,117 @@
--- `put_lead` meets its contract: the front, and then the positions' field after it.
-use mathlib.Core.List.{List, [], _∷_}
+-- `put_lead` meets its contract: each writer puts its field past those before.
+use mathlib.Core.List.{List, [], _∷_, _++_}
 use mathlib.Core.Path.{refl}
-use native.Mathlib.Omega.{arith}
+use Prim.Native.Nat.{ℕ}
 use borrow.Author.Needs.{needs}
 use lib.ListN.{length}
+use Rattle.bits.specs.Digits.{bytesOf}
 use Rattle.outputs.specs.Outputs.{Placed}
-use Rattle.outputs.specs.declared.Wrote.the-variants.{Done}
+use Rattle.outputs.proofs.Outputs.Writers.{rest-left}
 use Rattle.record_format.specs.Fields.{Field, fieldOf, laid}
-use Rattle.record_format.specs.Runs.{positionsTag, frontFields}
-use Rattle.position_format.specs.Positions.{codedPositions}
-use Rattle.position_format.specs.Tables.{tableOf}
+use Rattle.record_format.specs.Runs.{rateTag, countTag, rateSize, countSize, sideFields, frontFields, positionsField}
 use Rattle.record_parts.specs.Leads.{leadFields}
-use Rattle.record_parts.proofs.putting.Writings.{first-none, first-done, room-left, more-none, more-fits, more-done}
+use Rattle.record_parts.proofs.putting.Writings.{fields-next}
 use Rattle.record_parts.proofs.putting.put_lead.Statement.{statement}
 use Rattle.record_parts.proofs.putting.put_lead.Tie as tie
 
--- ---- places: the call of each writer, and the number of bytes that it wrote
+-- ---- places: the call of each writer
 
-abbrev entry : tie.After-put-front → tie.Start
+abbrev entry : tie.After-put-number → tie.Start
 entry k = k .before .before .before .before
 
-abbrev fronted : tie.After-front-end → tie.After-put-front
-fronted k = k .before .before .before .before
+abbrev rated : tie.After-put-side-next → tie.After-put-number
+rated k = k .before .before .before .before
 
-abbrev coding : tie.After-put-coded → tie.After-front-end
-coding k = k .before .before .before
+abbrev sided : tie.After-put-number-next → tie.After-put-side-next
+sided k = k .before .before .before .before
 
-abbrev coded : tie.After-positions-size → tie.After-put-coded
-coded k = k .before .before .before .before
+abbrev counted : tie.After-put-coded-next → tie.After-put-number-next
+counted k = k .before .before .before .before
 
--- ---- the fields, and what stands in the output after the front
+-- ---- the fields, and the output as each writer leaves it
 
 module _ (e : tie.Start) where
-  abbrev front : List Field
-  front = frontFields (e .args .rate) (e .args .side) (length (e .args .positions .now))
+  abbrev count : ℕ
+  count = length (e .args .positions .now)
 
-  abbrev points : List Field
-  points = fieldOf (positionsTag (e .args .form)) (codedPositions (tableOf (e .args .form)) (e .args .positions .now)) ∷ []
+  abbrev rate-field : List Field
+  rate-field = fieldOf rateTag (bytesOf rateSize (e .args .rate)) ∷ []
 
-  abbrev all : List Field
-  all = leadFields (e .args .rate) (e .args .side) (e .args .form) (e .args .positions .now)
+  abbrev side-field : List Field
+  side-field = sideFields (e .args .side)
 
-module _ (k : tie.After-front-end) where
-  abbrev front-entry : tie.Start
-  front-entry = entry (fronted k)
+  abbrev count-field : List Field
+  count-field = fieldOf countTag (bytesOf countSize count) ∷ []
 
-  front-done : Placed (laid (front front-entry)) (Done (k .front-end .given .0 .0)) (front-entry .args .out .now) (fronted k .put-front .last .1 .1 .1 .0)
-  front-done = first-done (front front-entry) (front-entry .args .out .now) _ _ _ (fronted k .put-front .ensures) (k .front-end .given .1)
+  abbrev positions-field : List Field
+  positions-field = positionsField (e .args .form) (e .args .positions .now) ∷ []
+
+abbrev rate-out : tie.After-put-number → List ℕ
+rate-out k = k .put-number .last .0
+
+abbrev side-out : tie.After-put-side-next → List ℕ
+side-out k = k .put-side-next .last .1 .1 .0
+
+abbrev count-out : tie.After-put-number-next → List ℕ
+count-out k = k .put-number-next .last .1 .0
+
+-- ---- what stands there
+
+side-done : (k : tie.After-put-side-next) → let e = entry (rated k) in
+    Placed (laid (rate-field e ++ side-field e)) (k .put-side-next .result) (e .args .out .now) (side-out k)
+side-done k =
+    let e = entry (rated k) in
+    fields-next (rate-field e) (side-field e) _ refl (rated k .put-number .result) (k .put-side-next .result) (e .args .out .now) (rate-out (rated k)) (side-out k)
+    (k .put-side-next .ensures) (rated k .put-number .ensures)
+
+count-done : (k : tie.After-put-number-next) → let e = entry (rated (sided k)) in
+    Placed (laid (frontFields (e .args .rate) (e .args .side) (count e))) (k .put-number-next .result) (e .args .out .now) (count-out k)
+count-done k =
+    let e = entry (rated (sided k)) in
+    fields-next (rate-field e ++ side-field e) (count-field e) _ refl (sided k .put-side-next .result) (k .put-number-next .result) (e .args .out .now) (side-out (sided k)) (count-out k)
+    (k .put-number-next .ensures) (side-done (sided k))
 
 -- ---- the needs
 
-put-front-requires : tie.Need-put-front-requires
-put-front-requires c κs = search needs
+put-number-requires : tie.Need-put-number-requires
+put-number-requires c κs = search needs
 
-enum-known-front-end : tie.Need-enum-known-front-end
-enum-known-front-end c = search needs
+put-side-next-requires : tie.Need-put-side-next-requires
+put-side-next-requires c κs =
+    let k = c .before .before .before in
+    let e = entry k in
+    rest-left (laid (rate-field e)) (e .args .out .now) (rate-out k) (k .put-number .result) (k .put-number .ensures)
 
-enum-told : tie.Need-enum-told
-enum-told c = search needs
+put-number-next-requires : tie.Need-put-number-next-requires
+put-number-next-requires c κs =
+    let k = c .before .before .before in
+    let e = entry (rated k) in
+    (rest-left (laid (rate-field e ++ side-field e)) (e .args .out .now) (side-out k) (k .put-side-next .result) (side-done k), search needs)
+
+put-coded-next-requires : tie.Need-put-coded-next-requires
+put-coded-next-requires c κs =
+    let k = c .before .before .before in
+    let e = entry (rated (sided k)) in
+    (rest-left (laid (frontFields (e .args .rate) (e .args .side) (count e))) (e .args .out .now) (count-out k) (k .put-number-next .result) (count-done k), e .pre)
 
 same-length : tie.Need-same-length
 same-length c = search needs
 
 returns : tie.Need-returns
 returns c =
-    let r = c .before .before .before .before in
-    let e = entry r in
-    first-none (front e) (points e) (all e) refl (e .args .out .now) _ _ (r .put-front .ensures) (c .enum-told .given .1)
-
-sub-put-coded : tie.Need-sub-put-coded
-sub-put-coded c =
-    let k = c .before in
-    let e = front-entry k in
-    room-left (front e) (points e) (e .args .out .now) _ _ (front-done k)
-
-part-put-coded-start : tie.Need-part-put-coded-start
-part-put-coded-start c =
-    let k = c .before in
-    let e = front-entry k in
-    room-left (front e) (points e) (e .args .out .now) _ _ (front-done k)
-
-part-put-coded-end : tie.Need-part-put-coded-end
-part-put-coded-end c = search needs
-
-put-coded-requires : tie.Need-put-coded-requires
-put-coded-requires c κs = search needs
-
-enum-known-positions-size : tie.Need-enum-known-positions-size
-enum-known-positions-size c = search needs
-
-enum-told-2 : tie.Need-enum-told-2
-enum-told-2 c = search needs
-
-same-length-2 : tie.Need-same-length-2
-same-length-2 c = search needs
-
-returns-2 : tie.Need-returns-2
-returns-2 c =
-    let n = c .before .before .before .before in
-    let k = coding n in
-    let e = front-entry k in
-    more-none (front e) (points e) (e .args .out .now) _ _ (front-done k) _ _ (n .put-coded .ensures) [] (all e) refl (c .enum-told2 .given .1)
-
-add-t9 : tie.Need-add-t9
-add-t9 c =
-    let k = c .before in
-    let b = coding (coded k) in
-    let e = front-entry b in
-    let fits = more-fits (front e) (points e) (e .args .out .now) _ _ (front-done b) _ _ (coded k .put-coded .ensures) _ (k .positions-size .given .1) in
-    omega (arith, e .good)
-
-same-length-3 : tie.Need-same-length-3
-same-length-3 c = search needs
-
-returns-3 : tie.Need-returns-3
-returns-3 c =
-    let k = c .before in
-    let b = coding (coded k) in
-    let e = front-entry b in
-    more-done (front e) (points e) (e .args .out .now) _ _ (front-done b) _ _ (coded k .put-coded .ensures) _ (k .positions-size .given .1) (all e) refl
+    let k = c .before .before in
+    let e = entry (rated (sided (counted k))) in
+    fields-next (frontFields (e .args .rate) (e .args .side) (count e)) (positions-field e) (leadFields (e .args .rate) (e .args .side) (e .args .form) (e .args .positions .now)) refl
+    (counted k .put-number-next .result) (k .put-coded-next .result) (e .args .out .now) (count-out (counted k)) (k .put-coded-next .last .1 .1 .1 .0)
+    (k .put-coded-next .ensures) (count-done (counted k))
 
 pub put-lead-spec : {M : Type 1} → statement M
 put-lead-spec =
     tie.close
     (tie.spec
-    put-front-requires
-    enum-known-front-end
-    enum-told
+    put-number-requires
+    put-side-next-requires
+    put-number-next-requires
+    put-coded-next-requires
     same-length
-    returns
-    sub-put-coded
-    part-put-coded-start
-    part-put-coded-end
-    put-coded-requires
-    enum-known-positions-size
-    enum-told-2
-    same-length-2
-    returns-2
-    add-t9
-    same-length-3
-    returns-3)
+    returns)

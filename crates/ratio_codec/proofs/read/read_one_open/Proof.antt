@@ -1,16 +1,17 @@
--- `read_open` meets its contract: a law for each outcome.
+-- `read_one_open` meets its contract: a law for each outcome.
 use mathlib.Core.List.{reverse}
 use mathlib.Core.Path.{sym, ap, _∙_}
 use Prim.Native.Nat.{_-_}
 use native.Mathlib.Omega.{arith}
 use lib.ListN.{length, getD, length-reverse}
+use Rattle.ratio_format.specs.RatioForms.{xorByte}
 use Rattle.ratio_format.specs.Open.{openXor}
 use Rattle.ratio_format.proofs.Open.{open-empty, open-reference, open-far, open-xor, open-away, open-exception, open-cut}
 use Rattle.ratio_format.proofs.Windows.{reverse-back}
 use Rattle.outputs.proofs.Outputs.Parts.{rest-is}
 use borrow.Author.Needs.{needs}
-use Rattle.ratio_codec.proofs.read.read_open.Statement.{statement}
-use Rattle.ratio_codec.proofs.read.read_open.Tie as tie
+use Rattle.ratio_codec.proofs.read.read_one_open.Statement.{statement}
+use Rattle.ratio_codec.proofs.read.read_one_open.Tie as tie
 
 returns : tie.Need-returns
 returns c =
@@ -83,7 +84,7 @@ returns-4 c =
     let a = some .before .before .before .args in
     let l = a .window .now in
     let s = a .s .now in
-    let p = getD s 0 0 - 128 in
+    let p = getD s 0 0 - xorByte in
     let u = getD l (length l - 1 - p) 0 in
     open-xor (reverse l) s u (c .read-xor .result) (some .if1 .left) (high .if2 .left) (inside .before .if4 .taken)
     (rw length-reverse (inside .if5 .taken)) (sym (reverse-back l p (inside .if5 .taken))) (c .read-xor .ensures ∙ ap (openXor u) (rest-is 1 s))
@@ -111,8 +112,8 @@ returns-7 c =
     let a = some .before .before .before .args in
     open-cut (reverse (a .window .now)) (a .s .now) (some .if1 .left) (c .before .if4 .left) (c .if6 .left)
 
-pub read-open-spec : {M : Type 1} → statement M
-read-open-spec =
+pub read-one-open-spec : {M : Type 1} → statement M
+read-one-open-spec =
     tie.close
     (tie.spec
     returns

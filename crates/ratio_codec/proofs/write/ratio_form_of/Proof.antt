@@ -1,4 +1,4 @@
--- `form_of` meets its contract: the form follows from the place and the sum that the search found.
+-- `ratio_form_of` meets its contract: the form follows from the place and the sum that the search found.
 use Prim.Native.Nat.{ℕ, _^_, _<_}
 use mathlib.Core.List.{List, reverse}
 use native.Mathlib.Omega.{arith}
@@ -6,8 +6,8 @@ use borrow.Author.Needs.{needs}
 use lib.ListN.{length, getD}
 use Rattle.ratio_window.specs.Searched.{Searched}
 use Rattle.ratio_codec.proofs.write.Chosen.{chosen-reference, chosen-exception, chosen-in, chosen-small, chosen-short, chosen-xor}
-use Rattle.ratio_codec.proofs.write.form_of.Statement.{statement}
-use Rattle.ratio_codec.proofs.write.form_of.Tie as tie
+use Rattle.ratio_codec.proofs.write.ratio_form_of.Statement.{statement}
+use Rattle.ratio_codec.proofs.write.ratio_form_of.Tie as tie
 
 -- what the search found
 module _ (c : tie.After-shared-slice-known) where
@@ -88,8 +88,8 @@ returns-3 c =
     let d = c .before .before in
     chosen-exception (l d) (v d) (p d) (s d) (known d) (v64 d) (found d) (c .if2 .left)
 
-pub form-of-spec : {M : Type 1} → statement M
-form-of-spec =
+pub ratio-form-of-spec : {M : Type 1} → statement M
+ratio-form-of-spec =
     tie.close
     (tie.spec
     returns

@@ -1,4 +1,4 @@
--- `put_form` meets its contract: each form by the function that writes it.
+-- `put_ratio_form` meets its contract: each form by the function that writes it.
 use mathlib.Core.Path.{_≡_, sym, subst}
 use mathlib.Core.List.{List}
 use Prim.Native.Nat.{ℕ}
@@ -6,10 +6,10 @@ use Rattle.outputs.specs.declared.Wrote.{Wrote}
 use Rattle.outputs.specs.Outputs.{Placed}
 use Rattle.ratio_format.specs.declared.RatioForm.{RatioForm}
 use Rattle.ratio_format.specs.Windows.{windowSize}
-use Rattle.ratio_format.specs.Forms.{written, Fit}
+use Rattle.ratio_format.specs.RatioForms.{written, Fit}
 use borrow.Author.Needs.{needs}
-use Rattle.ratio_codec.proofs.write.put_form.Statement.{statement}
-use Rattle.ratio_codec.proofs.write.put_form.Tie as tie
+use Rattle.ratio_codec.proofs.write.put_ratio_form.Statement.{statement}
+use Rattle.ratio_codec.proofs.write.put_ratio_form.Tie as tie
 
 enum-known-f : tie.Need-enum-known-f
 enum-known-f c = search needs
@@ -73,8 +73,8 @@ returns-3 c =
     let p = put .put-exception in
     same-form (a .v) (p .result) (a .out .now) (p .last .0) (told .enum-told .given .1) (p .ensures)
 
-pub put-form-spec : {M : Type 1} → statement M
-put-form-spec =
+pub put-ratio-form-spec : {M : Type 1} → statement M
+put-ratio-form-spec =
     tie.close
     (tie.spec
     enum-known-f

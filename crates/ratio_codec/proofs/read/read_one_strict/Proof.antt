@@ -1,4 +1,4 @@
--- `read_strict` meets its contract: a place is accepted where it is the smallest that holds its ratio, and the head decides of all else.
+-- `read_one_strict` meets its contract: a place is accepted where it is the smallest that holds its ratio, and the head decides of all else.
 use mathlib.Core.Path.{_≡_, refl, sym, _∙_}
 use mathlib.Core.List.{List, reverse}
 use Prim.Native.Nat.{ℕ, _-_, _≤_}
@@ -11,8 +11,8 @@ use Rattle.ratio_format.proofs.Windows.{reverse-back}
 use Rattle.ratio_format.proofs.Open.{open-empty, strict-nothing}
 use Rattle.ratio_codec.proofs.read.References.{Named, named-good, named-other}
 use borrow.Author.Needs.{needs}
-use Rattle.ratio_codec.proofs.read.read_strict.Statement.{statement}
-use Rattle.ratio_codec.proofs.read.read_strict.Tie as tie
+use Rattle.ratio_codec.proofs.read.read_one_strict.Statement.{statement}
+use Rattle.ratio_codec.proofs.read.read_one_strict.Tie as tie
 
 returns : tie.Need-returns
 returns c =
@@ -84,8 +84,8 @@ read-by-head-requires c κs = search needs
 returns-4 : tie.Need-returns-4
 returns-4 c = search needs
 
-pub read-strict-spec : {M : Type 1} → statement M
-read-strict-spec =
+pub read-one-strict-spec : {M : Type 1} → statement M
+read-one-strict-spec =
     tie.close
     (tie.spec
     returns

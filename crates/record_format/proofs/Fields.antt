@@ -352,25 +352,13 @@ module _ (s rest : List ℕ) (p : ℕ) where
       ap₂ take (length-same (head-within whole)) (drop-append-le (p + headSize) s rest (head-within whole))
       ∙ take-append-le (lengthAt s p) (drop (p + headSize) s) rest (subst (λ (n : ℕ). lengthAt s p ≤ n) (sym (length-drop (p + headSize) s)) (omega (arith, whole)))
 
--- ---- nor in fields that follow one another: n of them, from the offset p on, are whole in s
+-- ---- fields that follow one another: n of them, from the offset p on, are whole in s
 
 field-later : (s : List ℕ) (p n : ℕ) → p ≤ fieldAt s p n
 field-later s p zero = omega arith
 field-later s p (suc n) = omega (arith, next-later s p, field-later s (nextAt s p) n)
 
-first-whole : (s : List ℕ) (p n : ℕ) → fieldAt s p (suc n) ≤ length s → nextAt s p ≤ length s
-first-whole s p n whole = omega (arith, field-later s (nextAt s p) n)
-
--- each of them is whole
-pub field-whole : (s : List ℕ) (p n : ℕ) → fieldAt s p n ≤ length s → (k : ℕ) → k < n → nextAt s (fieldAt s p k) ≤ length s
-field-whole s p zero whole k h = absurd (omega arith)
-field-whole s p (suc n) whole zero h = first-whole s p n whole
-field-whole s p (suc n) whole (suc k) h = field-whole s (nextAt s p) n whole k (omega arith)
-
--- and stands at the same offset where s is followed by more, so that its tag, its length and its body are the same
-pub field-at-same : (s rest : List ℕ) (p n : ℕ) → fieldAt s p n ≤ length s → (k : ℕ) → k ≤ n → fieldAt (s ++ rest) p k ≡ fieldAt s p k
-field-at-same s rest p n whole zero h = refl
-field-at-same s rest p zero whole (suc k) h = absurd (omega arith)
-field-at-same s rest p (suc n) whole (suc k) h =
-    ap (λ (q : ℕ). fieldAt (s ++ rest) q k) (next-same s rest p (head-within s rest p (first-whole s p n whole)))
-    ∙ field-at-same s rest (nextAt s p) n whole k (omega arith)
+-- then the first is whole
+pub first-whole : (s : List ℕ) (p n : ℕ) → 0 < n → fieldAt s p n ≤ length s → nextAt s p ≤ length s
+first-whole s p zero some whole = absurd (omega arith)
+first-whole s p (suc n) some whole = omega (arith, field-later s (nextAt s p) n)

@@ -1,6 +1,6 @@
 -- What moves do, proved of the definitions.
 use mathlib.Core.Path.{_≡_, refl, sym, ap, _∙_, subst}
-use mathlib.Core.Bool.{Bool, true, false, not, cond}
+use mathlib.Core.Bool.{Bool, true, false, cond}
 use mathlib.Core.List.{List, [], _∷_, _++_, append-nil}
 use mathlib.Core.Logic.{_⊎_, inl, inr}
 use Prim.Native.Nat.{ℕ, zero, suc, _+_, _-_, _≤_, _<_}
@@ -10,11 +10,10 @@ use borrow.Author.Tests.{eqb-true, le-ltb, lt-ltb, leb-true, leb-false, ltb-fals
 use lib.Dec.{ltb, leb, eqb, lit<, eqb·suc-zero}
 use lib.ListN.{length, getD, take, drop, length-drop}
 use lib.Seq.{take-at, getD-drop}
-use Rattle.lists.specs.Compare.{both}
 use Rattle.lists.proofs.Compare.{both-true}
 use Rattle.limits.specs.Points.{maxPoints}
 use Rattle.refusals.specs.declared.Refusal.{Refusal}
-use Rattle.refusals.specs.Tests.{Test, test, firstOf, refused}
+use Rattle.refusals.specs.Tests.{Test, test, firstOf}
 use Rattle.refusals.proofs.Tests.{first-here, first-skip, first-end, first-clear, first-append-clear}
 use Rattle.position_format.specs.declared.Form.{Form}
 use Rattle.position_format.specs.declared.Form.the-variants.{Old, Wide}

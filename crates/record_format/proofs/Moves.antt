@@ -20,15 +20,15 @@ use Rattle.refusals.proofs.Tests.{numbered, first-here, first-skip, first-end, 
 use Rattle.outputs.specs.Outputs.{over}
 use Rattle.position_format.specs.declared.Form.{Form}
 use Rattle.position_format.specs.declared.Form.the-variants.{Old, Wide}
-use Rattle.position_format.specs.Positions.{validPositions, readPositions}
+use Rattle.position_format.specs.Positions.{validPositions}
 use Rattle.position_format.specs.Tables.{tableOf, pointsOf}
 use Rattle.position_format.proofs.Positions.Valid.{valid-parts}
 use Rattle.position_format.proofs.Tables.WideRows.{wide-valid}
 use Rattle.ratio_format.specs.Bodies.{strictRatios}
 use Rattle.ratio_format.proofs.Bodies.Strict.{strict-coded}
-use Rattle.record_format.specs.Fields.{Field, headSize, fieldBytes, laid, tagAt}
+use Rattle.record_format.specs.Fields.{Field, headSize, fieldBytes, laid, tagAt, bodyTests}
 use Rattle.record_format.specs.Runs.{Run, positionsTag, positionsTags, countSize, positionsField, ratiosField, frontFields, recordOf}
-use Rattle.record_format.specs.Reading.{positionsAt, ratiosAt, endAt, countIn, formIn, frontTests, manyTests, contentsTests, positionsTestsBy, positionsTests, ratiosTests, readTests}
+use Rattle.record_format.specs.Reading.{positionsAt, ratiosAt, endAt, countIn, positionsIn, missing, frontTests, manyTests, positionsTestsBy, positionsTests, ratiosTests, readTests}
 use Rattle.record_format.specs.Moves.{otherForm, inForm, runIn, sourceTests, targetTests, moveTests, Move, refusedMove, recordMove, moveOf}
 use Rattle.record_format.specs.Claims.{positionsPlace}
 use Rattle.record_format.specs.MoveClaims.{notMoved, movedTo, FormFirst}
@@ -78,7 +78,7 @@ module _ (f : Form) (s : List ℕ) where
   tag-test = test (not (member (tagAt s (positionsAt s)) tags)) 11 (positionsAt s)
 
   abbrev past-tag : List Test
-  past-tag = (manyTests s ++ contentsTests s (readPositions (tableOf (formIn s)) (countIn s)) 17 (positionsAt s)) ++ later
+  past-tag = (manyTests s ++ (bodyTests s (positionsAt s) ++ (test (missing (positionsIn s)) 17 (positionsAt s) ∷ []))) ++ later
 
   -- what the front's tests refuse is refused
   pub source-front : (firstOf (frontTests 0 s) .number ≡ 0 → ⊥) → firstOf (sourceTests f s) ≡ firstOf (frontTests 0 s)

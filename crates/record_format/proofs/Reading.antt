@@ -1,5 +1,5 @@
--- Laws of reading: the tests of a field by how it turns out, the answer by the tests that are left to make, and that bytes after the record
--- change nothing.
+-- Laws of reading: the tests of a field by how it turns out, and the answer by the tests that are left to make.
+pub mod Moved
 pub mod Rooms
 pub mod Fronts
 pub mod Sides
@@ -11,7 +11,7 @@ use Prim.Native.Nat.{ℕ, zero, suc, _+_, _≤_, _<_}
 use native.Mathlib.Omega.{arith}
 use borrow.Author.Tests.{eqb-true, eq-eqb, ne-eqb, ltb-false, le-ltb, lt-ltb, not-false}
 use lib.Dec.{ltb, eqb, lit<, eqb·suc-zero}
-use lib.ListN.{length, drop, length-append}
+use lib.ListN.{length, drop}
 use Rattle.lists.specs.Below.{Below}
 use Rattle.lists.specs.Lists.{member}
 use Rattle.bits.specs.Digits.{bytesOf, digitsOf, numberOf}
@@ -23,10 +23,10 @@ use Rattle.refusals.specs.Tests.{Test, test, firstOf, refused}
 use Rattle.refusals.proofs.Tests.{numbered, without, first-here, first-skip, first-clear, first-end}
 use Rattle.position_format.specs.declared.Form.the-variants.{Wide}
 use Rattle.position_format.specs.Tables.{pointsOf}
-use Rattle.record_format.specs.Fields.{Field, fieldOf, headSize, fieldBytes, tagAt, lengthAt, bodyAt, nextAt, headTests, lengthTests, bodyTests, fieldTests}
+use Rattle.record_format.specs.Fields.{Field, fieldOf, headSize, fieldBytes, tagAt, lengthAt, bodyAt, nextAt, lengthTests, fieldTests}
 use Rattle.record_format.specs.Reading.{Answer, refusalAnswer, answerBy, missing, sideAt, hasSide, countAt, positionsAt, sideIn, countIn, formIn, positionsIn, lacksRoom, rateTests, sideTests, countTests, frontTests, roomTests, positionsTests, ratiosTests, readTests}
 use Rattle.record_format.specs.Runs.{sideTag, positionsTag, positionsTags, formOf, sideSize}
-use Rattle.record_format.proofs.Fields.{FieldStands, length-body, field-here, below-body, tag-same, length-same, next-same, head-within}
+use Rattle.record_format.proofs.Fields.{FieldStands, length-body, field-here, below-body}
 
 -- a refusal by its number and place
 abbrev pub refusal : ℕ → ℕ → Refusal
@@ -151,30 +151,6 @@ room-enough m n c e = go (ltb m c) refl e
     go : (b : Bool) → ltb m c ≡ b → cond b true (ltb n c) ≡ false → (c ≤ m) × (c ≤ n)
     go true q k = absurd (false≢true (sym k))
     go false q k = (ltb-false m c q, ltb-false n c k)
-
--- ---- bytes after a field change none of its tests
-
-module _ (s rest : List ℕ) (p : ℕ) (whole : nextAt s p ≤ length s) where
-  head : p + headSize ≤ length s
-  head = head-within s rest p whole
-
-  pub head-tests-same : (tags : List ℕ) → headTests (s ++ rest) tags p ≡ headTests s tags p
-  head-tests-same tags =
-      ap₂ (λ (a : Bool) (t : ℕ). test a 10 p ∷ test (not (member t tags)) 11 p ∷ [])
-      (le-ltb (length (s ++ rest)) (p + headSize) (omega (arith, head, length-append s rest)) ∙ sym (le-ltb (length s) (p + headSize) head))
-      (tag-same s rest p head)
-
-  pub body-tests-same : bodyTests (s ++ rest) p ≡ bodyTests s p
-  body-tests-same =
-      ap (λ (b : Bool). test b 10 p ∷ [])
-      (le-ltb (length (s ++ rest)) (nextAt (s ++ rest) p) (omega (arith, next-same s rest p head, length-append s rest)) ∙ sym (le-ltb (length s) (nextAt s p) whole))
-
-  pub field-tests-same : (tags : List ℕ) (n : Option ℕ) → fieldTests (s ++ rest) tags n p ≡ fieldTests s tags n p
-  field-tests-same tags n = ap₂ (λ (a b : List Test). a ++ b) (head-tests-same tags) (ap₂ (λ (a b : List Test). a ++ b) (lengths n) body-tests-same)
-    where
-      lengths : (m : Option ℕ) → lengthTests (s ++ rest) m p ≡ lengthTests s m p
-      lengths none = refl
-      lengths (some k) = ap (λ (l : ℕ). test (not (eqb l k)) 12 p ∷ []) (length-same s rest p (head-within s rest p whole))
 
 -- ---- the tests of the positions' field
 

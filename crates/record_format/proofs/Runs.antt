@@ -69,7 +69,11 @@ positionsIndex = 1
 abbrev pub ratiosIndex : ℕ
 ratiosIndex = 2
 
--- how many fields a record has from the count's on
+-- how many fields a record has at least before the last two: the rate's, and the side's or else the count's
+abbrev pub leadFieldCount : ℕ
+leadFieldCount = 2
+
+-- and how many from the count's on
 abbrev pub pointFieldCount : ℕ
 pointFieldCount = 3
 

@@ -1,13 +1,14 @@
 -- Laws of a call's tests: the refusal that the first of them gives, by one test and by two lists of tests.
 use mathlib.Core.Bool.{Bool, true, false, not, cond, false≢true}
-use mathlib.Core.List.{List, [], _∷_, _++_}
+use mathlib.Core.List.{List, [], _∷_, _++_, map, map-append}
 use mathlib.Core.Path.{_≡_, refl, sym, ap, ap₂, _∙_}
-use Prim.Native.Nat.{ℕ, _<_}
+use Prim.Native.Nat.{ℕ, _+_, _<_}
+use native.Mathlib.Nat.{add-zero}
 use native.Mathlib.Omega.{arith}
 use borrow.Author.Tests.{ltb-true, eq-eqb}
 use lib.Dec.{ltb, eqb}
 use Rattle.refusals.specs.declared.Refusal.{Refusal}
-use Rattle.refusals.specs.Tests.{Test, noRefusal, firstOf}
+use Rattle.refusals.specs.Tests.{Test, test, noRefusal, firstOf}
 use Rattle.lists.proofs.Lists.{every, every-cons}
 
 -- no test has the number of a success: of tests with literal numbers, by refl
@@ -104,3 +105,30 @@ without-append n [] ts a b = b
 without-append n (s ∷ ss) ts a b =
     let h = every-cons (λ (t : Test). not (eqb (t .number) n)) s ss a in
     ap₂ (λ (x y : Bool). cond x y false) (h .0) (without-append n ss ts (h .1) b)
+
+-- ---- places
+
+-- a test whose place is d further on
+abbrev pub further : ℕ → Test → Test
+further d t = test (t .applies) (t .number) (t .place + d)
+
+pub further-append : (d : ℕ) {xs ys : List Test} (ss ts : List Test) → xs ≡ map (further d) ss → ys ≡ map (further d) ts → xs ++ ys ≡ map (further d) (ss ++ ts)
+further-append d ss ts e f = ap₂ (λ (x y : List Test). x ++ y) e f ∙ sym (map-append (further d) ss ts)
+
+pub further-none : (ts : List Test) → map (further 0) ts ≡ ts
+further-none [] = refl
+further-none (t ∷ ts) = ap₂ (λ (p : ℕ) (l : List Test). test (t .applies) (t .number) p ∷ l) (add-zero (t .place)) (further-none ts)
+
+-- the same number, and of a refusal a place d further on
+abbrev pub Further : ℕ → Refusal → Refusal → Type 0
+Further d f g = (g .number ≡ f .number) × ((f .number ≡ 0 → ⊥) → g ≡ record { number = f .number; place = f .place + d })
+
+pub first-further : (d : ℕ) (ts : List Test) → Further d (firstOf ts) (firstOf (map (further d) ts))
+unfolding firstOf
+first-further d [] = (refl, λ z. absurd (z refl))
+first-further d (t ∷ ts) = go (t .applies) (first-further d ts)
+  where
+    go : (b : Bool) → Further d (firstOf ts) (firstOf (map (further d) ts))
+        → Further d (cond b (record { number = t .number; place = t .place }) (firstOf ts)) (cond b (record { number = t .number; place = t .place + d }) (firstOf (map (further d) ts)))
+    go true h = (refl, λ z. refl)
+    go false h = h

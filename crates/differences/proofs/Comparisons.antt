@@ -28,7 +28,7 @@ use Rattle.differences.specs.Comparisons.{Comparison, runOf, refusedBy, 
 use Rattle.differences.specs.Claims.{Compares, ComparesOnly, EmptyExactly, RefusesFirst, RefusesSecond, MakeUp, ByCalls, ComparisonTrailing, ComparisonFollowed}
 use Rattle.differences.proofs.Claims.{same-run, none-own}
 use Rattle.differences.proofs.Overall.{first-clear, overall-first, overall-second, overall-both}
-use Rattle.record_format.proofs.Reading.Rooms.{any-room, not-expected, not-roomless}
+use Rattle.record_format.proofs.Reading.Rooms.{any-room, never-fourteen, never-sixteen}
 
 -- ---- by two answers
 
@@ -103,13 +103,13 @@ module _ (s ts vs : List ℕ) (bytes : Bytes s) (m : maxPoints ≤ length ts) (n
 
   -- as with the room that a comparison has
   refused-alike : readStrict 0 s blank blank .answer ≡ readStrict 0 s ts vs .answer
-  refused-alike = any-room s blank blank (roomy maxPoints (omega arith)) (roomy maxPoints (omega arith)) ts vs m n
+  refused-alike = any-room strictRatios 0 s blank blank (roomy maxPoints (omega arith)) (roomy maxPoints (omega arith)) ts vs m n
 
 pub refuses-first : RefusesFirst
 refuses-first s t ts vs u m n never = (
   refused-some s ts vs u m n never,
-  not-expected s ts vs m n,
-  not-roomless s ts vs m n,
+  never-fourteen strictRatios s ts vs m n,
+  never-sixteen strictRatios 0 s ts vs m n,
   compared-first (readStrict 0 s blank blank) (readStrict 0 t blank blank)
       (refused-some s blank blank u (roomy maxPoints (omega arith)) (roomy maxPoints (omega arith)) never)
       ∙ ap (λ (a : ReadAnswer). refusedBy a 1) (refused-alike s ts vs u m n never),
@@ -118,8 +118,8 @@ refuses-first s t ts vs u m n never = (
 pub refuses-second : RefusesSecond
 refuses-second r a x t ts vs u m n never = (
   refused-some t ts vs u m n never,
-  not-expected t ts vs m n,
-  not-roomless t ts vs m n,
+  never-fourteen strictRatios t ts vs m n,
+  never-sixteen strictRatios 0 t ts vs m n,
   compared-second (readStrict 0 (recordOf r ++ x) blank blank) (readStrict 0 t blank blank)
       (ap (λ (b : Answer). b .answer .number) (reads-blank r a x))
       (refused-some t blank blank u (roomy maxPoints (omega arith)) (roomy maxPoints (omega arith)) never)
@@ -171,10 +171,10 @@ by-calls s t ts vs us ws u v m n k l = go (eqb (a .answer .number) 0) refl (eqb 
     d = readStrict 0 t blank blank
 
     first-alike : c .answer ≡ a .answer
-    first-alike = any-room s blank blank (roomy maxPoints (omega arith)) (roomy maxPoints (omega arith)) ts vs m n
+    first-alike = any-room strictRatios 0 s blank blank (roomy maxPoints (omega arith)) (roomy maxPoints (omega arith)) ts vs m n
 
     second-alike : d .answer ≡ b .answer
-    second-alike = any-room t blank blank (roomy maxPoints (omega arith)) (roomy maxPoints (omega arith)) us ws k l
+    second-alike = any-room strictRatios 0 t blank blank (roomy maxPoints (omega arith)) (roomy maxPoints (omega arith)) us ws k l
 
     go : (x : Bool) → eqb (a .answer .number) 0 ≡ x → (y : Bool) → eqb (b .answer .number) 0 ≡ y → MakeUp a b (overallOf (a .answer) (b .answer)) (compared c d)
     go false w y z =

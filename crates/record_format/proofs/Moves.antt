@@ -16,7 +16,7 @@ use Rattle.lists.specs.Lists.{member}
 use Rattle.limits.specs.Points.{maxPoints, firstHigh}
 use Rattle.refusals.specs.declared.Refusal.{Refusal}
 use Rattle.refusals.specs.Tests.{Test, test, firstOf, refused}
-use Rattle.refusals.proofs.Tests.{numbered, first-here, first-skip, first-end, first-clear, first-append-none, first-append-some, first-append-clear, numbered-append, without, first-without, without-append}
+use Rattle.refusals.proofs.Tests.{numbered, first-here, first-skip, first-end, first-clear, first-append-none, first-append-some, first-append-cong, first-append-clear, numbered-append, never, first-never, never-append}
 use Rattle.outputs.specs.Outputs.{over}
 use Rattle.position_format.specs.declared.Form.{Form}
 use Rattle.position_format.specs.declared.Form.the-variants.{Old, Wide}
@@ -34,9 +34,10 @@ use Rattle.record_format.specs.Claims.{positionsPlace}
 use Rattle.record_format.specs.MoveClaims.{notMoved, movedTo, FormFirst}
 use Rattle.record_format.proofs.Fields.{length-laid, laid-append, laid-one}
 use Rattle.record_format.proofs.Reading.Fronts.{count-at, positions-at, front-pass, input, front-all, input-length, tag-there}
-use Rattle.record_format.proofs.Reading.{refusal, front-numbered, front-roomless}
+use Rattle.record_format.proofs.Reading.Rooms.{roomy-tests}
+use Rattle.record_format.proofs.Reading.{refusal, front-numbered, front-never-six}
 use Rattle.record_format.proofs.Claims.Returned.{positions-stand, ratios-stand, at-end, counted, run-is, only-own}
-use Rattle.record_format.proofs.Claims.Admitted.{front-clear, clear-begins}
+use Rattle.record_format.proofs.Claims.Admitted.{clear-begins}
 use Rattle.record_format.proofs.Writing.{Fitting, fitting-few, steps-valid, valid-steps}
 
 -- ---- forms
@@ -84,6 +85,19 @@ module _ (f : Form) (s : List ℕ) where
   pub source-front : (firstOf (frontTests 0 s) .number ≡ 0 → ⊥) → firstOf (sourceTests f s) ≡ firstOf (frontTests 0 s)
   source-front d = first-append-some (frontTests 0 s) _ d
 
+  -- a head that has not the tag of f is tested as in reading
+  other-positions : headOf f s ≡ false → firstOf (positionsTestsBy tags s ++ later) ≡ firstOf (positionsTests s ++ later)
+  other-positions e = go (leb (positionsAt s + headSize) (length s)) refl e
+    where
+      go : (b : Bool) → leb (positionsAt s + headSize) (length s) ≡ b → both b (eqb (tagAt s (positionsAt s)) (positionsTag f)) ≡ false
+          → firstOf (positionsTestsBy tags s ++ later) ≡ firstOf (positionsTests s ++ later)
+      go true q h =
+          ap (λ (b : Bool). firstOf (cut-test ∷ test (not b) 11 (positionsAt s) ∷ past-tag))
+          (tags-other f (tagAt s (positionsAt s)) h)
+      go false q h =
+          let cut : ltb (length s) (positionsAt s + headSize) ≡ true = lt-ltb _ _ (leb-false (positionsAt s + headSize) (length s) q) in
+          first-here cut-test _ cut ∙ sym (first-here cut-test _ cut)
+
   module _ (clear : firstOf (frontTests 0 s) .number ≡ 0) where
     past-front : firstOf (sourceTests f s) ≡ firstOf (cut-test ∷ tag-test ∷ past-tag)
     past-front = first-append-none (frontTests 0 s) _ (front-numbered 0 s) clear
@@ -94,37 +108,15 @@ module _ (f : Form) (s : List ℕ) where
         let p = both-true (leb (positionsAt s + headSize) (length s)) _ e in
         past-front ∙ first-skip cut-test _ (le-ltb (length s) (positionsAt s + headSize) (leb-true _ _ (p .0))) ∙ first-here tag-test _ (ap not (tag-not-other f (tagAt s (positionsAt s)) (p .1)))
 
-    -- else the positions' field is tested as in reading
-    other-positions : headOf f s ≡ false → firstOf (positionsTestsBy tags s ++ later) ≡ firstOf (positionsTests s ++ later)
-    other-positions e = go (leb (positionsAt s + headSize) (length s)) refl e
-      where
-        go : (b : Bool) → leb (positionsAt s + headSize) (length s) ≡ b → both b (eqb (tagAt s (positionsAt s)) (positionsTag f)) ≡ false
-            → firstOf (positionsTestsBy tags s ++ later) ≡ firstOf (positionsTests s ++ later)
-        go true q h =
-            ap (λ (b : Bool). firstOf (cut-test ∷ test (not b) 11 (positionsAt s) ∷ past-tag))
-            (tags-other f (tagAt s (positionsAt s)) h)
-        go false q h =
-            let cut : ltb (length s) (positionsAt s + headSize) ≡ true = lt-ltb _ _ (leb-false (positionsAt s + headSize) (length s) q) in
-            first-here cut-test _ cut ∙ sym (first-here cut-test _ cut)
-
+    -- and else those of reading are left
     pub source-points : headOf f s ≡ false → firstOf (sourceTests f s) ≡ firstOf (positionsTests s ++ later)
     source-points e = past-front ∙ other-positions e
 
-  -- where the form is not the one moved to the tests are those of strict reading with room
+  -- where the form is not the one moved to the tests are those of the record, as they are for strict reading with room
   pub source-strict : (m n : ℕ) → maxPoints ≤ m → maxPoints ≤ n → (firstOf (frontTests 0 s) .number ≡ 0 → headOf f s ≡ false)
       → firstOf (sourceTests f s) ≡ firstOf (readTests strictRatios 0 s m n)
-  source-strict m n a b other = go (firstOf (frontTests 0 s) .number) refl
-    where
-      go : (x : ℕ) → firstOf (frontTests 0 s) .number ≡ x → firstOf (sourceTests f s) ≡ firstOf (readTests strictRatios 0 s m n)
-      go zero q =
-          let few = front-clear 0 s [] (ap (λ (l : List Test). firstOf l .number) (append-nil (frontTests 0 s)) ∙ q) .0 .few in
-          source-points q (other q)
-          ∙ sym
-          (first-append-none (frontTests 0 s) _ (front-numbered 0 s) q
-          ∙ first-skip _ _ (ap₂ (λ (x y : Bool). cond x true y) (le-ltb m (countIn s) (omega arith)) (le-ltb n (countIn s) (omega arith))))
-      go (suc x) q =
-          let d : (firstOf (frontTests 0 s) .number ≡ 0 → ⊥) = λ z. omega arith in
-          source-front d ∙ sym (first-append-some (frontTests 0 s) _ d)
+  source-strict m n a b other =
+      first-append-cong (frontTests 0 s) _ _ (front-numbered 0 s) (λ clear. other-positions (other clear)) ∙ sym (roomy-tests strictRatios 0 s m n a b)
 
 -- ---- the whole answer
 
@@ -136,12 +128,12 @@ target-numbered Old ts = refl
 target-numbered Wide ts = refl
 
 -- none but the last has the number 6
-source-roomless : (f : Form) (s : List ℕ) → without 6 (sourceTests f s) ≡ true
-source-roomless f s = without-append 6 (frontTests 0 s) _ (front-roomless 0 s) refl
+source-never-six : (f : Form) (s : List ℕ) → never 6 (sourceTests f s) ≡ true
+source-never-six f s = never-append 6 (frontTests 0 s) _ (front-never-six 0 s) refl
 
-target-roomless : (f : Form) (ts : List ℕ) → without 6 (targetTests f ts) ≡ true
-target-roomless Old ts = refl
-target-roomless Wide ts = refl
+target-never-six : (f : Form) (ts : List ℕ) → never 6 (targetTests f ts) ≡ true
+target-never-six Old ts = refl
+target-never-six Wide ts = refl
 
 -- the tests past those of the record, of a run r
 abbrev pub runMoveTests : Form → Run → List ℕ → List Test
@@ -201,7 +193,7 @@ move-short f s o e = go (firstOf (sourceTests f s) .number) refl
     by-target clear (suc n) q =
         absurd
         (let d : (firstOf (targetTests f (runIn s .positions)) .number ≡ 0 → ⊥) = λ z. omega arith in
-        first-without 6 (lit< tt) (targetTests f (runIn s .positions)) (target-roomless f (runIn s .positions))
+        first-never 6 (lit< tt) (targetTests f (runIn s .positions)) (target-never-six f (runIn s .positions))
         (ap (λ (m : Move). m .answer .number) (target-refused f s o clear (firstOf (targetTests f (runIn s .positions))) refl d) ∙ e))
 
     go : (n : ℕ) → firstOf (sourceTests f s) .number ≡ n
@@ -210,7 +202,7 @@ move-short f s o e = go (firstOf (sourceTests f s) .number) refl
     go (suc n) q =
         absurd
         (let d : (firstOf (sourceTests f s) .number ≡ 0 → ⊥) = λ z. omega arith in
-        first-without 6 (lit< tt) (sourceTests f s) (source-roomless f s)
+        first-never 6 (lit< tt) (sourceTests f s) (source-never-six f s)
         (ap (λ (m : Move). m .answer .number) (source-refused f s o (firstOf (sourceTests f s)) refl d) ∙ e))
 
 -- ---- the run in the other form

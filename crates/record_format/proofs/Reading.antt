@@ -20,11 +20,11 @@ use Rattle.limits.specs.Points.{maxPoints}
 use Rattle.limits.specs.Sides.{isSide}
 use Rattle.refusals.specs.declared.Refusal.{Refusal}
 use Rattle.refusals.specs.Tests.{Test, test, firstOf, refused}
-use Rattle.refusals.proofs.Tests.{numbered, without, first-here, first-skip, first-clear, first-end}
+use Rattle.refusals.proofs.Tests.{numbered, never, first-here, first-skip, first-clear, first-end}
 use Rattle.position_format.specs.declared.Form.the-variants.{Wide}
 use Rattle.position_format.specs.Tables.{pointsOf}
 use Rattle.record_format.specs.Fields.{Field, fieldOf, headSize, fieldBytes, tagAt, lengthAt, bodyAt, nextAt, lengthTests, fieldTests}
-use Rattle.record_format.specs.Reading.{Answer, refusalAnswer, answerBy, missing, sideAt, hasSide, countAt, positionsAt, sideIn, countIn, formIn, positionsIn, lacksRoom, rateTests, sideTests, countTests, frontTests, roomTests, positionsTests, ratiosTests, readTests}
+use Rattle.record_format.specs.Reading.{Answer, refusalAnswer, recordAnswer, answerBy, readWith, missing, sideAt, hasSide, countAt, positionsAt, sideIn, countIn, formIn, positionsIn, lacksRoom, rateTests, sideTests, countTests, frontTests, roomTests, positionsTests, ratiosTests, readTests}
 use Rattle.record_format.specs.Runs.{sideTag, positionsTag, positionsTags, formOf, sideSize}
 use Rattle.record_format.proofs.Fields.{FieldStands, length-body, field-here, below-body}
 
@@ -204,10 +204,10 @@ front-numbered e s = go (hasSide s)
     go false = refl
 
 -- nor that of a test of room for bytes
-pub front-roomless : (e : ℕ) (s : List ℕ) → without 6 (frontTests e s) ≡ true
-front-roomless e s = go (hasSide s)
+pub front-never-six : (e : ℕ) (s : List ℕ) → never 6 (frontTests e s) ≡ true
+front-never-six e s = go (hasSide s)
   where
-    go : (b : Bool) → without 6 (rateTests e s ++ (side-of s b ++ countTests s)) ≡ true
+    go : (b : Bool) → never 6 (rateTests e s ++ (side-of s b ++ countTests s)) ≡ true
     go true = refl
     go false = refl
 
@@ -221,6 +221,14 @@ answer-clear tests a ts vs e = go (firstOf tests .number) refl e
     go zero q e = q
     go (suc n) q e = rw (eqb·suc-zero n) at e
 
+-- the number of an answer is that of the first test that applies
+pub answer-number : (tests : List Test) (a : Answer) (ts vs : List ℕ) → a .answer .number ≡ 0 → answerBy tests a ts vs .answer .number ≡ firstOf tests .number
+answer-number tests a ts vs z = go (eqb (firstOf tests .number) 0) refl
+  where
+    go : (b : Bool) → eqb (firstOf tests .number) 0 ≡ b → answerBy tests a ts vs .answer .number ≡ firstOf tests .number
+    go true q = rw q (z ∙ sym (eqb-true (firstOf tests .number) 0 q))
+    go false q = rw q
+
 module _ (a : Answer) (ts vs : List ℕ) where
   -- a refusal is the whole answer
   pub answer-refused : (tests : List Test) (f : Refusal) → f ≡ firstOf tests → (f .number ≡ 0 → ⊥) → answerBy tests a ts vs ≡ refusalAnswer f ts vs
@@ -228,3 +236,9 @@ module _ (a : Answer) (ts vs : List ℕ) where
 
   pub answer-good : (tests : List Test) → firstOf tests ≡ firstOf [] → answerBy tests a ts vs ≡ a
   answer-good tests e = ap (λ (g : Refusal). cond (refused g) (refusalAnswer g ts vs) a) (e ∙ first-end)
+
+-- a reading that is refused
+pub read-refused : (k : ℕ → List ℕ → Option (List ℕ)) (e : ℕ) (s ts vs : List ℕ) (n p : ℕ) → (n ≡ 0 → ⊥) → firstOf (readTests k e s (length ts) (length vs)) ≡ refusal n p
+    → readWith k e s ts vs ≡ refusalAnswer (refusal n p) ts vs
+unfolding readWith
+read-refused k e s ts vs n p d q = answer-refused (recordAnswer k s ts vs) ts vs (readTests k e s (length ts) (length vs)) (refusal n p) (sym q) d

@@ -28,7 +28,7 @@ use Rattle.record_format.specs.Runs.{rateTag, sideTag, countTag, positio
 use Rattle.record_format.specs.Reading.{Answer, refusalAnswer, recordAnswer, readTests, readWith, rateAt, sideAt, hasSide, countAt, rateIn, sideIn, countIn, otherRate, sideTests, countTests, roomTests, positionsTests, ratiosTests}
 use Rattle.record_format.specs.SideClaims.{rateBytes, sideBytes, Expects, refusedBy, RateRefused, RateFirst, HeadCut, TagRefused, LengthRefused, BodyCut, SideRefused, CountRefused, shifted, SideShifts}
 use Rattle.record_format.proofs.Fields.{FieldStands, length-field, stands, head-stands}
-use Rattle.record_format.proofs.Reading.{refusal, head-short, tag-other, length-other, body-short, field-passes, tests-flat, answer-refused}
+use Rattle.record_format.proofs.Reading.{refusal, head-short, tag-other, length-other, body-short, field-passes, tests-flat, read-refused}
 use Rattle.record_format.proofs.Reading.Moved.{FieldsMoved, later-fields, end-moved, count-same, form-same, positions-same, ratios-same, count-tests-moved, room-tests-moved, positions-tests-moved, ratios-tests-moved}
 use Rattle.record_format.proofs.Runs.{pointFieldCount}
 use Rattle.record_format.proofs.Reading.Sides.{absent-count, absent-tests, present-count, present-side, present-tests}
@@ -57,10 +57,7 @@ not-one x t d = rw (ne-eqb x t d)
 module _ (k : ℕ → List ℕ → Option (List ℕ)) (e : ℕ) (s ts vs : List ℕ) where
   -- what its tests give is the answer
   rate-refuses : (n p : ℕ) → (n ≡ 0 → ⊥) → ((us : List Test) → refusal n p ≡ firstOf (fieldTests s (rateTag ∷ []) (some rateSize) rateAt ++ us)) → readWith k e s ts vs ≡ refusedBy n p ts vs
-  unfolding readWith
-  rate-refuses n p d q =
-      answer-refused (recordAnswer k s ts vs) ts vs (readTests k e s (length ts) (length vs)) (refusal n p)
-      (q _ ∙ sym (ap firstOf (tests-flat k e s (length ts) (length vs)))) d
+  rate-refuses n p d q = read-refused k e s ts vs n p d (ap firstOf (tests-flat k e s (length ts) (length vs)) ∙ sym (q _))
 
 pub rate-refused : RateRefused
 unfolding nextAt
@@ -126,9 +123,8 @@ module _ (k : ℕ → List ℕ → Option (List ℕ)) (e r : ℕ) (rest ts vs : 
       ∙ field-passes rate-stands (rateTag ∷ []) (some rateSize) (test (not (isRate (rateIn s))) 13 rateAt ∷ test (otherRate e (rateIn s)) 14 rateAt ∷ from-side)
       refl (length-digits 256 rateSize r)
 
-  refuses : (n p : ℕ) → (n ≡ 0 → ⊥) → firstOf tests ≡ refusal n p → readWith k e s ts vs ≡ refusedBy n p ts vs
-  unfolding readWith
-  refuses n p d q = answer-refused (recordAnswer k s ts vs) ts vs tests (refusal n p) (sym q) d
+  abbrev refuses : (n p : ℕ) → (n ≡ 0 → ⊥) → firstOf tests ≡ refusal n p → readWith k e s ts vs ≡ refusedBy n p ts vs
+  refuses n p d q = read-refused k e s ts vs n p d q
 
   module _ (small : r < 2 ^ 32) where
     rate-is : rateIn s ≡ r

@@ -7,8 +7,8 @@ use mathlib.Core.Option.{Option, none, some}
 use Prim.Native.Nat.{ℕ, zero, suc, _+_, _^_, _≤_, _<_}
 use native.Mathlib.Nat.{add-zero}
 use native.Mathlib.Omega.{arith}
-use borrow.Author.Tests.{ne-eqb, le-ltb, lt-ltb, leb-true, leb-false}
-use lib.Dec.{ltb, leb, eqb·suc-zero}
+use borrow.Author.Tests.{ne-eqb, le-ltb, lt-ltb}
+use lib.Dec.{ltb, eqb·suc-zero}
 use lib.ListN.{length, getD, drop, length-append}
 use lib.Seq.{getD-append-add}
 use Rattle.lists.specs.Lists.{member}
@@ -28,16 +28,15 @@ use Rattle.position_format.proofs.Positions.Sizes.{points-few}
 use Rattle.position_format.proofs.Tables.WideRows.{wide-valid}
 use Rattle.record_format.specs.Fields.{Field, fieldOf, lengthSize, headSize, fieldBytes, laid, tagAt, lengthAt, bodyAt, nextAt, fieldTests}
 use Rattle.record_format.specs.Runs.{Run, run, positionsTag, positionsTags, formOf, ratiosTag, countSize, positionsField, frontFields, recordOf}
-use Rattle.record_format.specs.Writing.{runTests}
 use Rattle.record_format.specs.Reading.{recordAnswer, readTests, readWith, rateAt, countAt, positionsAt, ratiosAt, endAt, countIn, formIn, positionsIn, ratiosIn, missing, listOf, lacksRoom, positionsTests, ratiosTests}
 use Rattle.record_format.specs.SideClaims.{Expects, refusedBy}
 use Rattle.record_format.specs.Claims.{countPlace, positionsPlace}
-use Rattle.record_format.specs.WideClaims.{FormNumbers, RecordFields, wideTests, RefusesWide, AcceptsWide, FormsApart, frontBytes, CountFirst, TagFirst, BodyByForm, RatiosByReading}
+use Rattle.record_format.specs.WideClaims.{FormNumbers, RecordFields, RefusesWide, AcceptsWide, FormsApart, frontBytes, CountFirst, TagFirst, BodyByForm, RatiosByReading}
 use Rattle.record_format.proofs.Fields.{FieldStands, StandAll, length-field, stands, laid-stand, pastAll, stand-past, small-append, stand-append, past-append, head-stands}
 use Rattle.record_format.proofs.Reading.Fronts.{count-at, positions-at, front-past, rate-is, side-is, count-is, front-tests, input, front-all, front-length, input-length, tag-there, form-is, positions-are, positions-pass}
-use Rattle.record_format.proofs.Reading.{refusal, body-short, field-good, positions-few, positions-many, answer-refused, answer-good}
+use Rattle.record_format.proofs.Reading.{refusal, body-short, field-good, positions-few, positions-many, answer-good, read-refused}
 use Rattle.record_format.proofs.Runs.{form-of, tag-good, front-small, coded-size, form-bodies}
-use Rattle.record_format.proofs.Writing.{fitting-accepted}
+use Rattle.record_format.proofs.Writing.{refuses-by-form, fitting-accepted}
 use Rattle.record_format.proofs.Claims.{no-other, prefix-free}
 
 -- ---- the forms' numbers
@@ -52,16 +51,8 @@ unfolding recordOf
 record-fields r zero ts vs = (refl, refl)
 record-fields r (suc d) ts vs = (rw (eqb·suc-zero d), rw (eqb·suc-zero d))
 
--- the tests of a run by its rate and its side
 pub refuses-wide : RefusesWide
-unfolding firstOf
-refuses-wide r d ts vs = go (isRate r) refl (leb d maxSide) refl
-  where
-    go : (b : Bool) → isRate r ≡ b → (c : Bool) → leb d maxSide ≡ c
-        → firstOf (runTests (run r d Wide ts vs)) ≡ cond (isRate r) (cond (leb d maxSide) (firstOf (wideTests r ts vs)) (refusal 21 0)) (refusal 1 0)
-    go false e c q = rw e
-    go true e true q = rw (e, q, le-ltb maxSide d (leb-true d maxSide q))
-    go true e false q = rw (e, q, lt-ltb maxSide d (leb-false d maxSide q))
+refuses-wide r d ts vs = refuses-by-form Wide r d ts vs
 
 pub accepts-wide : AcceptsWide
 accepts-wide r d ts vs listed sided paired few low words = record {
@@ -89,9 +80,8 @@ module _ (k : ℕ → List ℕ → Option (List ℕ)) (e r d n : ℕ) (s ts vs :
   counted : countIn s ≡ n
   counted = count-is s r d n listed sided counts all
 
-  refuses : (x p : ℕ) → (x ≡ 0 → ⊥) → firstOf tests ≡ refusal x p → readWith k e s ts vs ≡ refusedBy x p ts vs
-  unfolding readWith
-  refuses x p z q = answer-refused (recordAnswer k s ts vs) ts vs tests (refusal x p) (sym q) z
+  abbrev refuses : (x p : ℕ) → (x ≡ 0 → ⊥) → firstOf tests ≡ refusal x p → readWith k e s ts vs ≡ refusedBy x p ts vs
+  refuses x p z q = read-refused k e s ts vs x p z q
 
   past-rate : firstOf tests ≡ firstOf (test (ltb maxPoints n) 15 (countAt s) ∷ test (lacksRoom (length ts) (length vs) n) 16 (countAt s) ∷ (positionsTests s ++ ratiosTests k s))
   past-rate = front-tests s r d n listed sided counts all k e (length ts) (length vs) ∙ first-skip _ _ (no-other e r o)

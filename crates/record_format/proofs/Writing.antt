@@ -1,18 +1,18 @@
 -- Laws of writing: what the acceptance of a run says, what makes a run accepted, and the answer by the test at which a writer stops that
 -- makes the tests in turn.
 use mathlib.Core.Path.{_≡_, ap, _∙_, refl, sym}
-use mathlib.Core.Bool.{true, not, false}
+use mathlib.Core.Bool.{Bool, true, false, not, cond}
 use mathlib.Core.List.{List, [], _∷_, _++_}
 use Prim.Native.Nat.{ℕ, _≤_, _<_}
 use native.Mathlib.Omega.{arith}
-use borrow.Author.Tests.{eqb-true, eq-eqb, ltb-false, le-ltb, not-false, not-true, ne-eqb, lt-ltb}
-use lib.Dec.{ltb, eqb, lit<}
+use borrow.Author.Tests.{eqb-true, eq-eqb, ltb-false, le-ltb, leb-true, leb-false, not-false, not-true, ne-eqb, lt-ltb}
+use lib.Dec.{ltb, leb, eqb, lit<}
 use lib.ListN.{length, drop}
 use Rattle.refusals.specs.declared.Refusal.{Refusal}
 use Rattle.limits.specs.Rates.{isRate}
 use Rattle.limits.specs.Points.{maxPoints, tooHigh, firstHigh}
 use Rattle.limits.specs.Sides.{maxSide}
-use Rattle.refusals.specs.Tests.{firstOf, test}
+use Rattle.refusals.specs.Tests.{Test, test, firstOf}
 use Rattle.lists.proofs.Lists.{first-le}
 use Rattle.refusals.proofs.Tests.{numbered, first-clear, first-skip, first-end, first-here, first-append-none, first-append-some}
 use Rattle.position_format.specs.declared.Form.{Form}
@@ -25,7 +25,7 @@ use Rattle.position_format.proofs.Steps.{length-steps}
 use Rattle.position_format.proofs.Positions.Sizes.{points-few}
 use Rattle.position_format.proofs.Positions.Valid.{valid-parts, valid-of}
 use Rattle.position_format.proofs.Tables.WideRows.{wide-valid}
-use Rattle.record_format.specs.Runs.{Run, recordOf}
+use Rattle.record_format.specs.Runs.{Run, run, recordOf}
 use Rattle.record_format.specs.Writing.{stepTests, runTests, accepts, writeRefusal, writeAnswer, writeOutput}
 use Rattle.outputs.specs.Outputs.{zeros, over}
 use Rattle.record_format.specs.declared.WriteAnswer.{WriteAnswer}
@@ -49,6 +49,26 @@ accepts-clear r e = let n = firstOf (runTests r) .number in eqb-true n 0 (not-fa
 pub clear-accepts : (r : Run) → firstOf (runTests r) .number ≡ 0 → accepts r ≡ true
 unfolding accepts
 clear-accepts r e = rw e
+
+-- a run in the form f is refused by its rate, then by its side, and then by the tests that a run has without one
+module _ (f : Form) (r d : ℕ) (ts vs : List ℕ) where
+  abbrev sidelessTests : List Test
+  sidelessTests =
+      test (not (isRate r)) 1 0
+      ∷ test (not (eqb (length vs) (length ts))) 2 0
+      ∷ test (ltb (pointsOf f) (length ts)) 3 0
+      ∷ test (ltb (firstHigh ts) (length ts)) 4 (firstHigh ts)
+      ∷ stepTests f ts
+
+  pub refuses-by-form : firstOf (runTests (run r d f ts vs)) ≡ cond (isRate r) (cond (leb d maxSide) (firstOf sidelessTests) (refusal 21 0)) (refusal 1 0)
+  unfolding firstOf
+  refuses-by-form = go (isRate r) refl (leb d maxSide) refl
+    where
+      go : (b : Bool) → isRate r ≡ b → (c : Bool) → leb d maxSide ≡ c
+          → firstOf (runTests (run r d f ts vs)) ≡ cond (isRate r) (cond (leb d maxSide) (firstOf sidelessTests) (refusal 21 0)) (refusal 1 0)
+      go false e c q = rw e
+      go true e true q = rw (e, q, le-ltb maxSide d (leb-true d maxSide q))
+      go true e false q = rw (e, q, lt-ltb maxSide d (leb-false d maxSide q))
 
 -- the tests of the steps refuse nothing where the positions are valid in their form: in the wide form there are none, and no step is outside
 

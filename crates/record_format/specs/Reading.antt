@@ -15,6 +15,8 @@
 --   positionsTestsBy tags s   those of the positions' field, whose tag must be one of the list; positionsTests: of either form's
 --   ratiosTests            those of the ratios' field
 --   readTests k e s m n    the tests of reading in their order, with the reading k of the ratios' field
+--   recordTestsBy tags k e s   those of the record alone, without that of the room, where the tag of the positions' field must be one of the list;
+--                          recordTests: of either form's
 --   Answer                 what a reading returns, and both outputs, the caller's buffers, afterwards
 --   refusalAnswer, recordAnswer, answerBy   that of a refusal, of a record, and by a list of tests
 --   readWith k e s ts vs   the whole answer, with outputs ts and vs: number, place, rate, side, count, the form's tag, bytes used, and both outputs
@@ -164,6 +166,14 @@ ratiosTests k s = fieldTests s (ratiosTag ∷ []) none (ratiosAt s) ++ (test (mi
 -- the tests of reading: the fields in order
 abbrev pub readTests : (ℕ → List ℕ → Option (List ℕ)) → ℕ → List ℕ → ℕ → ℕ → List Test
 readTests k e s m n = frontTests e s ++ (roomTests s m n ++ (positionsTests s ++ ratiosTests k s))
+
+-- the tests of the record alone, where some tags of the positions' field are good
+abbrev pub recordTestsBy : List ℕ → (ℕ → List ℕ → Option (List ℕ)) → ℕ → List ℕ → List Test
+recordTestsBy tags k e s = frontTests e s ++ (positionsTestsBy tags s ++ ratiosTests k s)
+
+-- in either form
+abbrev pub recordTests : (ℕ → List ℕ → Option (List ℕ)) → ℕ → List ℕ → List Test
+recordTests k e s = recordTestsBy positionsTags k e s
 
 -- ---- the answer
 

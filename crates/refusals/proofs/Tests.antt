@@ -2,7 +2,7 @@
 use mathlib.Core.Bool.{Bool, true, false, not, cond, false≢true}
 use mathlib.Core.List.{List, [], _∷_, _++_, map, map-append}
 use mathlib.Core.Path.{_≡_, refl, sym, ap, ap₂, _∙_}
-use Prim.Native.Nat.{ℕ, _+_, _<_}
+use Prim.Native.Nat.{ℕ, zero, suc, _+_, _<_}
 use native.Mathlib.Nat.{add-zero}
 use native.Mathlib.Omega.{arith}
 use borrow.Author.Tests.{ltb-true, eq-eqb}
@@ -28,6 +28,11 @@ first-skip t ts e = rw e refl
 pub first-here : (t : Test) (ts : List Test) → t .applies ≡ true → firstOf (t ∷ ts) ≡ record { number = t .number; place = t .place }
 unfolding firstOf
 first-here t ts e = rw e refl
+
+-- before tests that give the same
+pub first-cong : (t : Test) (ss ts : List Test) → firstOf ss ≡ firstOf ts → firstOf (t ∷ ss) ≡ firstOf (t ∷ ts)
+unfolding firstOf
+first-cong t ss ts e = ap (cond (t .applies) (record { number = t .number; place = t .place })) e
 
 -- where nothing is refused, the first test does not apply, and the others refuse nothing
 pub first-clear : (t : Test) (ts : List Test) → 0 < t .number → firstOf (t ∷ ts) .number ≡ 0 → (t .applies ≡ false) × (firstOf ts .number ≡ 0)
@@ -68,6 +73,16 @@ first-append-some (s ∷ ss) ts e = go (s .applies) refl (first-append-some ss t
     go true q f = first-here s (ss ++ ts) q ∙ sym (first-here s ss q)
     go false q f = first-skip s (ss ++ ts) q ∙ f (λ z. e (rw (first-skip s ss q) z)) ∙ sym (first-skip s ss q)
 
+-- two second lists that give the same where the first refuses nothing
+pub first-append-cong : (ss ts us : List Test) → numbered ss ≡ true → (firstOf ss .number ≡ 0 → firstOf ts ≡ firstOf us) → firstOf (ss ++ ts) ≡ firstOf (ss ++ us)
+first-append-cong ss ts us n same = go (firstOf ss .number) refl
+  where
+    go : (x : ℕ) → firstOf ss .number ≡ x → firstOf (ss ++ ts) ≡ firstOf (ss ++ us)
+    go zero q = first-append-none ss ts n q ∙ same q ∙ sym (first-append-none ss us n q)
+    go (suc x) q =
+        let d : (firstOf ss .number ≡ 0 → ⊥) = λ z. omega arith in
+        first-append-some ss ts d ∙ sym (first-append-some ss us d)
+
 -- both lists refuse nothing where together they refuse nothing
 pub first-append-clear : (ss ts : List Test) → numbered ss ≡ true → firstOf (ss ++ ts) .number ≡ 0 → (firstOf ss .number ≡ 0) × (firstOf ts .number ≡ 0)
 first-append-clear [] ts n e = (ap (λ (r : Refusal). r .number) first-end, e)
@@ -84,27 +99,29 @@ numbered-append (s ∷ ss) ts m n =
     let h = every-cons (λ (t : Test). ltb 0 (t .number)) s ss m in
     ap₂ (λ (a b : Bool). cond a b false) (h .0) (numbered-append ss ts (h .1) n)
 
--- ---- numbers that no test has
+-- ---- numbers that no test gives
 
--- no test has the number n: of tests with literal numbers, by refl
-abbrev pub without : ℕ → List Test → Bool
-without n ts = every (λ t. not (eqb (t .number) n)) ts
+-- no test with the number n applies: of tests with literal numbers, by refl
+abbrev pub never : ℕ → List Test → Bool
+never n ts = every (λ t. cond (eqb (t .number) n) (not (t .applies)) true) ts
 
-pub first-without : (n : ℕ) → 0 < n → (ts : List Test) → without n ts ≡ true → firstOf ts .number ≡ n → ⊥
-first-without n some [] w e = let z : firstOf [] .number ≡ 0 = ap (λ (r : Refusal). r .number) first-end in omega arith
-first-without n some (t ∷ ts) w e =
-    let h = every-cons (λ (t : Test). not (eqb (t .number) n)) t ts w in
-    go (t .applies) refl (h .0) (first-without n some ts (h .1))
+pub first-never : (n : ℕ) → 0 < n → (ts : List Test) → never n ts ≡ true → firstOf ts .number ≡ n → ⊥
+first-never n some [] w e = let z : firstOf [] .number ≡ 0 = ap (λ (r : Refusal). r .number) first-end in omega arith
+first-never n some (t ∷ ts) w e =
+    let h = every-cons (λ (t : Test). cond (eqb (t .number) n) (not (t .applies)) true) t ts w in
+    go (t .applies) refl (h .0) (first-never n some ts (h .1))
   where
-    go : (b : Bool) → t .applies ≡ b → not (eqb (t .number) n) ≡ true → (firstOf ts .number ≡ n → ⊥) → ⊥
-    go true q h f = false≢true (sym (ap not (eq-eqb (t .number) n (sym (ap (λ (r : Refusal). r .number) (first-here t ts q)) ∙ e))) ∙ h)
+    go : (b : Bool) → t .applies ≡ b → cond (eqb (t .number) n) (not (t .applies)) true ≡ true → (firstOf ts .number ≡ n → ⊥) → ⊥
+    go true q h f =
+        let own : t .number ≡ n = sym (ap (λ (r : Refusal). r .number) (first-here t ts q)) ∙ e in
+        false≢true (sym (ap₂ (λ (a b : Bool). cond a (not b) true) (eq-eqb (t .number) n own) q) ∙ h)
     go false q h f = f (sym (ap (λ (r : Refusal). r .number) (first-skip t ts q)) ∙ e)
 
-pub without-append : (n : ℕ) (ss ts : List Test) → without n ss ≡ true → without n ts ≡ true → without n (ss ++ ts) ≡ true
-without-append n [] ts a b = b
-without-append n (s ∷ ss) ts a b =
-    let h = every-cons (λ (t : Test). not (eqb (t .number) n)) s ss a in
-    ap₂ (λ (x y : Bool). cond x y false) (h .0) (without-append n ss ts (h .1) b)
+pub never-append : (n : ℕ) (ss ts : List Test) → never n ss ≡ true → never n ts ≡ true → never n (ss ++ ts) ≡ true
+never-append n [] ts a b = b
+never-append n (s ∷ ss) ts a b =
+    let h = every-cons (λ (t : Test). cond (eqb (t .number) n) (not (t .applies)) true) s ss a in
+    ap₂ (λ (x y : Bool). cond x y false) (h .0) (never-append n ss ts (h .1) b)
 
 -- ---- places
 

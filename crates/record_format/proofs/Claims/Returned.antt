@@ -10,7 +10,7 @@ use lib.ListN.{length}
 use Rattle.lists.specs.Lists.{member}
 use Rattle.refusals.specs.declared.Refusal.{Refusal}
 use Rattle.refusals.specs.Tests.{test, firstOf, refused}
-use Rattle.refusals.proofs.Tests.{first-skip}
+use Rattle.refusals.proofs.Tests.{first-skip, first-cong}
 use Rattle.outputs.specs.Outputs.{over}
 use Rattle.ratio_format.specs.Bodies.{codedRatios}
 use Rattle.record_format.specs.Fields.{Field}
@@ -18,7 +18,7 @@ use Rattle.record_format.specs.Runs.{Run, run, positionsTag, ratiosTag, 
 use Rattle.record_format.specs.Claims.{ownTests, ownAnswer, runAnswer}
 use Rattle.record_format.specs.Reading.{Answer, refusalAnswer, recordAnswer, readTests, readWith, rateAt, positionsAt, ratiosAt, endAt, rateIn, sideIn, countIn, formIn, positionsIn, ratiosIn, missing, listOf, otherRate, lacksRoom, ratiosTests}
 use Rattle.record_format.proofs.Fields.{FieldStands, StandAll, laid-stand, pastAll, stand-past, stand-append, past-append}
-use Rattle.record_format.proofs.Reading.Fronts.{first-cong, count-at, front-past, rate-is, side-is, count-is, front-tests, form-is, positions-are, positions-pass}
+use Rattle.record_format.proofs.Reading.Fronts.{count-at, front-past, rate-is, side-is, count-is, front-tests, form-is, positions-are, positions-pass}
 use Rattle.record_format.proofs.Reading.{field-passes}
 use Rattle.record_format.proofs.Runs.{same-run, fields-small}
 use Rattle.record_format.proofs.Writing.{Fitting, fitting-few}

@@ -1,7 +1,7 @@
 -- The front of a record as it stands at the front of bytes, and the positions past it: where the fields are, what is read in them, and which tests are
 -- left to decide.
 use mathlib.Core.Path.{_≡_, refl, sym, ap, ap₂, _∙_, subst}
-use mathlib.Core.Bool.{true, not, cond}
+use mathlib.Core.Bool.{true, not}
 use mathlib.Core.List.{List, [], _∷_, _++_}
 use mathlib.Core.Option.{Option, none, some}
 use Prim.Native.Nat.{ℕ, _+_, _^_, _≤_, _<_}
@@ -19,7 +19,7 @@ use Rattle.limits.specs.Rates.{isRate}
 use Rattle.limits.specs.Sides.{maxSide}
 use Rattle.limits.proofs.Rates.{rate-high}
 use Rattle.refusals.specs.Tests.{Test, test, firstOf}
-use Rattle.refusals.proofs.Tests.{first-skip}
+use Rattle.refusals.proofs.Tests.{first-skip, first-cong}
 use Rattle.position_format.specs.declared.Form.{Form}
 use Rattle.position_format.specs.Positions.{validPositions, readPositions}
 use Rattle.position_format.specs.Tables.{tableOf, pointsOf}
@@ -33,11 +33,6 @@ use Rattle.record_format.proofs.Fields.{FieldStands, StandAll, length-f
 use Rattle.record_format.proofs.Reading.{field-passes, positions-few, front-flat}
 use Rattle.record_format.proofs.Runs.{form-of, tag-good, length-side, front-small}
 use Rattle.record_format.proofs.Reading.Sides.{stand-count, stand-side, side-passes}
-
--- a test before two lists that give the same
-pub first-cong : (t : Test) (us ts : List Test) → firstOf us ≡ firstOf ts → firstOf (t ∷ us) ≡ firstOf (t ∷ ts)
-unfolding firstOf
-first-cong t us ts e = ap (cond (t .applies) (record { number = t .number; place = t .place })) e
 
 -- ---- the front
 

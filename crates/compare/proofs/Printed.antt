@@ -7,10 +7,11 @@ use borrow.Author.Tests.{eq-eqb, ne-eqb}
 use lib.ListN.{length, take}
 use lib.Seq.{take-all}
 use Rattle.record_format.specs.Claims.{Bytes}
-use Rattle.record_format.specs.Reading.{Answer, readStrict}
+use Rattle.record_format.specs.Reading.{Answer, readStrict, blank}
 use Rattle.record_format.specs.declared.ReadAnswer.{ReadAnswer}
-use Rattle.inputs.specs.Inputs.{inputLimit, blank}
-use Rattle.inputs.proofs.Inputs.{Read, answerOf, read-all, roomy}
+use Rattle.record_format.proofs.Reading.Rooms.{roomy}
+use Rattle.inputs.specs.Inputs.{inputLimit}
+use Rattle.inputs.proofs.Inputs.{Read, answerOf, read-all}
 use Rattle.differences.specs.declared.OverallDifferences.{OverallDifferences}
 use Rattle.differences.specs.Overall.{overallOf}
 use Rattle.differences.specs.Comparisons.{Comparison, comparison, runOf}

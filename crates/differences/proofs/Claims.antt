@@ -7,7 +7,7 @@ use mathlib.Core.Logic.{_⊎_, inl, inr, ⊎-elim, _↔_}
 use mathlib.Core.Path.{_≡_, refl, sym, ap, ap₂, subst, _∙_}
 use Prim.Native.Nat.{ℕ, zero, suc, _+_, _-_, _≤_, _<_, min}
 use native.Mathlib.Omega.{arith}
-use borrow.Author.Tests.{eqb-true, eqb-false, eq-eqb, ltb-true, ltb-false}
+use borrow.Author.Tests.{eqb-true, eqb-false, ltb-true, ltb-false}
 use lib.Dec.{eqb, ltb}
 use lib.ListN.{length, getD}
 use lib.Seq.{ext-getD}
@@ -15,7 +15,7 @@ use Rattle.kind.specs.Kinds.{kindOf}
 use Rattle.position_format.specs.declared.Form.{Form}
 use Rattle.record_format.specs.Claims.{Accepted}
 use Rattle.record_format.specs.Runs.{Run, run, positionsTag, formOf, recordOf}
-use Rattle.record_format.proofs.Claims.{unique}
+use Rattle.record_format.proofs.Claims.{records-unique}
 use Rattle.record_format.proofs.Runs.{form-of}
 use Rattle.record_format.proofs.Writing.{accepted-fits}
 use Rattle.differences.specs.declared.Property.{Property}
@@ -28,7 +28,7 @@ use Rattle.differences.specs.Differences.{propertyDifference, moreDiffer
 use Rattle.lists.specs.Among.{Among}
 use Rattle.lists.proofs.Among.{among-left, among-right, among-either, among-none}
 use Rattle.differences.specs.Claims.{valueOf, Differs, ListsExactly, EmptyWhenSame}
-use Rattle.differences.proofs.Differences.{property-other, more-other, values-beyond, values-same, values-other}
+use Rattle.differences.proofs.Differences.{property-other, more-other, values-beyond, values-other}
 
 -- ---- the values at an index
 
@@ -284,6 +284,6 @@ pub empty-when-same : EmptyWhenSame
 empty-when-same r q a b = (
   λ e. ap recordOf (same-run r q a b e),
   λ e.
-      let same = unique r q a b [] [] (append-nil (recordOf r) ∙ e ∙ sym (append-nil (recordOf q))) .0 in
+      let same = records-unique r q a b [] [] (append-nil (recordOf r) ∙ e ∙ sym (append-nil (recordOf q))) .0 in
       subst (λ (x : Run). differences r x ≡ []) same (none-own r a),
 )

@@ -14,7 +14,7 @@ use Rattle.lists.specs.Below.{Below}
 use Rattle.limits.specs.Points.{maxPoints}
 use Rattle.ratio_format.specs.Bodies.{codedRatios}
 use Rattle.record_format.specs.Claims.{ownAnswer}
-use Rattle.record_format.specs.Reading.{Answer}
+use Rattle.record_format.specs.Reading.{Answer, blank}
 use Rattle.record_format.specs.Runs.{Run, recordOf}
 use Rattle.record_format.specs.declared.ReadAnswer.{ReadAnswer}
 use Rattle.record_format.proofs.Sizes.{within}
@@ -23,8 +23,9 @@ use Rattle.text.specs.Lines.{refusedLine}
 use Rattle.reasons.specs.declared.Reason.{Reason}
 use Rattle.reasons.specs.Reasons.{explained}
 use Rattle.reasons.proofs.Reasons.{explained-past}
-use Rattle.inputs.specs.Inputs.{inputLimit, blank}
-use Rattle.inputs.proofs.Inputs.{Read, answerOf, over-front, read-input, read-own}
+use Rattle.outputs.proofs.Outputs.{take-over}
+use Rattle.inputs.specs.Inputs.{inputLimit}
+use Rattle.inputs.proofs.Inputs.{Read, answerOf, read-input, read-own}
 use Rattle.explain.specs.Indexes.{indexOf, capped}
 use Rattle.explain.specs.Lines.{costLine, reasonLine}
 use Rattle.explain.specs.Printed.{bodyIn, costOf, offsetOf, pointText, indexText, answerText, printed}
@@ -79,7 +80,7 @@ module _ {s : List ℕ} {r : ReadAnswer} {ts vs : List ℕ} (h : Read s r ts vs)
         let used : r .used ≡ length (recordOf run) = ap (λ (a : Answer). a .answer .used) e in
         let ratios : own ≡ run .ratios =
         ap₂ (λ (n : ℕ) (l : List ℕ). take n l) (ap (λ (a : Answer). a .answer .count) e) (ap (λ (a : Answer). a .ratios) e)
-        ∙ over-front (run .ratios) blank (length (run .positions)) (f .paired) in
+        ∙ take-over (run .ratios) blank (length (run .positions)) (f .paired) in
         let size : length (codedRatios own) ≡ length (codedRatios (run .ratios)) = ap (λ (l : List ℕ). length (codedRatios l)) ratios in
         let end : bodyIn s + length (codedRatios (run .ratios)) ≡ length (recordOf run) =
         subst (λ (l : List ℕ). bodyIn l + length (codedRatios (run .ratios)) ≡ length (recordOf run)) (sym (o .2 .1)) (body-end run f (o .2 .0)) in

@@ -3,20 +3,19 @@ use mathlib.Core.Path.{_≡_, sym, ap, ap₂, subst, _∙_}
 use mathlib.Core.List.{List, _++_, append-assoc}
 use Prim.Native.Nat.{ℕ, _+_, _-_, _≤_}
 use native.Mathlib.Omega.{arith}
-use lib.ListN.{length, take, drop, length-append, length-replicate, take-append-drop}
+use lib.ListN.{length, take, drop, length-append, take-append-drop}
 use lib.Seq.{take-all, take-at, take-append-add}
 use Rattle.lists.specs.Below.{Below}
 use Rattle.lists.proofs.Below.{below-take}
 use Rattle.limits.specs.Points.{maxPoints}
-use Rattle.outputs.specs.Outputs.{over}
 use Rattle.record_format.specs.Claims.{Accepted, Beginning, Bytes, ownAnswer}
-use Rattle.record_format.specs.Reading.{Answer, readStrict}
+use Rattle.record_format.specs.Reading.{Answer, readStrict, blank}
 use Rattle.record_format.specs.Runs.{Run, recordOf}
 use Rattle.record_format.specs.declared.ReadAnswer.{ReadAnswer}
 use Rattle.record_format.proofs.Writing.{accepted-fits, fitting-few}
 use Rattle.record_format.proofs.Sizes.{within}
-use Rattle.record_format.proofs.Claims.{reads-back, reads-only, with-room}
-use Rattle.inputs.specs.Inputs.{inputLimit, blank, readInput, ReadsFar}
+use Rattle.record_format.proofs.Claims.{reads-only, reads-blank}
+use Rattle.inputs.specs.Inputs.{inputLimit, readInput, ReadsFar}
 
 -- ---- what strict reading of the bytes s left: it answered r, and the outputs are ts and vs
 
@@ -43,10 +42,6 @@ pub record Held (n : ℕ) (ts vs : List ℕ) : Type 0 where
 -- an answer by its parts
 abbrev pub answerOf : ReadAnswer → List ℕ → List ℕ → Answer
 answerOf r ts vs = record { answer = r; positions = ts; ratios = vs }
-
--- the numbers at the front of an output
-pub over-front : (xs o : List ℕ) (n : ℕ) → length xs ≡ n → take n (over xs o) ≡ xs
-over-front xs o n e = take-at xs (drop (length xs) o) n e
 
 module _ {s : List ℕ} {r : ReadAnswer} {ts vs : List ℕ} (h : Read s r ts vs) where
   pub read-all : answerOf r ts vs ≡ readStrict 0 s blank blank
@@ -80,23 +75,12 @@ module _ {s : List ℕ} {r : ReadAnswer} {ts vs : List ℕ} (h : Read s r ts vs)
 
 -- ---- what a program reads of a record, and of all else
 
--- the room is enough
-pub roomy : (n : ℕ) → n ≤ maxPoints → n ≤ length blank
-unfolding blank
-roomy n h = omega (arith, length-replicate {A = ℕ} maxPoints 0)
-
 -- a record is not cut: it is no longer than what a program reads
 pub record-uncut : (r : Run) → Accepted r → (rest : List ℕ) → take inputLimit (recordOf r ++ rest) ≡ recordOf r ++ take (inputLimit - length (recordOf r)) rest
 record-uncut r a rest =
     let h = within r a .1 in
     let e : inputLimit ≡ length (recordOf r) + (inputLimit - length (recordOf r)) = omega arith in
     ap (λ (n : ℕ). take n (recordOf r ++ rest)) e ∙ take-append-add (recordOf r) rest (inputLimit - length (recordOf r))
-
--- strict reading with this room gives back the run
-pub reads-blank : (r : Run) → Accepted r → (rest : List ℕ) → readStrict 0 (recordOf r ++ rest) blank blank ≡ ownAnswer r blank blank
-reads-blank r a rest =
-    let few = fitting-few r (accepted-fits r (a .passes)) in
-    reads-back r a 0 rest blank blank .0 ∙ with-room r blank blank (roomy (length (r .positions)) few) (roomy (length (r .positions)) few)
 
 pub reads-record : (r : Run) → Accepted r → (rest : List ℕ) → readInput (recordOf r ++ rest) ≡ ownAnswer r blank blank
 reads-record r a rest =

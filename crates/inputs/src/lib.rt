@@ -1,7 +1,8 @@
 // What every program that reads a record shares: room for as many bytes as it reads, and for the numbers of every run. Internal.
 ghost use mathlib.Core.Path.{_≡_};
 ghost use lib.ListN.{length};
-ghost use Rattle.inputs.specs.Inputs.{inputLimit, blank};
+ghost use Rattle.record_format.specs.Reading.{blank};
+ghost use Rattle.inputs.specs.Inputs.{inputLimit};
 use limits::MAX_POINTS;
 
 // As many bytes as a program reads: 64 KiB, which every record stays below.

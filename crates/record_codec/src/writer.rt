@@ -9,7 +9,7 @@ ghost use Rattle.position_format.specs.Positions.{validPositions};
 ghost use Rattle.position_format.specs.Tables.{tableOf};
 ghost use Rattle.refusals.specs.Tests.{firstOf};
 ghost use Rattle.record_format.specs.Runs.{run, recordOf};
-ghost use Rattle.record_format.specs.Writing.{stepTests, runTests, writeAnswer, writeOutput};
+ghost use Rattle.record_format.specs.Writing.{outsideTests, runTests, writeAnswer, writeOutput};
 use outputs::Wrote;
 use position_format::Form;
 use record_format::WriteAnswer;
@@ -43,7 +43,7 @@ fn put_record(
 // The refusal of positions by a step that document 01's table does not hold: 5.
 pub(crate) fn old_steps(positions: &[u64]) -> Refusal
     requires { ⌜ (length (now positions) ≤ firstHigh (now positions)) × (length (now positions) ≤ maxPoints) ⌝ }
-    ensures { λ r. ⌜ r ≡ firstOf (stepTests Form.Old (now (positions .entry))) ⌝ }
+    ensures { λ r. ⌜ r ≡ firstOf (outsideTests Form.Old (now (positions .entry))) ⌝ }
 {
     let outside = position_codec::first_outside(positions);
     if outside < positions.len() {
@@ -61,7 +61,7 @@ pub(crate) fn old_steps(positions: &[u64]) -> Refusal
 // The same in a form: the wide one has a code for every step.
 fn check_steps(form: Form, positions: &[u64]) -> Refusal
     requires { ⌜ (length (now positions) ≤ firstHigh (now positions)) × (length (now positions) ≤ maxPoints) ⌝ }
-    ensures { λ r. ⌜ r ≡ firstOf (stepTests form (now (positions .entry))) ⌝ }
+    ensures { λ r. ⌜ r ≡ firstOf (outsideTests form (now (positions .entry))) ⌝ }
 {
     match form {
         Form::Old => old_steps(positions),

@@ -49,7 +49,7 @@ laid-one f = append-nil (fieldBytes f)
 
 -- the field f stands at the offset p of the bytes s
 pub record FieldStands (s : List ℕ) (p : ℕ) (f : Field) : Type 0 where
-  pub head : p + headSize ≤ length s
+  pub head-whole : p + headSize ≤ length s
   pub tagged : tagAt s p ≡ f .tag
   pub stated : lengthAt s p ≡ length (f .body)
   pub whole : nextAt s p ≤ length s
@@ -101,9 +101,9 @@ module _ (before : List ℕ) (f : Field) (rest : List ℕ) (small : length (f .b
   length-here : length here ≡ p + length (fieldBytes f) + length rest
   length-here = length-append before (fieldBytes f ++ rest) ∙ omega (arith, length-append (fieldBytes f) rest)
 
-  pub stands : FieldStands here p f
-  stands = record {
-    head = omega (arith, length-here, length-field f);
+  pub field-stands : FieldStands here p f
+  field-stands = record {
+    head-whole = omega (arith, length-here, length-field f);
     tagged = tag-at;
     stated = length-at;
     whole = omega (arith, length-here, next-at);
@@ -158,7 +158,7 @@ laid-stand before (f ∷ fs) rest small = go (laid-stand (before ++ fieldBytes f
     go : StandAll ((before ++ fieldBytes f) ++ (laid fs ++ rest)) (length (before ++ fieldBytes f)) fs
         → StandAll (before ++ (laid (f ∷ fs) ++ rest)) (length before) (f ∷ fs)
     go h =
-        let here = stands before f (laid fs ++ rest) (small .0) in
+        let here = field-stands before f (laid fs ++ rest) (small .0) in
         let e : nextAt (before ++ (fieldBytes f ++ (laid fs ++ rest))) (length before) ≡ length (before ++ fieldBytes f) =
         here .next ∙ sym (length-append before (fieldBytes f)) in
         rw first (here, rw e (subst (λ (l : List ℕ). StandAll l (length (before ++ fieldBytes f)) fs) later h))
@@ -196,8 +196,8 @@ cancel a x y e = sym (drop-append-seam a x) ∙ ap (drop (length a)) e ∙ drop-
 
 pub field-same : (f g : Field) → length (f .body) ≤ maxBody → length (g .body) ≤ maxBody → (x y : List ℕ) → fieldBytes f ++ x ≡ fieldBytes g ++ y → (f ≡ g) × (x ≡ y)
 field-same f g m n x y e =
-    let a = stands [] f x m in
-    let b = stands [] g y n in
+    let a = field-stands [] f x m in
+    let b = field-stands [] g y n in
     let t : f .tag ≡ g .tag = sym (a .tagged) ∙ ap (λ (l : List ℕ). tagAt l 0) e ∙ b .tagged in
     let c : f .body ≡ g .body = sym (a .within) ∙ ap (λ (l : List ℕ). bodyAt l 0) e ∙ b .within in
     let h : f ≡ g = ap₂ fieldOf t c in

@@ -8,13 +8,12 @@ use lib.Dec.{lit<}
 use Rattle.position_format.specs.declared.Form.the-variants.{Old}
 use Rattle.refusals.specs.declared.Refusal.{Refusal}
 use Rattle.limits.specs.Rates.{isRate}
-use Rattle.refusals.specs.Tests.{firstOf}
+use Rattle.refusals.specs.Tests.{refusal, firstOf}
 use Rattle.refusals.proofs.Tests.{first-clear}
 use Rattle.record_format.specs.Runs.{run, recordOf}
 use Rattle.record_format.specs.Reading.{readStrict, readOpen}
 use Rattle.record_format.specs.Claims.{Accepted}
 use Rattle.record_format.specs.FourFields.{fourTests, SameRecord, RefusesBySide, ReadsAsZero}
-use Rattle.record_format.proofs.Reading.{refusal}
 use Rattle.record_format.proofs.Writing.{refuses-by-form, clear-accepts}
 use Rattle.record_format.proofs.Claims.{reads-back}
 

@@ -13,7 +13,7 @@ use lib.Seq.{take-at, getD-drop}
 use Rattle.lists.proofs.Compare.{both-true}
 use Rattle.limits.specs.Points.{maxPoints}
 use Rattle.refusals.specs.declared.Refusal.{Refusal}
-use Rattle.refusals.specs.Tests.{Test, test, firstOf}
+use Rattle.refusals.specs.Tests.{Test, test, refusal, firstOf}
 use Rattle.refusals.proofs.Tests.{first-here, first-skip, first-end, first-clear, first-append-clear}
 use Rattle.position_format.specs.declared.Form.{Form}
 use Rattle.position_format.specs.declared.Form.the-variants.{Old, Wide}
@@ -26,8 +26,8 @@ use Rattle.record_format.specs.Runs.{Run, positionsTag, recordOf}
 use Rattle.record_format.specs.Reading.{Answer, recordAnswer, readTests, readStrict, readWith, positionsAt, rateIn, sideIn, countIn, frontTests}
 use Rattle.record_format.specs.Moves.{Move, otherForm, inForm, runIn, sourceTests, targetTests, moveTests, moveOf}
 use Rattle.record_format.specs.Claims.{Accepted, Bytes, Beginning, ownTests, runAnswer}
-use Rattle.record_format.specs.MoveClaims.{notMoved, movedTo, ByRoom, ToWide, Held, ToOld, FormThere, StrictFirst, MovesOnly, MovesBack, ReadsAlike, MovesWhole}
-use Rattle.record_format.proofs.Reading.{refusal, front-numbered}
+use Rattle.record_format.specs.MoveClaims.{notMoved, movedTo, ByRoom, ToWide, StepHeld, ToOld, FormThere, StrictFirst, MovesOnly, MovesBack, ReadsAlike, MovesWhole}
+use Rattle.record_format.proofs.Reading.{front-numbered}
 use Rattle.record_format.proofs.Claims.Admitted.{FrontSound, front-clear, front-splits, clear-begins}
 use Rattle.record_format.proofs.Reading.Sides.{side-follows}
 use Rattle.record_format.proofs.Moves.{other-other, headOf, source-form, source-strict, target-numbered, runMoveTests, source-refused, move-done, move-clear, move-short, moved-fits, fits-target, ownMove, own-run, own-move, own-target, own-room, own-done, own-form}
@@ -64,7 +64,7 @@ to-wide r a e rest o = (
 )
 
 -- steps that the table holds from the third point on, up to the point of index k + 2
-held-to : (ts : List ℕ) (k : ℕ) → ((i : ℕ) → 2 ≤ i → i < k + 2 → Held ts i) → k + 2 ≤ length ts → k + 2 ≤ firstOutside rows ts
+held-to : (ts : List ℕ) (k : ℕ) → ((i : ℕ) → 2 ≤ i → i < k + 2 → StepHeld ts i) → k + 2 ≤ length ts → k + 2 ≤ firstOutside rows ts
 held-to ts zero all h = omega arith
 held-to ts (suc k) all h =
     let so-far = held-to ts k (λ i a b. all i a (omega arith)) (omega arith) in
@@ -72,7 +72,7 @@ held-to ts (suc k) all h =
     omega arith
 
 -- and of every point
-held-all : (ts : List ℕ) → ((i : ℕ) → 2 ≤ i → i < length ts → Held ts i) → length ts ≤ firstOutside rows ts
+held-all : (ts : List ℕ) → ((i : ℕ) → 2 ≤ i → i < length ts → StepHeld ts i) → length ts ≤ firstOutside rows ts
 held-all ts all = go (leb 2 (length ts)) refl
   where
     go : (b : Bool) → leb 2 (length ts) ≡ b → length ts ≤ firstOutside rows ts
@@ -85,7 +85,7 @@ held-all ts all = go (leb 2 (length ts)) refl
         omega arith
 
 -- the first point whose step it does not hold
-not-held : (ts : List ℕ) (p : ℕ) → 2 ≤ p → p < length ts → (Held ts p → ⊥) → ((i : ℕ) → 2 ≤ i → i < p → Held ts i) → p ≡ firstOutside rows ts
+not-held : (ts : List ℕ) (p : ℕ) → 2 ≤ p → p < length ts → (StepHeld ts p → ⊥) → ((i : ℕ) → 2 ≤ i → i < p → StepHeld ts i) → p ≡ firstOutside rows ts
 not-held ts p two here out all = go (inTable rows (stepHere ts p)) refl
   where
     go : (b : Bool) → inTable rows (stepHere ts p) ≡ b → p ≡ firstOutside rows ts

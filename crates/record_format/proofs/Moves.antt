@@ -15,7 +15,7 @@ use Rattle.lists.proofs.Compare.{both-true}
 use Rattle.lists.specs.Lists.{member}
 use Rattle.limits.specs.Points.{maxPoints, firstHigh}
 use Rattle.refusals.specs.declared.Refusal.{Refusal}
-use Rattle.refusals.specs.Tests.{Test, test, firstOf, refused}
+use Rattle.refusals.specs.Tests.{Test, test, refusal, firstOf, refused}
 use Rattle.refusals.proofs.Tests.{numbered, first-here, first-skip, first-end, first-clear, first-append-none, first-append-some, first-append-cong, first-append-clear, numbered-append, never, first-never, never-append}
 use Rattle.outputs.specs.Outputs.{over}
 use Rattle.position_format.specs.declared.Form.{Form}
@@ -35,8 +35,8 @@ use Rattle.record_format.specs.MoveClaims.{notMoved, movedTo, FormFirst}
 use Rattle.record_format.proofs.Fields.{length-laid, laid-append, laid-one}
 use Rattle.record_format.proofs.Reading.Fronts.{count-at, positions-at, front-pass, input, front-all, input-length, tag-there}
 use Rattle.record_format.proofs.Reading.Rooms.{roomy-tests}
-use Rattle.record_format.proofs.Reading.{refusal, front-numbered, front-never-six}
-use Rattle.record_format.proofs.Claims.Returned.{positions-stand, ratios-stand, at-end, counted, run-is, only-own}
+use Rattle.record_format.proofs.Reading.{front-numbered, front-never-six}
+use Rattle.record_format.proofs.Claims.Returned.{positions-stand, ratios-stand, at-end, count-read, run-is, only-own}
 use Rattle.record_format.proofs.Claims.Admitted.{clear-begins}
 use Rattle.record_format.proofs.Writing.{Fitting, fitting-few, steps-valid, valid-steps}
 
@@ -378,7 +378,7 @@ module _ (r : Run) (fit : Fitting r) (words : Below (2 ^ 64) (r .ratios)) (rest 
       ap₂ drop at (ap (λ (l : List ℕ). l ++ rest) split ∙ append-assoc (laid points) (laid values) rest) ∙ drop-at (laid points) (laid values ++ rest) (length (laid points)) refl in
       record {
         fits = subst Fitting (sym run-here) fit;
-        many = counted r fit rest ∙ ap (λ (q : Run). length (q .positions)) (sym run-here);
+        many = count-read r fit rest ∙ ap (λ (q : Run). length (q .positions)) (sym run-here);
         order = omega (arith, end, at);
         ratios = ap₂ take size past ∙ take-at (laid values) rest (length (laid values)) refl
             ∙ ap (λ (q : Run). laid (ratiosField (q .ratios) ∷ [])) (sym run-here);

@@ -19,7 +19,7 @@ use Rattle.bits.proofs.Digits.{digits-number}
 use Rattle.limits.specs.Points.{maxPoints}
 use Rattle.limits.specs.Sides.{isSide}
 use Rattle.refusals.specs.declared.Refusal.{Refusal}
-use Rattle.refusals.specs.Tests.{Test, test, firstOf, refused}
+use Rattle.refusals.specs.Tests.{Test, test, refusal, firstOf, refused}
 use Rattle.refusals.proofs.Tests.{numbered, never, first-here, first-skip, first-clear, first-end}
 use Rattle.position_format.specs.declared.Form.the-variants.{Wide}
 use Rattle.position_format.specs.Tables.{pointsOf}
@@ -27,10 +27,6 @@ use Rattle.record_format.specs.Fields.{Field, fieldOf, headSize, fieldBy
 use Rattle.record_format.specs.Reading.{Answer, refusalAnswer, recordAnswer, answerBy, readWith, missing, sideAt, hasSide, countAt, positionsAt, sideIn, countIn, formIn, positionsIn, lacksRoom, rateTests, sideTests, countTests, frontTests, roomTests, positionsTests, ratiosTests, readTests}
 use Rattle.record_format.specs.Runs.{sideTag, positionsTag, positionsTags, formOf, sideSize}
 use Rattle.record_format.proofs.Fields.{FieldStands, length-body, field-here, below-body}
-
--- a refusal by its number and place
-abbrev pub refusal : ℕ → ℕ → Refusal
-refusal n p = record { number = n; place = p }
 
 -- ---- the tests of a field, by how it turns out
 
@@ -86,12 +82,12 @@ module _ (s tags : List ℕ) (n : Option ℕ) (p : ℕ) (ts : List Test) where
 pub field-passes : {s : List ℕ} {p : ℕ} {f : Field} → FieldStands s p f → (tags : List ℕ) (n : Option ℕ) (ts : List Test)
     → member (f .tag) tags ≡ true → Stated n (length (f .body)) → firstOf (fieldTests s tags n p ++ ts) ≡ firstOf ts
 field-passes {s} {p} {f} h tags n ts t l =
-    field-good s tags n p ts (h .head) (ap (λ (x : ℕ). member x tags) (h .tagged) ∙ t) (subst (Stated n) (sym (h .stated)) l) (h .whole)
+    field-good s tags n p ts (h .head-whole) (ap (λ (x : ℕ). member x tags) (h .tagged) ∙ t) (subst (Stated n) (sym (h .stated)) l) (h .whole)
 
 -- ---- a field that is not refused
 
 pub record FieldSound (s tags : List ℕ) (n : Option ℕ) (p : ℕ) : Type 0 where
-  pub head : p + headSize ≤ length s
+  pub head-whole : p + headSize ≤ length s
   pub tagged : member (tagAt s p) tags ≡ true
   pub stated : Stated n (lengthAt s p)
   pub whole : nextAt s p ≤ length s
@@ -100,7 +96,7 @@ pub field-clear : (s tags : List ℕ) (n : Option ℕ) (p : ℕ) (ts : List Test
 field-clear s tags n p ts clear = go n clear
   where
     made : (m : Option ℕ) → ltb (length s) (p + headSize) ≡ false → not (member (tagAt s p) tags) ≡ false → Stated m (lengthAt s p) → ltb (length s) (nextAt s p) ≡ false → FieldSound s tags m p
-    made m a b c d = record { head = ltb-false _ _ a; tagged = not-false _ b; stated = c; whole = ltb-false _ _ d }
+    made m a b c d = record { head-whole = ltb-false _ _ a; tagged = not-false _ b; stated = c; whole = ltb-false _ _ d }
 
     go : (m : Option ℕ) → firstOf (fieldTests s tags m p ++ ts) .number ≡ 0 → FieldSound s tags m p × (firstOf ts .number ≡ 0)
     go none e =
@@ -127,16 +123,16 @@ module _ {s : List ℕ} {tag : ℕ} {n : Option ℕ} {p : ℕ} (bytes : Below 25
   -- it is the field of its tag with the body that stands there, written as b
   pub sound-follows : (b : List ℕ) → bodyAt s p ≡ b → drop p s ≡ fieldBytes (fieldOf tag b) ++ drop (nextAt s p) s
   sound-follows b e =
-      field-here s p bytes (h .head) (h .whole)
+      field-here s p bytes (h .head-whole) (h .whole)
       ∙ ap₂ (λ (t : ℕ) (l : List ℕ). fieldBytes (fieldOf t l) ++ drop (nextAt s p) s) (one-of (tagAt s p) tag (h .tagged)) e
 
   pub sound-below : Below 256 (bodyAt s p)
-  sound-below = below-body s p bytes (h .head) (h .whole)
+  sound-below = below-body s p bytes (h .head-whole) (h .whole)
 
 -- a field of k bytes holds the number that they stand for
 pub sound-number : {s : List ℕ} {tag k p : ℕ} → Below 256 s → FieldSound s (tag ∷ []) (some k) p → bodyAt s p ≡ bytesOf k (numberOf 256 (bodyAt s p))
 sound-number {s} {tag} {k} {p} bytes h =
-    let e : length (bodyAt s p) ≡ k = length-body s p bytes (h .head) (h .whole) ∙ h .stated in
+    let e : length (bodyAt s p) ≡ k = length-body s p bytes (h .head-whole) (h .whole) ∙ h .stated in
     sym (ap (λ (j : ℕ). digitsOf 256 j (numberOf 256 (bodyAt s p))) (sym e) ∙ digits-number 256 (bodyAt s p) (sound-below bytes h))
 
 -- a list that is not missing

@@ -69,9 +69,9 @@ positionsIndex = 1
 abbrev pub ratiosIndex : ℕ
 ratiosIndex = 2
 
--- how many fields a record has at least before the last two: the rate's, and the side's or else the count's
-abbrev pub leadFieldCount : ℕ
-leadFieldCount = 2
+-- how many fields tell where the count's stands: the rate's and the one past it
+abbrev pub openingFieldCount : ℕ
+openingFieldCount = 2
 
 -- and how many from the count's on
 abbrev pub pointFieldCount : ℕ

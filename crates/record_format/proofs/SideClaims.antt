@@ -21,14 +21,14 @@ use Rattle.limits.specs.Sides.{maxSide, isSide}
 use Rattle.limits.proofs.Rates.{rate-high}
 use Rattle.limits.proofs.Sides.{side-in}
 use Rattle.refusals.specs.declared.Refusal.{Refusal}
-use Rattle.refusals.specs.Tests.{Test, test, firstOf, refused}
+use Rattle.refusals.specs.Tests.{Test, test, refusal, firstOf, refused}
 use Rattle.refusals.proofs.Tests.{first-here, first-skip, further, further-append, Further, first-further}
 use Rattle.record_format.specs.Fields.{Field, fieldOf, lengthSize, headSize, tagAt, lengthAt, bodyAt, nextAt, fieldTests}
 use Rattle.record_format.specs.Runs.{rateTag, sideTag, countTag, positionsTags, rateSize, sideSize, countSize, rateField}
 use Rattle.record_format.specs.Reading.{Answer, refusalAnswer, recordAnswer, readTests, readWith, rateAt, sideAt, hasSide, countAt, rateIn, sideIn, countIn, otherRate, sideTests, countTests, roomTests, positionsTests, ratiosTests}
 use Rattle.record_format.specs.SideClaims.{rateBytes, sideBytes, Expects, refusedBy, RateRefused, RateFirst, HeadCut, TagRefused, LengthRefused, BodyCut, SideRefused, CountRefused, shifted, SideShifts}
-use Rattle.record_format.proofs.Fields.{FieldStands, length-field, stands, head-stands}
-use Rattle.record_format.proofs.Reading.{refusal, head-short, tag-other, length-other, body-short, field-passes, tests-flat, read-refused}
+use Rattle.record_format.proofs.Fields.{FieldStands, length-field, field-stands, head-stands}
+use Rattle.record_format.proofs.Reading.{head-short, tag-other, length-other, body-short, field-passes, tests-flat, read-refused}
 use Rattle.record_format.proofs.Reading.Moved.{FieldsMoved, later-fields, end-moved, count-same, form-same, positions-same, ratios-same, count-tests-moved, room-tests-moved, positions-tests-moved, ratios-tests-moved}
 use Rattle.record_format.proofs.Runs.{pointFieldCount}
 use Rattle.record_format.proofs.Reading.Sides.{absent-count, absent-tests, present-count, present-side, present-tests}
@@ -103,7 +103,7 @@ module _ (k : ℕ → List ℕ → Option (List ℕ)) (e r : ℕ) (rest ts vs : 
   length-all = length-append (rateBytes r) rest ∙ ap (λ (n : ℕ). n + length rest) length-rate
 
   rate-stands : FieldStands s rateAt (rateField r)
-  rate-stands = stands [] (rateField r) rest (omega (arith, length-digits 256 rateSize r))
+  rate-stands = field-stands [] (rateField r) rest (omega (arith, length-digits 256 rateSize r))
 
   at-side : sideAt s ≡ side-place
   at-side = rate-stands .next ∙ omega (arith, length-rate)
@@ -280,7 +280,7 @@ module _ (k : ℕ → List ℕ → Option (List ℕ)) (e r d : ℕ) (rest ts vs 
   side-stands : FieldStands sided (sideAt sided) side-field
   side-stands =
       subst (λ (p : ℕ). FieldStands sided p side-field) (length-rate k e r (sideBytes d ++ rest) ts vs ∙ sym at-sided)
-      (stands (rateBytes r) side-field rest (omega (arith, length-digits 256 sideSize d)))
+      (field-stands (rateBytes r) side-field rest (omega (arith, length-digits 256 sideSize d)))
 
   present : hasSide sided ≡ true
   present = ap (λ (t : ℕ). eqb t sideTag) (side-stands .tagged)

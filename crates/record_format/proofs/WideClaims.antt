@@ -18,7 +18,7 @@ use Rattle.limits.specs.Points.{maxPoints}
 use Rattle.limits.specs.Rates.{isRate}
 use Rattle.limits.specs.Sides.{maxSide}
 use Rattle.limits.proofs.Points.{none-high}
-use Rattle.refusals.specs.Tests.{Test, test, firstOf}
+use Rattle.refusals.specs.Tests.{Test, test, refusal, firstOf}
 use Rattle.refusals.proofs.Tests.{first-here, first-skip}
 use Rattle.position_format.specs.declared.Form.{Form}
 use Rattle.position_format.specs.declared.Form.the-variants.{Old, Wide}
@@ -32,9 +32,9 @@ use Rattle.record_format.specs.Reading.{recordAnswer, readTests, readWit
 use Rattle.record_format.specs.SideClaims.{Expects, refusedBy}
 use Rattle.record_format.specs.Claims.{countPlace, positionsPlace}
 use Rattle.record_format.specs.WideClaims.{FormNumbers, RecordFields, RefusesWide, AcceptsWide, FormsApart, frontBytes, CountFirst, TagFirst, BodyByForm, RatiosByReading}
-use Rattle.record_format.proofs.Fields.{FieldStands, StandAll, length-field, stands, laid-stand, pastAll, stand-past, small-append, stand-append, past-append, head-stands}
+use Rattle.record_format.proofs.Fields.{FieldStands, StandAll, length-field, field-stands, laid-stand, pastAll, stand-past, small-append, stand-append, past-append, head-stands}
 use Rattle.record_format.proofs.Reading.Fronts.{count-at, positions-at, front-past, rate-is, side-is, count-is, front-tests, input, front-all, front-length, input-length, tag-there, form-is, positions-are, positions-pass}
-use Rattle.record_format.proofs.Reading.{refusal, body-short, field-good, positions-few, positions-many, answer-good, read-refused}
+use Rattle.record_format.proofs.Reading.{body-short, field-good, positions-few, positions-many, answer-good, read-refused}
 use Rattle.record_format.proofs.Runs.{form-of, tag-good, front-small, coded-size, form-bodies}
 use Rattle.record_format.proofs.Writing.{refuses-by-form, fitting-accepted}
 use Rattle.record_format.proofs.Claims.{no-other, prefix-free}
@@ -244,8 +244,8 @@ body-by-form k e r d n f rest ts vs listed o sided points first second =
           let s = input r d n x listed sided counts in
           let all = front-all r d n x listed sided counts in
           let at = front-length r d n x listed sided counts in
-          let h = subst (λ (p : ℕ). FieldStands s p (fieldOf (positionsTag f) body)) at (stands (frontBytes r d n) (fieldOf (positionsTag f) body) rest (omega arith)) in
-          seventeen k e r d n s ts vs listed o sided counts all few first second (h .head) (positionsTag f) (h .tagged) f refl points (h .whole)
+          let h = subst (λ (p : ℕ). FieldStands s p (fieldOf (positionsTag f) body)) at (field-stands (frontBytes r d n) (fieldOf (positionsTag f) body) rest (omega arith)) in
+          seventeen k e r d n s ts vs listed o sided counts all few first second (h .head-whole) (positionsTag f) (h .tagged) f refl points (h .whole)
           (ap (readPositions (tableOf f) n) (h .within) ∙ unread),
     )
 
@@ -274,16 +274,16 @@ module _ (r d : ℕ) (f : Form) (ps rest : List ℕ) (listed : isRate r ≡ true
   parts : StandAll whole rateAt front × StandAll whole (pastAll whole rateAt front) (positionsField f ps ∷ [])
   parts = stand-append whole rateAt front (positionsField f ps ∷ []) stood
 
-  past : pastAll whole rateAt front ≡ positionsAt whole
-  past = front-past whole r d (length ps) listed sided counts-points (parts .0)
+  past-front : pastAll whole rateAt front ≡ positionsAt whole
+  past-front = front-past whole r d (length ps) listed sided counts-points (parts .0)
 
   points-stand : FieldStands whole (positionsAt whole) (positionsField f ps)
-  points-stand = subst (λ (p : ℕ). FieldStands whole p (positionsField f ps)) past (parts .1 .0)
+  points-stand = subst (λ (p : ℕ). FieldStands whole p (positionsField f ps)) past-front (parts .1 .0)
 
   -- the ratios' field begins where these end
   before-length : length before ≡ ratiosAt whole
   before-length =
-      omega (arith, stand-past whole rateAt (front ++ (positionsField f ps ∷ [])) stood) ∙ past-append whole rateAt front (positionsField f ps ∷ []) ∙ ap (nextAt whole) past
+      omega (arith, stand-past whole rateAt (front ++ (positionsField f ps ∷ [])) stood) ∙ past-append whole rateAt front (positionsField f ps ∷ []) ∙ ap (nextAt whole) past-front
 
   whole-length : length whole ≡ ratiosAt whole + length rest
   whole-length = length-append before rest ∙ ap (λ (m : ℕ). m + length rest) before-length
@@ -326,15 +326,15 @@ ratios-by-reading k e r d f ps rest ts vs listed o sided points valid first seco
           let x = fieldBytes (fieldOf ratiosTag body) ++ rest in
           let s = b ++ x in
           let at = before-length r d f ps x listed sided points valid in
-          let h = subst (λ (p : ℕ). FieldStands s p (fieldOf ratiosTag body)) at (stands b (fieldOf ratiosTag body) rest (omega arith)) in
+          let h = subst (λ (p : ℕ). FieldStands s p (fieldOf ratiosTag body)) at (field-stands b (fieldOf ratiosTag body) rest (omega arith)) in
           let p = parts r d f ps x listed sided points valid .0 in
           let q = points-stand r d f ps x listed sided points valid in (
             λ unread.
-                eighteen k e r d n s ts vs listed o sided counts p few first second f ps refl points valid q (h .head) ratiosTag (h .tagged) refl (h .whole) (ap (k n) (h .within) ∙ unread)
+                eighteen k e r d n s ts vs listed o sided counts p few first second f ps refl points valid q (h .head-whole) ratiosTag (h .tagged) refl (h .whole) (ap (k n) (h .within) ∙ unread)
                 ∙ ap (λ (y : ℕ). refusedBy 18 y ts vs) (sym at),
             λ qs read.
                 let used : endAt s ≡ length b + headSize + length body = h .next ∙ omega (arith, at, length-field (fieldOf ratiosTag body)) in
-                found k e r d n s ts vs listed o sided counts p few first second f ps refl points valid q (h .head) ratiosTag (h .tagged) refl (h .whole) qs (ap (k n) (h .within) ∙ read)
+                found k e r d n s ts vs listed o sided counts p few first second f ps refl points valid q (h .head-whole) ratiosTag (h .tagged) refl (h .whole) qs (ap (k n) (h .within) ∙ read)
                 ∙ ap
                 (λ (u : ℕ).
                 record {

@@ -12,7 +12,7 @@ use Rattle.refusals.specs.declared.Refusal.{Refusal}
 use Rattle.limits.specs.Rates.{isRate}
 use Rattle.limits.specs.Points.{maxPoints, tooHigh, firstHigh}
 use Rattle.limits.specs.Sides.{maxSide}
-use Rattle.refusals.specs.Tests.{Test, test, firstOf}
+use Rattle.refusals.specs.Tests.{Test, test, refusal, firstOf}
 use Rattle.lists.proofs.Lists.{first-le}
 use Rattle.refusals.proofs.Tests.{numbered, first-clear, first-skip, first-end, first-here, first-append-none, first-append-some}
 use Rattle.position_format.specs.declared.Form.{Form}
@@ -26,10 +26,9 @@ use Rattle.position_format.proofs.Positions.Sizes.{points-few}
 use Rattle.position_format.proofs.Positions.Valid.{valid-parts, valid-of}
 use Rattle.position_format.proofs.Tables.WideRows.{wide-valid}
 use Rattle.record_format.specs.Runs.{Run, run, recordOf}
-use Rattle.record_format.specs.Writing.{stepTests, runTests, accepts, writeRefusal, writeAnswer, writeOutput}
+use Rattle.record_format.specs.Writing.{outsideTests, runTests, accepts, writeRefusal, writeAnswer, writeOutput}
 use Rattle.outputs.specs.Outputs.{zeros, over}
 use Rattle.record_format.specs.declared.WriteAnswer.{WriteAnswer}
-use Rattle.record_format.proofs.Reading.{refusal}
 
 -- ---- acceptance
 
@@ -58,7 +57,7 @@ module _ (f : Form) (r d : ℕ) (ts vs : List ℕ) where
       ∷ test (not (eqb (length vs) (length ts))) 2 0
       ∷ test (ltb (pointsOf f) (length ts)) 3 0
       ∷ test (ltb (firstHigh ts) (length ts)) 4 (firstHigh ts)
-      ∷ stepTests f ts
+      ∷ outsideTests f ts
 
   pub refuses-by-form : firstOf (runTests (run r d f ts vs)) ≡ cond (isRate r) (cond (leb d maxSide) (firstOf sidelessTests) (refusal 21 0)) (refusal 1 0)
   unfolding firstOf
@@ -79,11 +78,11 @@ module _ (ts : List ℕ) (low : length ts ≤ firstHigh ts) where
   old-valid : length ts ≤ firstOutside rows ts → validPositions rows ts ≡ true
   old-valid h = valid-of rows ts none-high (omega (arith, first-le (outside rows) (steps ts), length-steps ts))
 
-  pub steps-valid : (f : Form) → firstOf (stepTests f ts) .number ≡ 0 → validPositions (tableOf f) ts ≡ true
+  pub steps-valid : (f : Form) → firstOf (outsideTests f ts) .number ≡ 0 → validPositions (tableOf f) ts ≡ true
   steps-valid Old e = old-valid (ltb-false _ _ (first-clear _ _ (lit< tt) e .0))
   steps-valid Wide e = wide-valid ts low
 
-pub valid-steps : (f : Form) (ts : List ℕ) → validPositions (tableOf f) ts ≡ true → firstOf (stepTests f ts) ≡ firstOf []
+pub valid-steps : (f : Form) (ts : List ℕ) → validPositions (tableOf f) ts ≡ true → firstOf (outsideTests f ts) ≡ firstOf []
 valid-steps Old ts v =
     let p = valid-parts rows ts v in
     let near : length ts ≤ firstOutside rows ts = omega (arith, p .1, length-steps ts) in
@@ -159,17 +158,17 @@ module _ (r : Run) where
             past-low = past-few ∙ first-skip _ _ (le-ltb _ _ low)
 
             -- the steps decide
-            pub run-steps : (f : Refusal) → f ≡ firstOf (stepTests (r .form) (r .positions)) → f ≡ firstOf (runTests r)
+            pub run-steps : (f : Refusal) → f ≡ firstOf (outsideTests (r .form) (r .positions)) → f ≡ firstOf (runTests r)
             run-steps f e = e ∙ sym past-low
 
 -- the test of the steps: in the old form by the first that is outside, in the wide form none
-pub steps-far : (ts : List ℕ) → firstOutside rows ts < length ts → refusal 5 (firstOutside rows ts) ≡ firstOf (stepTests Old ts)
+pub steps-far : (ts : List ℕ) → firstOutside rows ts < length ts → refusal 5 (firstOutside rows ts) ≡ firstOf (outsideTests Old ts)
 steps-far ts h = sym (first-here _ _ (lt-ltb _ _ h))
 
-pub steps-near : (ts : List ℕ) → length ts ≤ firstOutside rows ts → refusal 0 0 ≡ firstOf (stepTests Old ts)
+pub steps-near : (ts : List ℕ) → length ts ≤ firstOutside rows ts → refusal 0 0 ≡ firstOf (outsideTests Old ts)
 steps-near ts h = sym (first-skip _ _ (le-ltb _ _ h) ∙ first-end)
 
-pub steps-none : (ts : List ℕ) → refusal 0 0 ≡ firstOf (stepTests Wide ts)
+pub steps-none : (ts : List ℕ) → refusal 0 0 ≡ firstOf (outsideTests Wide ts)
 steps-none ts = sym first-end
 
 -- no test has the number of a success
@@ -177,7 +176,7 @@ run-numbered : (r : Run) → numbered (runTests r) ≡ true
 run-numbered r = go (r .form)
   where
     go : (f : Form) → numbered (test (not (isRate (r .rate))) 1 0 ∷ test (ltb maxSide (r .side)) 21 0 ∷ test (not (eqb (length (r .ratios)) (length (r .positions)))) 2 0
-        ∷ test (ltb (pointsOf f) (length (r .positions))) 3 0 ∷ test (ltb (firstHigh (r .positions)) (length (r .positions))) 4 (firstHigh (r .positions)) ∷ stepTests f (r .positions)) ≡ true
+        ∷ test (ltb (pointsOf f) (length (r .positions))) 3 0 ∷ test (ltb (firstHigh (r .positions)) (length (r .positions))) 4 (firstHigh (r .positions)) ∷ outsideTests f (r .positions)) ≡ true
     go Old = refl
     go Wide = refl
 

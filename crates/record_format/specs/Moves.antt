@@ -25,7 +25,7 @@ use Rattle.position_format.specs.Tables.{pointsOf}
 use Rattle.ratio_format.specs.Bodies.{strictRatios}
 use Rattle.record_format.specs.declared.MoveAnswer.{MoveAnswer}
 use Rattle.record_format.specs.Runs.{Run, run, positionsTag, recordOf}
-use Rattle.record_format.specs.Writing.{stepTests}
+use Rattle.record_format.specs.Writing.{outsideTests}
 use Rattle.record_format.specs.Reading.{rateIn, sideIn, formIn, positionsIn, ratiosIn, listOf, endAt, recordTestsBy}
 
 -- ---- forms
@@ -52,7 +52,7 @@ sourceTests f s = recordTestsBy (positionsTag (otherForm f) ∷ []) strictRatios
 -- toward wide above 3,500 points, toward old at the first step outside the old table
 abbrev pub targetTests : Form → List ℕ → List Test
 targetTests Wide ts = test (ltb (pointsOf Wide) (length ts)) 3 0 ∷ []
-targetTests Old ts = stepTests Old ts
+targetTests Old ts = outsideTests Old ts
 
 -- and then the room
 abbrev pub moveTests : Form → List ℕ → List ℕ → List Test

@@ -22,6 +22,7 @@
 --   readWith k e s ts vs   the whole answer, with outputs ts and vs: number, place, rate, side, count, the form's tag, bytes used, and both outputs
 --                          afterwards
 --   readStrict, readOpen   the two readings of a record
+--   blank                  an output with room for every run, all 0
 -- Strict and open reading, in standard terms canonical and lenient decoding, differ in the reading of the ratios' field only: strictRatios
 -- or openRatios.
 use mathlib.Core.Bool.{Bool, true, false, not, cond}
@@ -29,7 +30,7 @@ use mathlib.Core.List.{List, [], _∷_, _++_}
 use mathlib.Core.Option.{Option, none, some}
 use Prim.Native.Nat.{ℕ}
 use lib.Dec.{ltb, eqb}
-use lib.ListN.{length}
+use lib.ListN.{length, replicate}
 use Rattle.lists.specs.Compare.{both}
 use Rattle.bits.specs.Digits.{numberOf}
 use Rattle.refusals.specs.declared.Refusal.{Refusal}
@@ -216,3 +217,7 @@ readStrict e s ts vs = readWith strictRatios e s ts vs
 -- open reading: the ratios' field is read by the open rule
 abbrev pub readOpen : ℕ → List ℕ → List ℕ → List ℕ → Answer
 readOpen e s ts vs = readWith openRatios e s ts vs
+
+-- 4,096 numbers, all 0
+unfoldable pub blank : List ℕ
+blank = replicate maxPoints 0

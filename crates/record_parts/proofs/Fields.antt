@@ -11,11 +11,11 @@ use Rattle.lists.specs.Below.{Below}
 use Rattle.lists.specs.Lists.{member}
 use Rattle.bits.specs.Digits.{numberOf}
 use Rattle.refusals.specs.declared.Refusal.{Refusal}
-use Rattle.refusals.specs.Tests.{Test, firstOf, noRefusal}
+use Rattle.refusals.specs.Tests.{Test, refusal, firstOf, noRefusal}
 use Rattle.refusals.proofs.Tests.{numbered, first-end, first-none, first-append-none, first-append-some}
 use Rattle.record_format.specs.Fields.{headSize, tagAt, lengthAt, bodyAt, nextAt, fieldTests}
 use Rattle.record_format.proofs.Fields.{next-most}
-use Rattle.record_format.proofs.Reading.{refusal, Stated, field-clear, head-short, tag-other, length-other, body-short, field-good}
+use Rattle.record_format.proofs.Reading.{Stated, field-clear, head-short, tag-other, length-other, body-short, field-good}
 use Rattle.record_parts.specs.declared.field.Field.{Field}
 use Rattle.record_parts.specs.Fields.{lengthGood, PartRead, FieldRead}
 

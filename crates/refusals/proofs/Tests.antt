@@ -8,7 +8,7 @@ use native.Mathlib.Omega.{arith}
 use borrow.Author.Tests.{ltb-true, eq-eqb}
 use lib.Dec.{ltb, eqb}
 use Rattle.refusals.specs.declared.Refusal.{Refusal}
-use Rattle.refusals.specs.Tests.{Test, test, noRefusal, firstOf}
+use Rattle.refusals.specs.Tests.{Test, test, refusal, noRefusal, firstOf}
 use Rattle.lists.proofs.Lists.{every, every-cons}
 
 -- no test has the number of a success: of tests with literal numbers, by refl
@@ -25,14 +25,14 @@ pub first-skip : (t : Test) (ts : List Test) → t .applies ≡ false → firstO
 unfolding firstOf
 first-skip t ts e = rw e refl
 
-pub first-here : (t : Test) (ts : List Test) → t .applies ≡ true → firstOf (t ∷ ts) ≡ record { number = t .number; place = t .place }
+pub first-here : (t : Test) (ts : List Test) → t .applies ≡ true → firstOf (t ∷ ts) ≡ refusal (t .number) (t .place)
 unfolding firstOf
 first-here t ts e = rw e refl
 
 -- before tests that give the same
 pub first-cong : (t : Test) (ss ts : List Test) → firstOf ss ≡ firstOf ts → firstOf (t ∷ ss) ≡ firstOf (t ∷ ts)
 unfolding firstOf
-first-cong t ss ts e = ap (cond (t .applies) (record { number = t .number; place = t .place })) e
+first-cong t ss ts e = ap (cond (t .applies) (refusal (t .number) (t .place))) e
 
 -- where nothing is refused, the first test does not apply, and the others refuse nothing
 pub first-clear : (t : Test) (ts : List Test) → 0 < t .number → firstOf (t ∷ ts) .number ≡ 0 → (t .applies ≡ false) × (firstOf ts .number ≡ 0)
@@ -138,7 +138,7 @@ further-none (t ∷ ts) = ap₂ (λ (p : ℕ) (l : List Test). test (t .applies)
 
 -- the same number, and of a refusal a place d further on
 abbrev pub Further : ℕ → Refusal → Refusal → Type 0
-Further d f g = (g .number ≡ f .number) × ((f .number ≡ 0 → ⊥) → g ≡ record { number = f .number; place = f .place + d })
+Further d f g = (g .number ≡ f .number) × ((f .number ≡ 0 → ⊥) → g ≡ refusal (f .number) (f .place + d))
 
 pub first-further : (d : ℕ) (ts : List Test) → Further d (firstOf ts) (firstOf (map (further d) ts))
 unfolding firstOf
@@ -146,6 +146,6 @@ first-further d [] = (refl, λ z. absurd (z refl))
 first-further d (t ∷ ts) = go (t .applies) (first-further d ts)
   where
     go : (b : Bool) → Further d (firstOf ts) (firstOf (map (further d) ts))
-        → Further d (cond b (record { number = t .number; place = t .place }) (firstOf ts)) (cond b (record { number = t .number; place = t .place + d }) (firstOf (map (further d) ts)))
+        → Further d (cond b (refusal (t .number) (t .place)) (firstOf ts)) (cond b (refusal (t .number) (t .place + d)) (firstOf (map (further d) ts)))
     go true h = (refl, λ z. refl)
     go false h = h

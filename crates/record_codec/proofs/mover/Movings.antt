@@ -12,7 +12,7 @@ use Rattle.outputs.specs.Outputs.{Placed}
 use Rattle.outputs.specs.declared.Wrote.{Wrote}
 use Rattle.outputs.specs.declared.Wrote.the-variants.{Done, NoRoom}
 use Rattle.refusals.specs.declared.Refusal.{Refusal}
-use Rattle.refusals.specs.Tests.{firstOf}
+use Rattle.refusals.specs.Tests.{refusal, firstOf}
 use Rattle.position_format.specs.declared.Form.{Form}
 use Rattle.position_format.specs.Positions.{validPositions}
 use Rattle.position_format.specs.Tables.{tableOf}
@@ -23,7 +23,6 @@ use Rattle.record_format.specs.Runs.{recordOf}
 use Rattle.record_format.specs.Reading.{countIn, rateIn, sideIn, frontTests}
 use Rattle.record_format.specs.Moves.{Move, inForm, runIn, sourceTests, targetTests, refusedMove, moveOf}
 use Rattle.record_format.specs.declared.MoveAnswer.{MoveAnswer}
-use Rattle.record_format.proofs.Reading.{refusal}
 use Rattle.record_format.proofs.Writing.{fitting-few}
 use Rattle.record_format.proofs.Moves.{headOf, source-front, source-form, source-points, source-refused, target-refused, room-refused, move-done, moved-fits, moved-laid, SourceSound, source-sound}
 use Rattle.record_parts.specs.declared.front.Front.{Front}

@@ -6,12 +6,12 @@ use Prim.Native.Nat.{ℕ, _≤_}
 use native.Mathlib.Omega.{arith}
 use lib.ListN.{length, replicate}
 use Rattle.refusals.specs.declared.Refusal.{Refusal}
-use Rattle.refusals.specs.Tests.{Test, test, firstOf}
+use Rattle.refusals.specs.Tests.{Test, test, refusal, firstOf}
 use Rattle.refusals.proofs.Tests.{first-here, first-skip, first-end, first-none, first-append-none, first-append-some}
 use Rattle.record_format.specs.Runs.{positionsTag}
 use Rattle.record_format.specs.declared.ReadAnswer.{ReadAnswer}
 use Rattle.record_format.specs.Reading.{Answer, refusalAnswer, recordAnswer, readWith, readTests, lacksRoom, formIn, frontTests, roomTests, positionsTests, ratiosTests}
-use Rattle.record_format.proofs.Reading.{refusal, room-enough, front-numbered, answer-refused, answer-good}
+use Rattle.record_format.proofs.Reading.{room-enough, front-numbered, answer-refused, answer-good}
 use Rattle.record_parts.specs.declared.front.Front.{Front}
 use Rattle.record_parts.specs.declared.points.Points.{Points}
 use Rattle.record_parts.specs.Fields.{FrontRead, PointsRead, ratiosBy}

@@ -71,7 +71,7 @@ passed k e s m n clear =
     let d18 = first-clear _ _ (lit< tt) (d .1) in
     record {
       front = f .0;
-      positions = record { head = ltb-false _ _ (head .0); tagged = tag-named (tagAt s (positionsAt s)) (not-false _ (tag .0)); stated = tt; whole = ltb-false _ _ (body .0) };
+      positions = record { head-whole = ltb-false _ _ (head .0); tagged = tag-named (tagAt s (positionsAt s)) (not-false _ (tag .0)); stated = tt; whole = ltb-false _ _ (body .0) };
       few = ltb-false _ _ (c15 .0);
       points = missing-some (positionsIn s) (c17 .0);
       ratios = d .0;
@@ -90,9 +90,9 @@ front-follows s bytes h =
       (
         sound-follows bytes (h .rate) _ (sound-number bytes (h .rate)),
         follow-append s (sideAt s) sides count (d .follows)
-            (subst (λ (p : ℕ). Follow s p count) (sym (d .past)) (sound-follows bytes (h .count) _ (sound-number bytes (h .count)), tt)),
+            (subst (λ (p : ℕ). Follow s p count) (sym (d .then-count)) (sound-follows bytes (h .count) _ (sound-number bytes (h .count)), tt)),
       ),
-      past-append s (sideAt s) sides count ∙ ap (nextAt s) (d .past),
+      past-append s (sideAt s) sides count ∙ ap (nextAt s) (d .then-count),
     )
 
 -- so the bytes begin with it

@@ -20,7 +20,7 @@ use Rattle.record_format.specs.Reading.{Answer, recordAnswer, answerBy, 
 use Rattle.record_format.specs.Moves.{otherForm, inForm, runIn, sourceTests, targetTests, moveTests, Move, refusedMove, recordMove, moveOf}
 use Rattle.record_format.specs.Claims.{Followed, MoveFollowed}
 use Rattle.record_format.proofs.Fields.{first-whole, next-later}
-use Rattle.record_format.proofs.Runs.{leadFieldCount, pointFieldCount}
+use Rattle.record_format.proofs.Runs.{openingFieldCount, pointFieldCount}
 use Rattle.record_format.proofs.Reading.Moved.{FieldsMoved, whole-fields, rate-same, side-same, count-moved, end-moved, count-same, form-same, positions-same, ratios-same, room-tests-moved, positions-tests-moved, ratios-tests-moved, front-tests-moved}
 use Rattle.record_format.proofs.Reading.Sides.{absent-count, present-count}
 
@@ -37,8 +37,8 @@ module _ (s rest : List ℕ) (framed : endAt s ≤ length s) where
       go false e = subst (λ (p : ℕ). nextAt s p ≤ length s) (absent-count s e) count-whole
 
   -- the rate's field and the one past it, and those from the count's on
-  front : FieldsMoved 0 s rateAt (s ++ rest) rateAt leadFieldCount
-  front = whole-fields s rest rateAt rateAt leadFieldCount refl side-whole
+  front : FieldsMoved 0 s rateAt (s ++ rest) rateAt openingFieldCount
+  front = whole-fields s rest rateAt rateAt openingFieldCount refl side-whole
 
   points : FieldsMoved 0 s (countAt s) (s ++ rest) (countAt (s ++ rest)) pointFieldCount
   points = whole-fields s rest (countAt s) (countAt (s ++ rest)) pointFieldCount (count-moved front ∙ add-zero (countAt s)) framed

@@ -26,7 +26,7 @@ use Rattle.record_format.specs.Runs.{rateTag, sideTag, countTag, formOf,
 use Rattle.record_format.specs.Reading.{rateAt, sideAt, hasSide, countAt, positionsAt, ratiosAt, endAt, rateIn, sideIn, countIn, formIn, positionsIn, ratiosIn, missing, otherRate, lacksRoom, rateTests, sideTests, countTests, frontTests, roomTests, manyTests, positionsTestsBy, ratiosTests}
 use Rattle.record_format.proofs.Fields.{fieldAt, first-whole, tag-same, length-same, next-same, head-within, body-same}
 use Rattle.record_format.proofs.Reading.{side-of}
-use Rattle.record_format.proofs.Runs.{leadFieldCount, pointFieldCount}
+use Rattle.record_format.proofs.Runs.{openingFieldCount, pointFieldCount}
 
 -- ---- a field
 
@@ -132,7 +132,7 @@ module _ (d : ℕ) (s t : List ℕ) (long : length t ≡ length s + d) where
 
 -- ---- the rate's field and the one past it
 
-module _ {d : ℕ} {s t : List ℕ} (all : FieldsMoved d s rateAt t rateAt leadFieldCount) where
+module _ {d : ℕ} {s t : List ℕ} (all : FieldsMoved d s rateAt t rateAt openingFieldCount) where
   pub rate-same : rateIn t ≡ rateIn s
   rate-same = ap (numberOf 256) (all .0 .within)
 
@@ -208,7 +208,7 @@ module _ {d : ℕ} {s t : List ℕ} (all : FieldsMoved d s (countAt s) t (countA
 
 -- ---- the front
 
-pub front-tests-moved : {d : ℕ} {s t : List ℕ} → FieldsMoved d s rateAt t rateAt leadFieldCount → FieldsMoved d s (countAt s) t (countAt t) pointFieldCount
+pub front-tests-moved : {d : ℕ} {s t : List ℕ} → FieldsMoved d s rateAt t rateAt openingFieldCount → FieldsMoved d s (countAt s) t (countAt t) pointFieldCount
     → (e : ℕ) → frontTests e t ≡ map (further d) (frontTests e s)
 front-tests-moved {d} {s} front points e =
     further-append d (rateTests e s) (sideTests s ++ countTests s) (rate-tests-moved front e) (further-append d (sideTests s) (countTests s) (side-tests-moved front) (count-tests-moved points))

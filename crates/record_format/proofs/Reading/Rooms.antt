@@ -8,12 +8,12 @@ use Prim.Native.Nat.{ℕ, _≤_}
 use native.Mathlib.Omega.{arith}
 use borrow.Author.Tests.{le-ltb}
 use lib.Dec.{lit<}
-use lib.ListN.{length}
+use lib.ListN.{length, length-replicate}
 use Rattle.limits.specs.Points.{maxPoints}
 use Rattle.refusals.specs.declared.Refusal.{Refusal}
 use Rattle.refusals.specs.Tests.{Test, firstOf, refused}
 use Rattle.refusals.proofs.Tests.{first-skip, first-append-cong, never, first-never}
-use Rattle.record_format.specs.Reading.{refusalAnswer, recordAnswer, hasSide, countIn, rateTests, countTests, frontTests, positionsTests, ratiosTests, recordTests, readTests, readWith}
+use Rattle.record_format.specs.Reading.{refusalAnswer, recordAnswer, hasSide, countIn, rateTests, countTests, frontTests, positionsTests, ratiosTests, recordTests, readTests, readWith, blank}
 use Rattle.record_format.proofs.Reading.{side-of, front-numbered, answer-number}
 use Rattle.record_format.proofs.Claims.Admitted.{front-clear}
 
@@ -45,6 +45,11 @@ record-never-fourteen k s = go (hasSide s)
     go false = refl
 
 -- ---- the answer
+
+-- an output that has such room
+pub roomy : (n : ℕ) → n ≤ maxPoints → n ≤ length blank
+unfolding blank
+roomy n h = omega (arith, length-replicate {A = ℕ} maxPoints 0)
 
 -- what is returned, beside the outputs, does not go by them
 outputs-apart : (k : ℕ → List ℕ → Option (List ℕ)) (f : Refusal) (s ts vs us ws : List ℕ) (b : Bool)

@@ -111,12 +111,12 @@ side-clear s ts clear = go (hasSide s) refl
 -- then it is the field of a side, and the count's stands past it
 pub record SideFollows (s : List ℕ) (n : ℕ) : Type 0 where
   pub follows : Follow s (sideAt s) (sideFields n)
-  pub past : pastAll s (sideAt s) (sideFields n) ≡ countAt s
+  pub then-count : pastAll s (sideAt s) (sideFields n) ≡ countAt s
   pub sided : n ≤ maxSide
 
 pub side-follows : (s : List ℕ) → Below 256 s → SideSound s → SideFollows s (sideIn s)
 side-follows s bytes (inl e) =
-    subst (SideFollows s) (sym (absent-side s e)) (record { follows = tt; past = sym (absent-count s e); sided = omega arith })
+    subst (SideFollows s) (sym (absent-side s e)) (record { follows = tt; then-count = sym (absent-count s e); sided = omega arith })
 side-follows s bytes (inr h) = subst (SideFollows s) (sym (present-side s (h .0))) (go (stored s) refl)
   where
     range : (1 ≤ stored s) × (stored s ≤ maxSide)
@@ -128,7 +128,7 @@ side-follows s bytes (inr h) = subst (SideFollows s) (sym (present-side s (h .0)
         rw q
         (record {
           follows = (sound-follows bytes (h .1) (bytesOf sideSize (suc n)) (sound-number bytes (h .1) ∙ ap (bytesOf sideSize) q), tt);
-          past = sym (present-count s (h .0));
+          then-count = sym (present-count s (h .0));
           sided = omega (arith, range .1);
         })
 

@@ -13,7 +13,7 @@ use Rattle.lists.proofs.Compare.{both-true}
 use Rattle.limits.specs.Points.{maxPoints}
 use Rattle.outputs.specs.Outputs.{over, Filled}
 use Rattle.refusals.specs.declared.Refusal.{Refusal}
-use Rattle.refusals.specs.Tests.{Test, test, firstOf}
+use Rattle.refusals.specs.Tests.{Test, test, refusal, firstOf}
 use Rattle.refusals.proofs.Tests.{first-here, first-skip, first-end}
 use Rattle.position_format.specs.declared.Form.{Form}
 use Rattle.position_format.specs.Positions.{readPositions}
@@ -21,7 +21,7 @@ use Rattle.position_format.specs.Tables.{tableOf, pointsOf}
 use Rattle.record_format.specs.Fields.{headSize, tagAt, lengthAt, bodyAt, nextAt, headTests, fieldTests}
 use Rattle.record_format.specs.Runs.{positionsTags}
 use Rattle.record_format.specs.Reading.{missing, listOf, countAt, positionsAt, countIn, formIn, positionsTests}
-use Rattle.record_format.proofs.Reading.{refusal, positions-few, positions-many, many-tag}
+use Rattle.record_format.proofs.Reading.{positions-few, positions-many, many-tag}
 use Rattle.record_parts.specs.declared.field.Field.{Field}
 use Rattle.record_parts.specs.Fields.{PartRead, FieldRead, CodedRead}
 use Rattle.record_parts.proofs.Fields.{part-refused, part-first, part-then, part-both, field-numbered}

@@ -15,12 +15,12 @@ use Rattle.limits.specs.Points.{maxPoints}
 use Rattle.limits.specs.Rates.{isRate}
 use Rattle.limits.specs.Sides.{isSide}
 use Rattle.refusals.specs.declared.Refusal.{Refusal}
-use Rattle.refusals.specs.Tests.{Test, test, firstOf, noRefusal}
+use Rattle.refusals.specs.Tests.{Test, test, refusal, firstOf, noRefusal}
 use Rattle.refusals.proofs.Tests.{first-here, first-skip, first-clear, first-end, first-append-none, first-append-some}
 use Rattle.record_format.specs.Fields.{bodyAt, nextAt, fieldTests}
 use Rattle.record_format.specs.Runs.{rateTag, sideTag, countTag, rateSize, sideSize, countSize}
 use Rattle.record_format.specs.Reading.{rateAt, sideAt, hasSide, countAt, rateIn, countIn, otherRate, rateTests, sideTests, countTests, frontTests}
-use Rattle.record_format.proofs.Reading.{refusal, field-clear, side-numbered}
+use Rattle.record_format.proofs.Reading.{field-clear, side-numbered}
 use Rattle.record_format.proofs.Reading.Sides.{absent-count, absent-side, absent-tests, present-count, present-side, present-tests}
 use Rattle.record_parts.specs.declared.field.Field.{Field}
 use Rattle.record_parts.specs.declared.front.Number.{Number}

@@ -5,7 +5,7 @@ use Prim.Native.Nat.{ℕ, _≤_}
 use borrow.Author.Needs.{needs}
 use lib.ListN.{length}
 use Rattle.lists.proofs.Below.{below-of}
-use Rattle.record_format.proofs.Reading.{refusal}
+use Rattle.refusals.specs.Tests.{refusal}
 use Rattle.record_codec.proofs.mover.Movings.{PointsFound, moved-as, refused-as, points-stop, points-count, points-low, field-order, target-stops, points-valid, room-stops, all-moved}
 use Rattle.record_codec.proofs.mover.move_by.Statement.{statement}
 use Rattle.record_codec.proofs.mover.move_by.Tie as tie

@@ -9,7 +9,7 @@ use lib.ListN.{length, take, drop, length-replicate, take-append-drop}
 use lib.Seq.{take-at}
 use Rattle.lists.proofs.Below.{below-take}
 use Rattle.refusals.specs.declared.Refusal.{Refusal}
-use Rattle.refusals.proofs.Tests.{first-end}
+use Rattle.refusals.proofs.Tests.{firstOf-end}
 use Rattle.position_format.specs.declared.Form.{Form}
 use Rattle.record_format.specs.Claims.{Accepted, Beginning}
 use Rattle.record_format.specs.Moves.{Move, otherForm, inForm, moveOf}
@@ -36,7 +36,7 @@ roomy r a = omega (arith, within r a .1, length-replicate {A = ℕ} maxRecord 0)
 moved : (f : Form) (r : Run) → Accepted r → r .form ≡ otherForm f → Accepted (inForm f r) → (rest : List ℕ) → moveInput f (recordOf r ++ rest) ≡ movedTo r (inForm f r) blankRecord
 moved f r a e b rest =
     let more = take (inputLimit - length (recordOf r)) rest in
-    let clear = ap (λ (g : Refusal). g .number) (fits-target f r (accepted-fits (inForm f r) (b .passes)) ∙ first-end) in
+    let clear = ap (λ (g : Refusal). g .number) (fits-target f r (accepted-fits (inForm f r) (b .passes)) ∙ firstOf-end) in
     ap (λ (l : List ℕ). moveOf f l blankRecord) (record-uncut r a rest)
     ∙ by-room f r a e more blankRecord clear .1 (roomy (inForm f r) b)
 

@@ -12,7 +12,7 @@ use Rattle.refusals.specs.declared.Refusal.{Refusal}
 use Rattle.limits.specs.Points.{maxPoints}
 use Rattle.refusals.specs.Tests.{noRefusal, firstOf}
 use Rattle.outputs.specs.Outputs.{zeros, over}
-use Rattle.refusals.proofs.Tests.{first-here, first-skip, first-end, first-clear, first-append-none, first-append-some}
+use Rattle.refusals.proofs.Tests.{firstOf-here, firstOf-skip, firstOf-end, firstOf-clear, firstOf-append-none, firstOf-append-some}
 use Rattle.ratio_format.specs.declared.Window.{Window}
 use Rattle.ratio_format.specs.declared.Live.{Live}
 use Rattle.ratio_format.specs.declared.AddAnswer.{AddAnswer}
@@ -54,19 +54,19 @@ refusalBy n = record { number = n; place = 0 }
 
 module _ (s : Live) where
   pub state-bad : badLive s ≡ true → firstOf (stateTests s) ≡ refusalBy 7
-  state-bad b = first-here _ _ b
+  state-bad b = firstOf-here _ _ b
 
   pub state-many : badLive s ≡ false → maxPoints ≤ s .seen → firstOf (stateTests s) ≡ refusalBy 3
-  state-many b m = first-skip _ _ b ∙ first-here _ _ (le-leb maxPoints (s .seen) m)
+  state-many b m = firstOf-skip _ _ b ∙ firstOf-here _ _ (le-leb maxPoints (s .seen) m)
 
   pub state-passes : badLive s ≡ false → s .seen < maxPoints → firstOf (stateTests s) ≡ noRefusal
-  state-passes b m = first-skip _ _ b ∙ first-skip _ _ (lt-leb maxPoints (s .seen) m) ∙ first-end
+  state-passes b m = firstOf-skip _ _ b ∙ firstOf-skip _ _ (lt-leb maxPoints (s .seen) m) ∙ firstOf-end
 
   -- where none of them applies
   pub state-passed : firstOf (stateTests s) .number ≡ 0 → (badLive s ≡ false) × (s .seen < maxPoints)
   state-passed e =
-      let bad = first-clear _ _ (omega arith) e in
-      let many = first-clear _ _ (omega arith) (bad .1) in
+      let bad = firstOf-clear _ _ (omega arith) e in
+      let many = firstOf-clear _ _ (omega arith) (bad .1) in
       (bad .0, leb-false maxPoints (s .seen) (many .0))
 
   -- each gives the place 0
@@ -85,16 +85,16 @@ module _ (k : Coder) (s : Live) (v : ℕ) (o : List ℕ) where
   pub add-tested : (n : ℕ) → n ≡ firstOf (stateTests s) .number → (n ≡ 0 → ⊥) → addRefusalBy k s v o ≡ refusalBy n
   unfolding addRefusalBy
   add-tested n e z =
-      first-append-some (stateTests s) _ (λ q. z (e ∙ q)) ∙ ap₂ (λ (i j : ℕ). record { number = i; place = j }) (sym e) (state-place s)
+      firstOf-append-some (stateTests s) _ (λ q. z (e ∙ q)) ∙ ap₂ (λ (i j : ℕ). record { number = i; place = j }) (sym e) (state-place s)
 
   -- none does: the room decides
   pub add-short : firstOf (stateTests s) .number ≡ 0 → length o < length (addBytesBy k s v) → addRefusalBy k s v o ≡ refusalBy 6
   unfolding addRefusalBy
-  add-short z r = first-append-none (stateTests s) _ refl z ∙ first-here _ _ (lt-ltb (length o) (length (addBytesBy k s v)) r)
+  add-short z r = firstOf-append-none (stateTests s) _ refl z ∙ firstOf-here _ _ (lt-ltb (length o) (length (addBytesBy k s v)) r)
 
   pub add-none : firstOf (stateTests s) .number ≡ 0 → length (addBytesBy k s v) ≤ length o → addRefusalBy k s v o ≡ noRefusal
   unfolding addRefusalBy
-  add-none z r = first-append-none (stateTests s) _ refl z ∙ first-skip _ _ (le-ltb (length o) (length (addBytesBy k s v)) r) ∙ first-end
+  add-none z r = firstOf-append-none (stateTests s) _ refl z ∙ firstOf-skip _ _ (le-ltb (length o) (length (addBytesBy k s v)) r) ∙ firstOf-end
 
   -- a refusal: nothing is written, the state stays, and the output is cleared
   pub add-refused : (n : ℕ) → (n ≡ 0 → ⊥) → addRefusalBy k s v o ≡ refusalBy n

@@ -13,7 +13,7 @@ use Rattle.lists.specs.Below.{Below}
 use Rattle.lists.proofs.Below.{below-drop}
 use Rattle.limits.specs.Points.{maxPoints}
 use Rattle.refusals.specs.Tests.{noRefusal}
-use Rattle.refusals.proofs.Tests.{first-here, first-skip, first-end}
+use Rattle.refusals.proofs.Tests.{firstOf-here, firstOf-skip, firstOf-end}
 use Rattle.ratio_format.specs.declared.Read.{Read}
 use Rattle.ratio_format.specs.declared.Read.the-variants.{Ratio, Nothing}
 use Rattle.ratio_format.specs.declared.Cursor.{Cursor}
@@ -72,29 +72,29 @@ moved c v k = record { place = c .place + k; count = c .count; seen = c .seen + 
 module _ (b : List ℕ) (c : Cursor) where
   pub step-bad : badCursor b c ≡ true → stepRefusal b c ≡ refusalBy 7
   unfolding stepRefusal
-  step-bad g = first-here _ _ g
+  step-bad g = firstOf-here _ _ g
 
   pub step-end : badCursor b c ≡ false → c .seen ≡ c .count → c .place ≡ length b → stepRefusal b c ≡ refusalBy 8
   unfolding stepRefusal
-  step-end g s p = first-skip _ _ g ∙ first-here _ _ (rw (eq-eqb (c .seen) (c .count) s) (eq-eqb (c .place) (length b) p))
+  step-end g s p = firstOf-skip _ _ g ∙ firstOf-here _ _ (rw (eq-eqb (c .seen) (c .count) s) (eq-eqb (c .place) (length b) p))
 
   pub step-over : badCursor b c ≡ false → c .seen ≡ c .count → (c .place ≡ length b → ⊥) → stepRefusal b c ≡ refusalBy 18
   unfolding stepRefusal
   step-over g s p =
       let e = eq-eqb (c .seen) (c .count) s in
-      first-skip _ _ g ∙ first-skip _ _ (rw e (ne-eqb (c .place) (length b) p)) ∙ first-here _ _ e
+      firstOf-skip _ _ g ∙ firstOf-skip _ _ (rw e (ne-eqb (c .place) (length b) p)) ∙ firstOf-here _ _ e
 
   pub step-no : badCursor b c ≡ false → (c .seen ≡ c .count → ⊥) → nextRead b c ≡ Nothing → stepRefusal b c ≡ refusalBy 18
   unfolding stepRefusal
   step-no g s r =
       let e = ne-eqb (c .seen) (c .count) s in
-      first-skip _ _ g ∙ first-skip _ _ (rw e) ∙ first-skip _ _ e ∙ first-here _ _ (rw r)
+      firstOf-skip _ _ g ∙ firstOf-skip _ _ (rw e) ∙ firstOf-skip _ _ e ∙ firstOf-here _ _ (rw r)
 
   pub step-none : badCursor b c ≡ false → (c .seen ≡ c .count → ⊥) → (v k : ℕ) → nextRead b c ≡ Ratio v k → stepRefusal b c ≡ noRefusal
   unfolding stepRefusal
   step-none g s v k r =
       let e = ne-eqb (c .seen) (c .count) s in
-      first-skip _ _ g ∙ first-skip _ _ (rw e) ∙ first-skip _ _ e ∙ first-skip _ _ (rw r) ∙ first-end
+      firstOf-skip _ _ g ∙ firstOf-skip _ _ (rw e) ∙ firstOf-skip _ _ e ∙ firstOf-skip _ _ (rw r) ∙ firstOf-end
 
   -- a refusal: the state stays
   pub step-refused : (n : ℕ) → eqb n 0 ≡ false → stepRefusal b c ≡ refusalBy n
@@ -261,11 +261,11 @@ started n = record { place = 0; count = n; seen = 0; window = freshWindow }
 module _ (n : ℕ) (b : List ℕ) where
   pub made-good : n ≤ maxPoints → (made n ≡ noRefusal) × (madeBody n b ≡ b) × (madeCursor n ≡ started n)
   unfolding made madeBody madeCursor
-  made-good h = let e : made n ≡ noRefusal = first-skip _ _ (le-ltb maxPoints n h) ∙ first-end in (e, rw e, rw e)
+  made-good h = let e : made n ≡ noRefusal = firstOf-skip _ _ (le-ltb maxPoints n h) ∙ firstOf-end in (e, rw e, rw e)
 
   pub made-refused : maxPoints < n → (made n ≡ refusalBy 15) × (madeBody n b ≡ []) × (madeCursor n ≡ started 0)
   unfolding made madeBody madeCursor
-  made-refused h = let e : made n ≡ refusalBy 15 = first-here _ _ (lt-ltb maxPoints n h) in (e, rw e, rw e)
+  made-refused h = let e : made n ≡ refusalBy 15 = firstOf-here _ _ (lt-ltb maxPoints n h) in (e, rw e, rw e)
 
 pub made-stays : MadeStays
 made-stays n b = go (ltb maxPoints n) refl

@@ -15,7 +15,7 @@ use Rattle.lists.proofs.Below.{below-of}
 use Rattle.limits.specs.Points.{maxPoints}
 use Rattle.refusals.specs.declared.Refusal.{Refusal}
 use Rattle.refusals.specs.Tests.{firstOf}
-use Rattle.refusals.proofs.Tests.{first-end, first-skip, first-here}
+use Rattle.refusals.proofs.Tests.{firstOf-end, firstOf-skip, firstOf-here}
 use Rattle.ratio_format.specs.Choice.{find, best}
 use Rattle.ratio_format.specs.Windows.{windowSize}
 use Rattle.ratio_format.specs.Zeros.{leadZeros, trailZeros}
@@ -106,14 +106,14 @@ module _ (vs : List ℕ) (i : ℕ) where
   answered e = ap (λ (f : Refusal). reasonBy f (reasonOf (getD vs i 0) (windowAt vs i))) e
 
   pub explained-many : maxPoints < length vs → explained vs i ≡ Refused 3 0
-  explained-many h = answered (first-here _ _ (lt-ltb _ _ h))
+  explained-many h = answered (firstOf-here _ _ (lt-ltb _ _ h))
 
   module _ (few : length vs ≤ maxPoints) where
     pub explained-past : length vs ≤ i → explained vs i ≡ Refused 22 0
-    explained-past h = answered (first-skip _ _ (le-ltb _ _ few) ∙ first-here _ _ (ap not (le-ltb i (length vs) h)))
+    explained-past h = answered (firstOf-skip _ _ (le-ltb _ _ few) ∙ firstOf-here _ _ (ap not (le-ltb i (length vs) h)))
 
     pub explained-here : i < length vs → explained vs i ≡ reasonOf (getD vs i 0) (windowAt vs i)
-    explained-here h = answered (first-skip _ _ (le-ltb _ _ few) ∙ first-skip _ _ (ap not (lt-ltb i (length vs) h)) ∙ first-end)
+    explained-here h = answered (firstOf-skip _ _ (le-ltb _ _ few) ∙ firstOf-skip _ _ (ap not (lt-ltb i (length vs) h)) ∙ firstOf-end)
 
 -- ---- its numbers are small
 

@@ -19,7 +19,7 @@ use Rattle.bits.specs.Digits.{bytesOf, numberOf}
 use Rattle.bits.proofs.Digits.{number-digits-lt}
 use Rattle.limits.proofs.Rates.{rate-high}
 use Rattle.refusals.specs.Tests.{Test, firstOf}
-use Rattle.refusals.proofs.Tests.{first-skip, first-clear}
+use Rattle.refusals.proofs.Tests.{firstOf-skip, firstOf-clear}
 use Rattle.outputs.specs.Outputs.{over}
 use Rattle.position_format.specs.declared.Form.{Form}
 use Rattle.position_format.specs.declared.Form.the-variants.{Old, Wide}
@@ -127,13 +127,13 @@ module _ (r : Run) (e : ℕ) (ts vs : List ℕ) where
   own-clear : (e ≡ 0) ⊎ (e ≡ r .rate) → length (r .positions) ≤ length ts → length (r .positions) ≤ length vs → runAnswer r e ts vs ≡ ownAnswer r ts vs
   own-clear o m n =
       answer-good (ownAnswer r ts vs) ts vs (ownTests r e (length ts) (length vs))
-      (first-skip _ _ (no-other e (r .rate) o)
-      ∙ first-skip _ _ (ap₂ (λ (a b : Bool). cond a true b) (le-ltb _ _ m) (le-ltb _ _ n)))
+      (firstOf-skip _ _ (no-other e (r .rate) o)
+      ∙ firstOf-skip _ _ (ap₂ (λ (a b : Bool). cond a true b) (le-ltb _ _ m) (le-ltb _ _ n)))
 
   own-only : runAnswer r e ts vs .answer .number ≡ 0 → ((e ≡ 0) ⊎ (e ≡ r .rate)) × (length (r .positions) ≤ length ts) × (length (r .positions) ≤ length vs)
   own-only h =
-      let a = first-clear _ _ (lit< tt) (answer-clear (ownTests r e (length ts) (length vs)) (ownAnswer r ts vs) ts vs h) in
-      let b = first-clear _ _ (lit< tt) (a .1) in
+      let a = firstOf-clear _ _ (lit< tt) (answer-clear (ownTests r e (length ts) (length vs)) (ownAnswer r ts vs) ts vs h) in
+      let b = firstOf-clear _ _ (lit< tt) (a .1) in
       let c = room-enough (length ts) (length vs) (length (r .positions)) (b .0) in
       (other-none e (r .rate) (a .0), c .0, c .1)
 

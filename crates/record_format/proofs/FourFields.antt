@@ -9,7 +9,7 @@ use Rattle.position_format.specs.declared.Form.the-variants.{Old}
 use Rattle.refusals.specs.declared.Refusal.{Refusal}
 use Rattle.limits.specs.Rates.{isRate}
 use Rattle.refusals.specs.Tests.{refusal, firstOf}
-use Rattle.refusals.proofs.Tests.{first-clear}
+use Rattle.refusals.proofs.Tests.{firstOf-clear}
 use Rattle.record_format.specs.Runs.{run, recordOf}
 use Rattle.record_format.specs.Reading.{readStrict, readOpen}
 use Rattle.record_format.specs.Claims.{Accepted}
@@ -26,7 +26,7 @@ refuses-by-side r d ts vs = refuses-by-form Old r d ts vs
 
 -- document 01's tests refuse a rate first
 listed-clear : (r : ℕ) (ts vs : List ℕ) → firstOf (fourTests r ts vs) .number ≡ 0 → isRate r ≡ true
-listed-clear r ts vs clear = not-false _ (first-clear _ _ (lit< tt) clear .0)
+listed-clear r ts vs clear = not-false _ (firstOf-clear _ _ (lit< tt) clear .0)
 
 pub reads-as-zero : ReadsAsZero
 reads-as-zero r ts vs words clear e rest ps qs =

@@ -20,7 +20,7 @@ use Rattle.limits.specs.Points.{maxPoints}
 use Rattle.limits.specs.Sides.{isSide}
 use Rattle.refusals.specs.declared.Refusal.{Refusal}
 use Rattle.refusals.specs.Tests.{Test, test, refusal, firstOf, refused}
-use Rattle.refusals.proofs.Tests.{numbered, never, first-here, first-skip, first-clear, first-end}
+use Rattle.refusals.proofs.Tests.{numbered, never, firstOf-here, firstOf-skip, firstOf-clear, firstOf-end}
 use Rattle.position_format.specs.declared.Form.the-variants.{Wide}
 use Rattle.position_format.specs.Tables.{pointsOf}
 use Rattle.record_format.specs.Fields.{Field, fieldOf, headSize, fieldBytes, tagAt, lengthAt, bodyAt, nextAt, lengthTests, fieldTests}
@@ -38,20 +38,20 @@ Stated (some n) l = l ≡ n
 module _ (s tags : List ℕ) (n : Option ℕ) (p : ℕ) (ts : List Test) where
   -- the head is not whole
   pub head-short : length s < p + headSize → refusal 10 p ≡ firstOf (fieldTests s tags n p ++ ts)
-  head-short h = sym (first-here _ _ (lt-ltb (length s) (p + headSize) h))
+  head-short h = sym (firstOf-here _ _ (lt-ltb (length s) (p + headSize) h))
 
   module _ (head : p + headSize ≤ length s) where
     past-head : firstOf (fieldTests s tags n p ++ ts)
         ≡ firstOf (test (not (member (tagAt s p) tags)) 11 p ∷ ((lengthTests s n p ++ (test (ltb (length s) (nextAt s p)) 10 p ∷ [])) ++ ts))
-    past-head = first-skip _ _ (le-ltb (length s) (p + headSize) head)
+    past-head = firstOf-skip _ _ (le-ltb (length s) (p + headSize) head)
 
     -- the tag is another
     pub tag-other : member (tagAt s p) tags ≡ false → refusal 11 p ≡ firstOf (fieldTests s tags n p ++ ts)
-    tag-other e = sym (past-head ∙ first-here _ _ (ap not e))
+    tag-other e = sym (past-head ∙ firstOf-here _ _ (ap not e))
 
     module _ (tagged : member (tagAt s p) tags ≡ true) where
       past-tag : firstOf (fieldTests s tags n p ++ ts) ≡ firstOf ((lengthTests s n p ++ (test (ltb (length s) (nextAt s p)) 10 p ∷ [])) ++ ts)
-      past-tag = past-head ∙ first-skip _ _ (ap not tagged)
+      past-tag = past-head ∙ firstOf-skip _ _ (ap not tagged)
 
       -- the length is another
       pub length-other : (k : ℕ) → n ≡ some k → (lengthAt s p ≡ k → ⊥) → refusal 12 p ≡ firstOf (fieldTests s tags n p ++ ts)
@@ -59,7 +59,7 @@ module _ (s tags : List ℕ) (n : Option ℕ) (p : ℕ) (ts : List Test) where
           sym
           (past-tag
           ∙ ap (λ (m : Option ℕ). firstOf ((lengthTests s m p ++ (test (ltb (length s) (nextAt s p)) 10 p ∷ [])) ++ ts)) e
-          ∙ first-here _ _ (ap not (ne-eqb _ _ d)))
+          ∙ firstOf-here _ _ (ap not (ne-eqb _ _ d)))
 
       module _ (stated : Stated n (lengthAt s p)) where
         past-length : firstOf (fieldTests s tags n p ++ ts) ≡ firstOf (test (ltb (length s) (nextAt s p)) 10 p ∷ ts)
@@ -68,15 +68,15 @@ module _ (s tags : List ℕ) (n : Option ℕ) (p : ℕ) (ts : List Test) where
             go : (m : Option ℕ) → Stated m (lengthAt s p)
                 → firstOf ((lengthTests s m p ++ (test (ltb (length s) (nextAt s p)) 10 p ∷ [])) ++ ts) ≡ firstOf (test (ltb (length s) (nextAt s p)) 10 p ∷ ts)
             go none h = refl
-            go (some k) h = first-skip _ _ (ap not (eq-eqb _ _ h))
+            go (some k) h = firstOf-skip _ _ (ap not (eq-eqb _ _ h))
 
         -- the body is not whole
         pub body-short : length s < nextAt s p → refusal 10 p ≡ firstOf (fieldTests s tags n p ++ ts)
-        body-short h = sym (past-length ∙ first-here _ _ (lt-ltb (length s) (nextAt s p) h))
+        body-short h = sym (past-length ∙ firstOf-here _ _ (lt-ltb (length s) (nextAt s p) h))
 
         -- the field is whole, and the tests of its contents decide
         pub field-good : nextAt s p ≤ length s → firstOf (fieldTests s tags n p ++ ts) ≡ firstOf ts
-        field-good h = past-length ∙ first-skip _ _ (le-ltb (length s) (nextAt s p) h)
+        field-good h = past-length ∙ firstOf-skip _ _ (le-ltb (length s) (nextAt s p) h)
 
 -- a field that stands there
 pub field-passes : {s : List ℕ} {p : ℕ} {f : Field} → FieldStands s p f → (tags : List ℕ) (n : Option ℕ) (ts : List Test)
@@ -100,15 +100,15 @@ field-clear s tags n p ts clear = go n clear
 
     go : (m : Option ℕ) → firstOf (fieldTests s tags m p ++ ts) .number ≡ 0 → FieldSound s tags m p × (firstOf ts .number ≡ 0)
     go none e =
-        let a = first-clear _ _ (lit< tt) e in
-        let b = first-clear _ _ (lit< tt) (a .1) in
-        let d = first-clear _ _ (lit< tt) (b .1) in
+        let a = firstOf-clear _ _ (lit< tt) e in
+        let b = firstOf-clear _ _ (lit< tt) (a .1) in
+        let d = firstOf-clear _ _ (lit< tt) (b .1) in
         (made none (a .0) (b .0) tt (d .0), d .1)
     go (some k) e =
-        let a = first-clear _ _ (lit< tt) e in
-        let b = first-clear _ _ (lit< tt) (a .1) in
-        let c = first-clear _ _ (lit< tt) (b .1) in
-        let d = first-clear _ _ (lit< tt) (c .1) in
+        let a = firstOf-clear _ _ (lit< tt) e in
+        let b = firstOf-clear _ _ (lit< tt) (a .1) in
+        let c = firstOf-clear _ _ (lit< tt) (b .1) in
+        let d = firstOf-clear _ _ (lit< tt) (c .1) in
         (made (some k) (a .0) (b .0) (eqb-true _ _ (not-false _ (c .0))) (d .0), d .1)
 
 one-of : (x t : ℕ) → member x (t ∷ []) ≡ true → x ≡ t
@@ -159,7 +159,7 @@ positions-few s ts few = rw few
 -- and where there are, past a good tag, they are refused before the body
 pub positions-many : (s : List ℕ) (ts : List Test) → positionsAt s + headSize ≤ length s → member (tagAt s (positionsAt s)) positionsTags ≡ true
     → ltb (pointsOf (formIn s)) (countIn s) ≡ true → refusal 15 (countAt s) ≡ firstOf (positionsTests s ++ ts)
-positions-many s ts head tagged many = sym (first-skip _ _ (le-ltb _ _ head) ∙ first-skip _ _ (ap not tagged) ∙ first-here _ _ many)
+positions-many s ts head tagged many = sym (firstOf-skip _ _ (le-ltb _ _ head) ∙ firstOf-skip _ _ (ap not tagged) ∙ firstOf-here _ _ many)
 
 -- which is so in the wide form alone, whose tag is good
 pub many-tag : (t c : ℕ) → c ≤ maxPoints → pointsOf (formOf t) < c → member t positionsTags ≡ true
@@ -231,7 +231,7 @@ module _ (a : Answer) (ts vs : List ℕ) where
   answer-refused tests f e d = ap (λ (g : Refusal). cond (refused g) (refusalAnswer g ts vs) a) (sym e) ∙ rw (ne-eqb (f .number) 0 d)
 
   pub answer-good : (tests : List Test) → firstOf tests ≡ firstOf [] → answerBy tests a ts vs ≡ a
-  answer-good tests e = ap (λ (g : Refusal). cond (refused g) (refusalAnswer g ts vs) a) (e ∙ first-end)
+  answer-good tests e = ap (λ (g : Refusal). cond (refused g) (refusalAnswer g ts vs) a) (e ∙ firstOf-end)
 
 -- a reading that is refused
 pub read-refused : (k : ℕ → List ℕ → Option (List ℕ)) (e : ℕ) (s ts vs : List ℕ) (n p : ℕ) → (n ≡ 0 → ⊥) → firstOf (readTests k e s (length ts) (length vs)) ≡ refusal n p

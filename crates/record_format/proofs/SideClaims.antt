@@ -22,7 +22,7 @@ use Rattle.limits.proofs.Rates.{rate-high}
 use Rattle.limits.proofs.Sides.{side-in}
 use Rattle.refusals.specs.declared.Refusal.{Refusal}
 use Rattle.refusals.specs.Tests.{Test, test, refusal, firstOf, refused}
-use Rattle.refusals.proofs.Tests.{first-here, first-skip, further, further-append, Further, first-further}
+use Rattle.refusals.proofs.Tests.{firstOf-here, firstOf-skip, further, further-append, Further, firstOf-further}
 use Rattle.record_format.specs.Fields.{Field, fieldOf, lengthSize, headSize, tagAt, lengthAt, bodyAt, nextAt, fieldTests}
 use Rattle.record_format.specs.Runs.{rateTag, sideTag, countTag, positionsTags, rateSize, sideSize, countSize, rateField}
 use Rattle.record_format.specs.Reading.{Answer, refusalAnswer, recordAnswer, readTests, readWith, rateAt, sideAt, hasSide, countAt, rateIn, sideIn, countIn, otherRate, sideTests, countTests, roomTests, positionsTests, ratiosTests}
@@ -131,12 +131,12 @@ module _ (k : ℕ → List ℕ → Option (List ℕ)) (e r : ℕ) (rest ts vs : 
     rate-is = ap (numberOf 256) (rate-stands .within) ∙ number-digits-lt (lit< tt) rateSize (omega arith)
 
     thirteen : isRate r ≡ false → readWith k e s ts vs ≡ refusedBy 13 rateAt ts vs
-    thirteen b = refuses 13 rateAt (λ z. omega arith) (rate-tests ∙ first-here _ _ (ap (λ (x : ℕ). not (isRate x)) rate-is ∙ ap not b))
+    thirteen b = refuses 13 rateAt (λ z. omega arith) (rate-tests ∙ firstOf-here _ _ (ap (λ (x : ℕ). not (isRate x)) rate-is ∙ ap not b))
 
     fourteen : isRate r ≡ true → (Expects e r → ⊥) → readWith k e s ts vs ≡ refusedBy 14 rateAt ts vs
     fourteen b d =
         refuses 14 rateAt (λ z. omega arith)
-        (rate-tests ∙ first-skip _ _ (ap (λ (x : ℕ). not (isRate x)) rate-is ∙ ap not b) ∙ first-here _ _ (ap (otherRate e) rate-is ∙ differs (otherRate e r) refl))
+        (rate-tests ∙ firstOf-skip _ _ (ap (λ (x : ℕ). not (isRate x)) rate-is ∙ ap not b) ∙ firstOf-here _ _ (ap (otherRate e) rate-is ∙ differs (otherRate e r) refl))
       where
         differs : (b : Bool) → otherRate e r ≡ b → otherRate e r ≡ true
         differs true q = q
@@ -149,8 +149,8 @@ module _ (k : ℕ → List ℕ → Option (List ℕ)) (e r : ℕ) (rest ts vs : 
     past-rate : firstOf tests ≡ firstOf from-side
     past-rate =
         rate-tests
-        ∙ first-skip _ _ (ap (λ (x : ℕ). not (isRate x)) (rate-is rate-small) ∙ ap not listed)
-        ∙ first-skip _ _ (ap (otherRate e) (rate-is rate-small) ∙ no-other e r o)
+        ∙ firstOf-skip _ _ (ap (λ (x : ℕ). not (isRate x)) (rate-is rate-small) ∙ ap not listed)
+        ∙ firstOf-skip _ _ (ap (otherRate e) (rate-is rate-small) ∙ no-other e r o)
 
     past-absent : hasSide s ≡ false → firstOf tests ≡ firstOf from-count
     past-absent a = past-rate ∙ ap (λ (l : List Test). firstOf (l ++ from-count)) (absent-tests s a)
@@ -302,10 +302,10 @@ module _ (k : ℕ → List ℕ → Option (List ℕ)) (e r d : ℕ) (rest ts vs 
       ∙ ap₂ (λ (n p : ℕ). firstOf (test (not (isSide n)) 20 p ∷ from-count k e r (sideBytes d ++ rest) ts vs)) stored-is at-sided
 
   twenty : isSide d ≡ false → readWith k e sided ts vs ≡ refusedBy 20 side-place ts vs
-  twenty b = refuses k e r (sideBytes d ++ rest) ts vs 20 side-place (λ z. omega arith) (side-decides ∙ first-here _ _ (ap not b))
+  twenty b = refuses k e r (sideBytes d ++ rest) ts vs 20 side-place (λ z. omega arith) (side-decides ∙ firstOf-here _ _ (ap not b))
 
   past-side : isSide d ≡ true → firstOf (tests k e r (sideBytes d ++ rest) ts vs) ≡ firstOf (from-count k e r (sideBytes d ++ rest) ts vs)
-  past-side b = side-decides ∙ first-skip _ _ (ap not b)
+  past-side b = side-decides ∙ firstOf-skip _ _ (ap not b)
 
 pub side-refused : SideRefused
 unfolding isSide
@@ -397,7 +397,7 @@ module _ (k : ℕ → List ℕ → Option (List ℕ)) (e r d : ℕ) (rest ts vs 
     refusal-further =
         let a = past-absent k e r rest ts vs listed o absent in
         let b = from-here ∙ ap firstOf tests-further in
-        rw (a, b) (first-further side-takes (from-count k e r rest ts vs))
+        rw (a, b) (firstOf-further side-takes (from-count k e r rest ts vs))
 
     record-shifted : recordAnswer k with-side ts vs ≡ shifted d (recordAnswer k without ts vs)
     record-shifted =

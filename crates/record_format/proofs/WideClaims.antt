@@ -19,7 +19,7 @@ use Rattle.limits.specs.Rates.{isRate}
 use Rattle.limits.specs.Sides.{maxSide}
 use Rattle.limits.proofs.Points.{none-high}
 use Rattle.refusals.specs.Tests.{Test, test, refusal, firstOf}
-use Rattle.refusals.proofs.Tests.{first-here, first-skip}
+use Rattle.refusals.proofs.Tests.{firstOf-here, firstOf-skip}
 use Rattle.position_format.specs.declared.Form.{Form}
 use Rattle.position_format.specs.declared.Form.the-variants.{Old, Wide}
 use Rattle.position_format.specs.Positions.{validPositions, readPositions}
@@ -84,10 +84,10 @@ module _ (k : ℕ → List ℕ → Option (List ℕ)) (e r d n : ℕ) (s ts vs :
   refuses x p z q = read-refused k e s ts vs x p z q
 
   past-rate : firstOf tests ≡ firstOf (test (ltb maxPoints n) 15 (countAt s) ∷ test (lacksRoom (length ts) (length vs) n) 16 (countAt s) ∷ (positionsTests s ++ ratiosTests k s))
-  past-rate = front-tests s r d n listed sided counts all k e (length ts) (length vs) ∙ first-skip _ _ (no-other e r o)
+  past-rate = front-tests s r d n listed sided counts all k e (length ts) (length vs) ∙ firstOf-skip _ _ (no-other e r o)
 
   fifteen : maxPoints < n → readWith k e s ts vs ≡ refusedBy 15 (countPlace d) ts vs
-  fifteen h = refuses 15 (countPlace d) (λ z. omega arith) (past-rate ∙ first-here _ _ (lt-ltb _ _ h) ∙ ap (refusal 15) at-count)
+  fifteen h = refuses 15 (countPlace d) (λ z. omega arith) (past-rate ∙ firstOf-here _ _ (lt-ltb _ _ h) ∙ ap (refusal 15) at-count)
 
   lacking : (length ts < n) ⊎ (length vs < n) → lacksRoom (length ts) (length vs) n ≡ true
   lacking (inl h) = rw (lt-ltb (length ts) n h)
@@ -100,15 +100,15 @@ module _ (k : ℕ → List ℕ → Option (List ℕ)) (e r d n : ℕ) (s ts vs :
   module _ (few : n ≤ maxPoints) where
     sixteen : (length ts < n) ⊎ (length vs < n) → readWith k e s ts vs ≡ refusedBy 16 (countPlace d) ts vs
     sixteen h =
-        refuses 16 (countPlace d) (λ z. omega arith) (past-rate ∙ first-skip _ _ (le-ltb _ _ few) ∙ first-here _ _ (lacking h) ∙ ap (refusal 16) at-count)
+        refuses 16 (countPlace d) (λ z. omega arith) (past-rate ∙ firstOf-skip _ _ (le-ltb _ _ few) ∙ firstOf-here _ _ (lacking h) ∙ ap (refusal 16) at-count)
 
     module _ (first : n ≤ length ts) (second : n ≤ length vs) where
       past-room : firstOf tests ≡ firstOf (positionsTests s ++ ratiosTests k s)
-      past-room = past-rate ∙ first-skip _ _ (le-ltb _ _ few) ∙ first-skip _ _ (ap₂ (λ (a b : Bool). cond a true b) (le-ltb _ _ first) (le-ltb _ _ second))
+      past-room = past-rate ∙ firstOf-skip _ _ (le-ltb _ _ few) ∙ firstOf-skip _ _ (ap₂ (λ (a b : Bool). cond a true b) (le-ltb _ _ first) (le-ltb _ _ second))
 
       -- the head of the positions' field is cut
       ten-head : length s < positionsAt s + headSize → readWith k e s ts vs ≡ refusedBy 10 (positionsPlace d) ts vs
-      ten-head h = refuses 10 (positionsPlace d) (λ z. omega arith) (past-room ∙ first-here _ _ (lt-ltb _ _ h) ∙ ap (refusal 10) at-positions)
+      ten-head h = refuses 10 (positionsPlace d) (λ z. omega arith) (past-room ∙ firstOf-here _ _ (lt-ltb _ _ h) ∙ ap (refusal 10) at-positions)
 
       -- or it is whole, with a tag
       module _ (head : positionsAt s + headSize ≤ length s) (tag : ℕ) (tagged : tagAt s (positionsAt s) ≡ tag) where
@@ -116,8 +116,8 @@ module _ (k : ℕ → List ℕ → Option (List ℕ)) (e r d n : ℕ) (s ts vs :
         unfolding member
         eleven old wide =
             refuses 11 (positionsPlace d) (λ z. omega arith)
-            (past-room ∙ first-skip _ _ (le-ltb _ _ head)
-            ∙ first-here _ _ (ap (λ (t : ℕ). not (member t positionsTags)) tagged ∙ rw (ne-eqb tag (positionsTag Old) old, ne-eqb tag (positionsTag Wide) wide))
+            (past-room ∙ firstOf-skip _ _ (le-ltb _ _ head)
+            ∙ firstOf-here _ _ (ap (λ (t : ℕ). not (member t positionsTags)) tagged ∙ rw (ne-eqb tag (positionsTag Old) old, ne-eqb tag (positionsTag Wide) wide))
             ∙ ap (refusal 11) at-positions)
 
         fifteen-wide : tag ≡ positionsTag Wide → pointsOf Wide < n → readWith k e s ts vs ≡ refusedBy 15 (countPlace d) ts vs
@@ -151,7 +151,7 @@ module _ (k : ℕ → List ℕ → Option (List ℕ)) (e r d n : ℕ) (s ts vs :
               refuses 17 (positionsPlace d) (λ z. omega arith)
               (past-many
               ∙ field-good s positionsTags none (positionsAt s) _ head is-good tt h
-              ∙ first-here _ _ (ap₂ (λ (x : Form) (c : ℕ). missing (readPositions (tableOf x) c (bodyAt s (positionsAt s)))) formed counted ∙ ap missing unread)
+              ∙ firstOf-here _ _ (ap₂ (λ (x : Form) (c : ℕ). missing (readPositions (tableOf x) c (bodyAt s (positionsAt s)))) formed counted ∙ ap missing unread)
               ∙ ap (refusal 17) at-positions)
 
       -- positions that are read: the ratios' field is left
@@ -163,14 +163,14 @@ module _ (k : ℕ → List ℕ → Option (List ℕ)) (e r d n : ℕ) (s ts vs :
         past-positions = past-room ∙ positions-pass s f ps points valid as-counted there (ratiosTests k s)
 
         ten-ratios : length s < ratiosAt s + headSize → readWith k e s ts vs ≡ refusedBy 10 (ratiosAt s) ts vs
-        ten-ratios h = refuses 10 (ratiosAt s) (λ z. omega arith) (past-positions ∙ first-here _ _ (lt-ltb _ _ h))
+        ten-ratios h = refuses 10 (ratiosAt s) (λ z. omega arith) (past-positions ∙ firstOf-here _ _ (lt-ltb _ _ h))
 
         module _ (head : ratiosAt s + headSize ≤ length s) (tag : ℕ) (tagged : tagAt s (ratiosAt s) ≡ tag) where
           eleven-ratios : (tag ≡ ratiosTag → ⊥) → readWith k e s ts vs ≡ refusedBy 11 (ratiosAt s) ts vs
           unfolding member
           eleven-ratios other =
               refuses 11 (ratiosAt s) (λ z. omega arith)
-              (past-positions ∙ first-skip _ _ (le-ltb _ _ head) ∙ first-here _ _ (ap (λ (t : ℕ). not (member t (ratiosTag ∷ []))) tagged ∙ rw (ne-eqb tag ratiosTag other)))
+              (past-positions ∙ firstOf-skip _ _ (le-ltb _ _ head) ∙ firstOf-here _ _ (ap (λ (t : ℕ). not (member t (ratiosTag ∷ []))) tagged ∙ rw (ne-eqb tag ratiosTag other)))
 
           module _ (named : tag ≡ ratiosTag) where
             ratios-good : member (tagAt s (ratiosAt s)) (ratiosTag ∷ []) ≡ true
@@ -187,7 +187,7 @@ module _ (k : ℕ → List ℕ → Option (List ℕ)) (e r d n : ℕ) (s ts vs :
 
               eighteen : k n (bodyAt s (ratiosAt s)) ≡ none → readWith k e s ts vs ≡ refusedBy 18 (ratiosAt s) ts vs
               eighteen unread =
-                  refuses 18 (ratiosAt s) (λ z. omega arith) (past-ratios ∙ first-here _ _ (ap (λ (c : ℕ). missing (k c (bodyAt s (ratiosAt s)))) counted ∙ ap missing unread))
+                  refuses 18 (ratiosAt s) (λ z. omega arith) (past-ratios ∙ firstOf-here _ _ (ap (λ (c : ℕ). missing (k c (bodyAt s (ratiosAt s)))) counted ∙ ap missing unread))
 
               found : (qs : List ℕ) → k n (bodyAt s (ratiosAt s)) ≡ some qs → readWith k e s ts vs ≡ record {
                 answer = record { number = 0; place = 0; rate = r; side = d; count = n; form = positionsTag f; used = endAt s };
@@ -203,7 +203,7 @@ module _ (k : ℕ → List ℕ → Option (List ℕ)) (e r d n : ℕ) (s ts vs :
                   let g : positionsTag (formIn s) ≡ positionsTag f = ap positionsTag (form-is s f ps points valid as-counted there) in
                   let x : listOf (positionsIn s) ≡ ps = ap listOf (positions-are s f ps points valid as-counted there) in
                   let y : listOf (ratiosIn k s) ≡ qs = ap listOf v in
-                  answer-good (recordAnswer k s ts vs) ts vs tests (past-ratios ∙ first-skip _ _ (ap missing v)) ∙ cc
+                  answer-good (recordAnswer k s ts vs) ts vs tests (past-ratios ∙ firstOf-skip _ _ (ap missing v)) ∙ cc
 
 -- ---- the statements
 

@@ -10,7 +10,7 @@ use lib.ListN.{length}
 use Rattle.lists.specs.Lists.{member}
 use Rattle.refusals.specs.declared.Refusal.{Refusal}
 use Rattle.refusals.specs.Tests.{test, firstOf, refused}
-use Rattle.refusals.proofs.Tests.{first-skip, first-cong}
+use Rattle.refusals.proofs.Tests.{firstOf-skip, firstOf-cong}
 use Rattle.outputs.specs.Outputs.{over}
 use Rattle.ratio_format.specs.Bodies.{codedRatios}
 use Rattle.record_format.specs.Fields.{Field}
@@ -77,7 +77,7 @@ module _ (r : Run) (fit : Fitting r) (rest : List ℕ) where
 
     ratios-pass : firstOf (ratiosTests k s) ≡ firstOf []
     unfolding member
-    ratios-pass = field-passes ratios-stand (ratiosTag ∷ []) none _ refl tt ∙ first-skip _ _ (ap missing ratios-are)
+    ratios-pass = field-passes ratios-stand (ratiosTag ∷ []) none _ refl tt ∙ firstOf-skip _ _ (ap missing ratios-are)
 
     -- the run
     pub run-is : run (rateIn s) (sideIn s) (formIn s) (listOf (positionsIn s)) (listOf (ratiosIn k s)) ≡ r
@@ -93,9 +93,9 @@ module _ (r : Run) (fit : Fitting r) (rest : List ℕ) where
     pub only-own : (e m n : ℕ) → firstOf (readTests k e s m n) ≡ firstOf (ownTests r e m n)
     only-own e m n =
         front-tests s (r .rate) (r .side) (length (r .positions)) (fit .listed) (fit .sided) counts (parts .0) k e m n
-        ∙ first-cong _ _ _
-        (first-skip _ _ (le-ltb _ _ (fitting-few r fit))
-        ∙ first-cong _ _ _ (positions-pass s (r .form) (r .positions) (fit .few) (fit .valid) count-read positions-stand (ratiosTests k s) ∙ ratios-pass))
+        ∙ firstOf-cong _ _ _
+        (firstOf-skip _ _ (le-ltb _ _ (fitting-few r fit))
+        ∙ firstOf-cong _ _ _ (positions-pass s (r .form) (r .positions) (fit .few) (fit .valid) count-read positions-stand (ratiosTests k s) ∙ ratios-pass))
         ∙ ap (λ (p : ℕ). firstOf (test (otherRate e (r .rate)) 14 rateAt ∷ test (lacksRoom m n (length (r .positions))) 16 p ∷ []))
         (count-at s (r .rate) (r .side) (length (r .positions)) (fit .listed) (fit .sided) counts (parts .0))
 

@@ -19,7 +19,7 @@ use Rattle.limits.specs.Rates.{isRate}
 use Rattle.limits.specs.Sides.{maxSide}
 use Rattle.limits.proofs.Rates.{rate-high}
 use Rattle.refusals.specs.Tests.{Test, test, firstOf}
-use Rattle.refusals.proofs.Tests.{first-skip, first-cong}
+use Rattle.refusals.proofs.Tests.{firstOf-skip, firstOf-cong}
 use Rattle.position_format.specs.declared.Form.{Form}
 use Rattle.position_format.specs.Positions.{validPositions, readPositions}
 use Rattle.position_format.specs.Tables.{tableOf, pointsOf}
@@ -84,9 +84,9 @@ module _ (s : List ℕ) (rate side count : ℕ) (listed : isRate rate ≡ true) 
       ap firstOf (front-flat e s ts)
       ∙ field-passes (all .0) (rateTag ∷ []) (some rateSize) (test (not (isRate (rateIn s))) 13 rateAt ∷ test (otherRate e (rateIn s)) 14 rateAt ∷ from-side)
       refl (length-digits 256 rateSize rate)
-      ∙ first-skip _ _ (ap (λ (x : ℕ). not (isRate x)) rate-is ∙ ap not listed)
+      ∙ firstOf-skip _ _ (ap (λ (x : ℕ). not (isRate x)) rate-is ∙ ap not listed)
       ∙ ap (λ (x : ℕ). firstOf (test (otherRate e x) 14 rateAt ∷ from-side)) rate-is
-      ∙ first-cong _ _ _
+      ∙ firstOf-cong _ _ _
       (side-passes s count-field refl side sided (past-rate .0) (past-rate .1 .0) from-count
       ∙ field-passes count-stands (countTag ∷ []) (some countSize) (test (ltb maxPoints (countIn s)) 15 (countAt s) ∷ ts) refl (length-digits 256 countSize count)
       ∙ ap (λ (c : ℕ). firstOf (test (ltb maxPoints c) 15 (countAt s) ∷ ts)) count-is)
@@ -138,4 +138,4 @@ module _ (s : List ℕ) (f : Form) (ps : List ℕ) (few : length ps ≤ pointsOf
   positions-pass ts =
       positions-few s ts (le-ltb _ _ (subst (λ (c : ℕ). c ≤ pointsOf (formIn s)) (sym counted) (subst (λ (x : Form). length ps ≤ pointsOf x) (sym form-is) few)))
       ∙ field-passes stands positionsTags none (test (missing (positionsIn s)) 17 (positionsAt s) ∷ ts) (tag-good f) tt
-      ∙ first-skip _ _ (ap missing positions-are)
+      ∙ firstOf-skip _ _ (ap missing positions-are)

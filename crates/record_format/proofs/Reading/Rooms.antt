@@ -12,7 +12,7 @@ use lib.ListN.{length, length-replicate}
 use Rattle.limits.specs.Points.{maxPoints}
 use Rattle.refusals.specs.declared.Refusal.{Refusal}
 use Rattle.refusals.specs.Tests.{Test, firstOf, refused}
-use Rattle.refusals.proofs.Tests.{first-skip, first-append-cong, never, first-never}
+use Rattle.refusals.proofs.Tests.{firstOf-skip, firstOf-append-cong, never, firstOf-never}
 use Rattle.record_format.specs.Reading.{refusalAnswer, recordAnswer, hasSide, countIn, rateTests, countTests, frontTests, positionsTests, ratiosTests, recordTests, readTests, readWith, blank}
 use Rattle.record_format.proofs.Reading.{side-of, front-numbered, answer-number}
 use Rattle.record_format.proofs.Claims.Admitted.{front-clear}
@@ -23,10 +23,10 @@ module _ (k : ℕ → List ℕ → Option (List ℕ)) (e : ℕ) (s : List ℕ) w
   -- with room enough that of the room does not apply
   pub roomy-tests : (m n : ℕ) → maxPoints ≤ m → maxPoints ≤ n → firstOf (readTests k e s m n) ≡ firstOf (recordTests k e s)
   roomy-tests m n a b =
-      first-append-cong (frontTests e s) _ _ (front-numbered e s)
+      firstOf-append-cong (frontTests e s) _ _ (front-numbered e s)
       (λ clear.
       let few = front-clear e s [] (ap (λ (l : List Test). firstOf l .number) (append-nil (frontTests e s)) ∙ clear) .0 .few in
-      first-skip _ _ (ap₂ (λ (x y : Bool). cond x true y) (le-ltb m (countIn s) (omega arith)) (le-ltb n (countIn s) (omega arith))))
+      firstOf-skip _ _ (ap₂ (λ (x y : Bool). cond x true y) (le-ltb m (countIn s) (omega arith)) (le-ltb n (countIn s) (omega arith))))
 
   -- and no other has its number
   record-never-sixteen : never 16 (recordTests k e s) ≡ true
@@ -72,7 +72,7 @@ module _ (k : ℕ → List ℕ → Option (List ℕ)) (e : ℕ) (s ts vs : List 
       ∙ ap (λ (f : Refusal). f .number) (roomy-tests k e s (length ts) (length vs) a b)
 
   pub never-sixteen : readWith k e s ts vs .answer .number ≡ 16 → ⊥
-  never-sixteen z = first-never 16 (lit< tt) (recordTests k e s) (record-never-sixteen k e s) (sym number-of ∙ z)
+  never-sixteen z = firstOf-never 16 (lit< tt) (recordTests k e s) (record-never-sixteen k e s) (sym number-of ∙ z)
 
 pub never-fourteen : (k : ℕ → List ℕ → Option (List ℕ)) (s ts vs : List ℕ) → maxPoints ≤ length ts → maxPoints ≤ length vs → readWith k 0 s ts vs .answer .number ≡ 14 → ⊥
-never-fourteen k s ts vs a b z = first-never 14 (lit< tt) (recordTests k 0 s) (record-never-fourteen k s) (sym (number-of k 0 s ts vs a b) ∙ z)
+never-fourteen k s ts vs a b z = firstOf-never 14 (lit< tt) (recordTests k 0 s) (record-never-fourteen k s) (sym (number-of k 0 s ts vs a b) ∙ z)

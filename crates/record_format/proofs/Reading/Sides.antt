@@ -16,7 +16,7 @@ use Rattle.bits.proofs.Digits.{length-digits, number-digits-lt}
 use Rattle.limits.specs.Sides.{maxSide, isSide}
 use Rattle.limits.proofs.Sides.{side-range, side-in}
 use Rattle.refusals.specs.Tests.{Test, test, firstOf}
-use Rattle.refusals.proofs.Tests.{first-skip, first-clear}
+use Rattle.refusals.proofs.Tests.{firstOf-skip, firstOf-clear}
 use borrow.Author.Tests.{not-false}
 use Rattle.record_format.specs.Fields.{Field, fieldOf, bodyAt, nextAt, fieldTests}
 use Rattle.record_format.specs.Runs.{sideTag, countTag, sideSize, sideFields}
@@ -89,7 +89,7 @@ module _ (s : List ℕ) (c : Field) (counts : c .tag ≡ countTag) where
       let e = present-side s (a-side _ (h .0)) in
       ap (λ (l : List Test). firstOf (l ++ ts)) (present-tests s (a-side _ (h .0)))
       ∙ field-passes (h .0) (sideTag ∷ []) (some sideSize) (test (not (isSide (stored s))) 20 (sideAt s) ∷ ts) refl (length-digits 256 sideSize (suc n))
-      ∙ first-skip _ _ (ap not (side-in (stored s) (omega (arith, e, stand-side (suc n) m h k)) (omega (arith, e, stand-side (suc n) m h k))))
+      ∙ firstOf-skip _ _ (ap not (side-in (stored s) (omega (arith, e, stand-side (suc n) m h k)) (omega (arith, e, stand-side (suc n) m h k))))
 
 -- ---- in any bytes that its tests do not refuse
 
@@ -105,7 +105,7 @@ side-clear s ts clear = go (hasSide s) refl
     go true e =
         let h = field-clear s (sideTag ∷ []) (some sideSize) (sideAt s) (test (not (isSide (stored s))) 20 (sideAt s) ∷ ts)
         (sym (ap (λ (l : List Test). firstOf (l ++ ts) .number) (present-tests s e)) ∙ clear) in
-        let i = first-clear _ _ (lit< tt) (h .1) in
+        let i = firstOf-clear _ _ (lit< tt) (h .1) in
         (inr (e, h .0, not-false _ (i .0)), i .1)
 
 -- then it is the field of a side, and the count's stands past it

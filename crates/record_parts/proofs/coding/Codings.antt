@@ -14,7 +14,7 @@ use Rattle.limits.specs.Points.{maxPoints}
 use Rattle.outputs.specs.Outputs.{over, Filled}
 use Rattle.refusals.specs.declared.Refusal.{Refusal}
 use Rattle.refusals.specs.Tests.{Test, test, refusal, firstOf}
-use Rattle.refusals.proofs.Tests.{first-here, first-skip, first-end}
+use Rattle.refusals.proofs.Tests.{firstOf-here, firstOf-skip, firstOf-end}
 use Rattle.position_format.specs.declared.Form.{Form}
 use Rattle.position_format.specs.Positions.{readPositions}
 use Rattle.position_format.specs.Tables.{tableOf, pointsOf}
@@ -78,7 +78,7 @@ module _ (us : List Test) (tags : List ℕ) (k : List ℕ → Option (List ℕ))
 
       pub coded-none : b ≡ false → CodedRead us k s p (record { refusal = refusal x p; end = 0 }) o q
       coded-none e =
-          let g = sym (first-here _ _ (filled-none (k (bodyAt s p)) b o q got-body e)) in
+          let g = sym (firstOf-here _ _ (filled-none (k (bodyAt s p)) b o q got-body e)) in
           record {
             part = part-as us (fs ++ ts) s p (refusal x p) 0 same
                 (part-then fs ts s p (f .refusal) (f .to) (field-numbered s tags none p) (h .part) clear (refusal x p) 0 g some-number);
@@ -90,13 +90,13 @@ module _ (us : List Test) (tags : List ℕ) (k : List ℕ → Option (List ℕ))
           let g = filled-some (k (bodyAt s p)) b o q got-body e in
           record {
             part = part-as us (fs ++ ts) s p (f .refusal) (f .to) same
-                (part-both fs ts s p (f .refusal) (f .to) (field-numbered s tags none p) (h .part) clear (first-skip _ _ (g .0) ∙ first-end));
+                (part-both fs ts s p (f .refusal) (f .to) (field-numbered s tags none p) (h .part) clear (firstOf-skip _ _ (g .0) ∙ firstOf-end));
             filled = λ _. g .1;
           }
 
 -- a cut head decides, whatever tests follow
 head-cut : (s tags : List ℕ) (p : ℕ) (us ts : List Test) → ltb (length s) (p + headSize) ≡ true → firstOf (headTests s tags p ++ us) ≡ firstOf (headTests s tags p ++ ts)
-head-cut s tags p us ts cut = first-here _ _ cut ∙ sym (first-here _ _ cut)
+head-cut s tags p us ts cut = firstOf-here _ _ cut ∙ sym (firstOf-here _ _ cut)
 
 -- ---- the positions' field, by whether its head is whole and its form has fewer points than the count
 

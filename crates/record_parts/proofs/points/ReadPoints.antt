@@ -8,7 +8,7 @@ use lib.ListN.{length}
 use Rattle.outputs.specs.Outputs.{over}
 use Rattle.refusals.specs.declared.Refusal.{Refusal}
 use Rattle.refusals.specs.Tests.{Test, firstOf}
-use Rattle.refusals.proofs.Tests.{first-append-none, first-append-some}
+use Rattle.refusals.proofs.Tests.{firstOf-append-none, firstOf-append-some}
 use Rattle.position_format.specs.declared.Form.{Form}
 use Rattle.position_format.specs.Positions.{readPositions}
 use Rattle.position_format.specs.Tables.{tableOf}
@@ -44,7 +44,7 @@ module _ (k : ℕ → List ℕ → Option (List ℕ)) (s ts vs : List ℕ) {c pl
   pub points-positions : (r : Points) (qs : List ℕ) → r .refusal ≡ g .refusal → (g .refusal .number ≡ 0 → ⊥) → PointsRead k s ts vs r ps qs
   points-positions r qs q d =
       points-none k s ts vs r ps qs (g .refusal) q d
-      (i .part .refuses ∙ sym (first-append-some (positionsTests s) _ (λ z. d (ap (λ (x : Refusal). x .number) (i .part .refuses) ∙ z))))
+      (i .part .refuses ∙ sym (firstOf-append-some (positionsTests s) _ (λ z. d (ap (λ (x : Refusal). x .number) (i .part .refuses) ∙ z))))
 
   module _ (good : g .refusal .number ≡ 0) where
     pub ratios-at : g .end ≡ ratiosAt s
@@ -57,7 +57,7 @@ module _ (k : ℕ → List ℕ → Option (List ℕ)) (s ts vs : List ℕ) {c pl
     ratios-near = omega (arith, i .part .next good, i .part .near good, h .next, h .near)
 
     past-positions : firstOf (positionsTests s ++ ratiosTests k s) ≡ firstOf (ratiosTests k s)
-    past-positions = first-append-none (positionsTests s) _ refl (part-clear (i .part) good)
+    past-positions = firstOf-append-none (positionsTests s) _ refl (part-clear (i .part) good)
 
     module _ (l : Part) (qs : List ℕ) (j : CodedRead (ratiosTests k s) (k c) s (g .end) l vs qs) where
       pub points-ratios : (r : Points) → r .refusal ≡ l .refusal → (l .refusal .number ≡ 0 → ⊥) → PointsRead k s ts vs r ps qs

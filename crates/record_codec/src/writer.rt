@@ -36,7 +36,7 @@ fn put_record(
 }
 
 // The refusal of positions by a step that document 01's table does not hold: 5.
-pub(crate) fn old_steps(positions: &[u64]) -> Refusal
+fn old_steps(positions: &[u64]) -> Refusal
     requires { ⌜ (length (now positions) ≤ firstHigh (now positions)) × (length (now positions) ≤ maxPoints) ⌝ }
     ensures { λ r. ⌜ r ≡ firstOf (stepTests Form.Old (now (positions .entry))) ⌝ }
 {
@@ -54,7 +54,7 @@ pub(crate) fn old_steps(positions: &[u64]) -> Refusal
 }
 
 // The same in a form: the wide one has a code for every step.
-fn check_steps(form: Form, positions: &[u64]) -> Refusal
+pub(crate) fn check_steps(form: Form, positions: &[u64]) -> Refusal
     requires { ⌜ (length (now positions) ≤ firstHigh (now positions)) × (length (now positions) ≤ maxPoints) ⌝ }
     ensures { λ r. ⌜ r ≡ firstOf (stepTests form (now (positions .entry))) ⌝ }
 {

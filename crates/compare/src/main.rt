@@ -14,6 +14,7 @@ use differences::OverallDifferences;
 use differences::Property;
 use inputs::input_room;
 use inputs::numbers_room;
+use inputs::read_input;
 use kind::Kind;
 use libc::STDOUT_FILENO;
 
@@ -189,10 +190,10 @@ fn print(first: &[u8], second: &[u8], out: &mut [u8]) -> usize
 {
     let mut first_positions = numbers_room();
     let mut first_ratios = numbers_room();
-    let a = record_codec::read_strict(0, first, &mut first_positions, &mut first_ratios);
+    let a = read_input(first, &mut first_positions, &mut first_ratios);
     let mut second_positions = numbers_room();
     let mut second_ratios = numbers_room();
-    let b = record_codec::read_strict(0, second, &mut second_positions, &mut second_ratios);
+    let b = read_input(second, &mut second_positions, &mut second_ratios);
     let overall = differences::overall_of(a, b);
     let number = overall.number;
     if number != 0 {
@@ -221,5 +222,5 @@ fn main() {
     let m = files::read_argument(2, &mut second);
     let mut out = output_room();
     let end = print(&first[..n], &second[..m], &mut out);
-    io::write_all(STDOUT_FILENO, &out[..end]);
+    files::write_front(STDOUT_FILENO, &out, end);
 }

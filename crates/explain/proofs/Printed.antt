@@ -1,4 +1,4 @@
--- Laws of what the program prints: of an index, of an index that is cut, and by what strict reading left in its outputs.
+-- Laws of what the program prints: of an index, of an index that is cut, and by what reading its input left.
 pub mod Offsets
 use mathlib.Core.Bool.{Bool, true, false, cond}
 use mathlib.Core.List.{List, [], _++_}
@@ -10,7 +10,6 @@ use borrow.Author.Tests.{lt-ltb, le-ltb, leb-true, leb-false, eq-eqb, ne-eqb}
 use lib.Dec.{leb}
 use lib.ListN.{length, getD, take}
 use lib.Seq.{take-all}
-use Rattle.lists.specs.Below.{Below}
 use Rattle.limits.specs.Points.{maxPoints}
 use Rattle.ratio_format.specs.Bodies.{codedRatios}
 use Rattle.record_format.specs.Claims.{ownAnswer}
@@ -24,7 +23,8 @@ use Rattle.reasons.specs.declared.Reason.{Reason}
 use Rattle.reasons.specs.Reasons.{explained}
 use Rattle.reasons.proofs.Reasons.{explained-past}
 use Rattle.inputs.specs.Inputs.{inputLimit, blank}
-use Rattle.inputs.proofs.Inputs.{Read, answerOf, over-front, read-input, read-own}
+use Rattle.inputs.specs.Readings.{answerOf, Reading}
+use Rattle.inputs.proofs.Inputs.{over-front, read-own}
 use Rattle.explain.specs.Indexes.{indexOf, capped}
 use Rattle.explain.specs.Lines.{costLine, reasonLine}
 use Rattle.explain.specs.Printed.{bodyIn, costOf, offsetOf, pointText, indexText, answerText, printed}
@@ -56,15 +56,15 @@ module _ (b : ℕ) (vs : List ℕ) where
           let h = leb-false n maxPoints e in
           sym (point-past few (min maxPoints n) (omega arith)) ∙ point-past few n (omega arith)
 
--- ---- by what strict reading of the bytes s left
+-- ---- by what reading the input s left
 
-module _ {s : List ℕ} {r : ReadAnswer} {ts vs : List ℕ} (h : Read s r ts vs) (short : length s ≤ inputLimit) (t : List ℕ) where
+module _ {s : List ℕ} {r : ReadAnswer} {ts vs : List ℕ} (h : Reading s r ts vs) (t : List ℕ) where
   -- a refusal
   pub refused-text : (r .number ≡ 0 → ⊥) → refusedLine (r .number) (r .place) ≡ printed s t
   unfolding answerText
-  refused-text n = sym (ap (λ (a : Answer). answerText (take inputLimit s) a t) (sym (read-input h short)) ∙ rw (ne-eqb (r .number) 0 n))
+  refused-text n = sym (ap (λ (a : Answer). answerText (take inputLimit s) a t) (sym (h .answered)) ∙ rw (ne-eqb (r .number) 0 n))
 
-  module _ (bytes : Below 256 s) (ok : r .number ≡ 0) where
+  module _ (ok : r .number ≡ 0) where
     -- the ratios of the run
     abbrev own : List ℕ
     own = take (r .count) vs
@@ -72,7 +72,7 @@ module _ {s : List ℕ} {r : ReadAnswer} {ts vs : List ℕ} (h : Read s r ts vs)
     -- the offset of their body, by the end of the record
     pub body-start : (length (codedRatios own) ≤ r .used) × (r .used - length (codedRatios own) ≡ bodyIn s) × (r .used ≤ inputLimit)
     body-start =
-        let o = read-own h bytes ok in
+        let o = read-own h ok in
         let run : Run = o .0 in
         let f = accepted-fits run (o .1 .passes) in
         let e : answerOf r ts vs ≡ ownAnswer run blank blank = o .3 in
@@ -89,5 +89,5 @@ module _ {s : List ℕ} {r : ReadAnswer} {ts vs : List ℕ} (h : Read s r ts vs)
     pub run-text : (b : ℕ) → b ≡ r .used - length (codedRatios own) → indexText b own (indexOf t) ≡ printed s t
     unfolding answerText
     run-text b e =
-        ap (λ (n : ℕ). indexText n own (indexOf t)) (e ∙ body-start .1 ∙ ap bodyIn (sym (take-all inputLimit s short)))
-        ∙ sym (ap (λ (a : Answer). answerText (take inputLimit s) a t) (sym (read-input h short)) ∙ rw (eq-eqb (r .number) 0 ok))
+        ap (λ (n : ℕ). indexText n own (indexOf t)) (e ∙ body-start .1 ∙ ap bodyIn (sym (take-all inputLimit s (h .whole))))
+        ∙ sym (ap (λ (a : Answer). answerText (take inputLimit s) a t) (sym (h .answered)) ∙ rw (eq-eqb (r .number) 0 ok))

@@ -13,6 +13,7 @@ ghost use Rattle.explain.specs.Lines.{costLine, xorLine, reasonLine};
 ghost use Rattle.explain.specs.Printed.{bodyLimit, argumentLimit, textLimit, costOf, pointText, printed};
 use inputs::input_room;
 use inputs::numbers_room;
+use inputs::read_input;
 use libc::STDOUT_FILENO;
 use limits::MAX_POINTS;
 use outputs::Wrote;
@@ -191,7 +192,7 @@ fn print(input: &[u8], index: &[u8], out: &mut [u8]) -> usize
 {
     let mut positions = numbers_room();
     let mut ratios = numbers_room();
-    let answer = record_codec::read_strict(0, input, &mut positions, &mut ratios);
+    let answer = read_input(input, &mut positions, &mut ratios);
     let number = answer.number;
     if number != 0 {
         return text::put_refused(out, 0, number, answer.place);
@@ -210,5 +211,5 @@ fn main() {
     let m = os::arg(2, &mut index);
     let mut out = output_room();
     let end = print(&input[..n], &index[..m], &mut out);
-    io::write_all(STDOUT_FILENO, &out[..end]);
+    files::write_front(STDOUT_FILENO, &out, end);
 }

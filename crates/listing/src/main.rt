@@ -7,6 +7,7 @@ ghost use Rattle.listing.specs.Printed.{textLimit, printed};
 ghost use Rattle.text.specs.PlacedAt.{PlacedAt};
 use inputs::input_room;
 use inputs::numbers_room;
+use inputs::read_input;
 use libc::STDIN_FILENO;
 use libc::STDOUT_FILENO;
 
@@ -27,7 +28,7 @@ fn print(input: &[u8], out: &mut [u8]) -> usize
 {
     let mut positions = numbers_room();
     let mut ratios = numbers_room();
-    let answer = record_codec::read_strict(0, input, &mut positions, &mut ratios);
+    let answer = read_input(input, &mut positions, &mut ratios);
     let number = answer.number;
     if number != 0 {
         return text::put_refused(out, 0, number, answer.place);
@@ -50,5 +51,5 @@ fn main() {
     let n = io::read_full(STDIN_FILENO, &mut input);
     let mut out = output_room();
     let end = print(&input[..n], &mut out);
-    io::write_all(STDOUT_FILENO, &out[..end]);
+    files::write_front(STDOUT_FILENO, &out, end);
 }

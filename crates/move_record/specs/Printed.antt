@@ -42,6 +42,6 @@ written f s = take (moveInput f s .answer .length) (moveInput f s .output)
 -- the record at the front of the output o, and the line at that of l, which is now p
 pub record Told (f : Form) (s : List ℕ) (r : Outcome) (o l p : List ℕ) : Type 0 where
   pub moved : r .moved ≡ isMoved f s
-  pub room : r .size ≤ length o
-  pub bytes : take (r .size) o ≡ written f s
+  pub room : r .length ≤ length o
+  pub bytes : take (r .length) o ≡ written f s
   pub line : PlacedAt lineLimit (printed f s) 0 (r .line) l p

@@ -9,9 +9,9 @@ use Rattle.record_format.specs.Claims.{Accepted, ownAnswer}
 use Rattle.record_format.specs.Runs.{Run}
 use Rattle.record_format.proofs.Writing.{accepted-fits}
 use Rattle.span.specs.Spans.{spanned}
-use Rattle.text.specs.Lines.{listing}
 use Rattle.inputs.specs.Inputs.{blank, readInput}
 use Rattle.inputs.proofs.Inputs.{over-front, reads-record, reads-no-other}
+use Rattle.listing.specs.Lines.{listing}
 use Rattle.listing.specs.Printed.{runText, textOf}
 use Rattle.listing.specs.Claims.{listingOf, PrintsRun, PrintsOnly}
 

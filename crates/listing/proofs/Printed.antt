@@ -9,8 +9,9 @@ use lib.ListN.{length, take}
 use lib.Seq.{length-take-le}
 use Rattle.record_format.specs.declared.ReadAnswer.{ReadAnswer}
 use Rattle.span.specs.Spans.{spanned}
-use Rattle.text.specs.Lines.{refusedLine, listing}
+use Rattle.text.specs.Lines.{refusedLine}
 use Rattle.inputs.specs.Readings.{Reading, Held}
+use Rattle.listing.specs.Lines.{listing}
 use Rattle.listing.specs.Printed.{textLimit, runText, textOf, printed}
 
 -- the text of a run fits

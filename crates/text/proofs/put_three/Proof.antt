@@ -11,11 +11,11 @@ use Rattle.text.proofs.put_three.Tie as tie
 abbrev numbered : tie.After-put-two → tie.After-put-numbered
 numbered k = k .before .before .before .before
 
-abbrev entry : tie.After-put-numbered → tie.After-slice-known
-entry k = k .before .before .before .before .before
+abbrev entry : tie.After-put-numbered → tie.After-shared-slice-known
+entry k = k .before .before .before .before
 
 abbrev start : tie.After-put-numbered → tie.Start
-start k = entry k .before
+start k = entry k .before .before
 
 -- ---- the needs
 

@@ -1,10 +1,10 @@
--- `text::put_point` meets its contract: the position, the bits of its ratio, and the line's end.
+-- `put_point` meets its contract: the position, the bits of its ratio, and the line's end.
 use native.Mathlib.Omega.{arith}
-use Rattle.text.specs.Lines.{pointLine}
+use Rattle.listing.specs.Lines.{pointLine}
 use Rattle.text.proofs.PlacedAt.{put-put}
 use borrow.Author.Needs.{needs}
-use Rattle.text.proofs.put_point.Statement.{statement}
-use Rattle.text.proofs.put_point.Tie as tie
+use Rattle.listing.proofs.put_point.Statement.{statement}
+use Rattle.listing.proofs.put_point.Tie as tie
 
 -- ---- places
 

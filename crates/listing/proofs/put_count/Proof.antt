@@ -1,8 +1,8 @@
--- `text::put_count` meets its contract.
+-- `put_count` meets its contract.
 use borrow.Author.Needs.{needs}
-use Rattle.text.specs.Lines.{countLine}
-use Rattle.text.proofs.put_count.Statement.{statement}
-use Rattle.text.proofs.put_count.Tie as tie
+use Rattle.listing.specs.Lines.{countLine}
+use Rattle.listing.proofs.put_count.Statement.{statement}
+use Rattle.listing.proofs.put_count.Tie as tie
 
 slice-aggregate-put-one : tie.Need-slice-aggregate-put-one
 slice-aggregate-put-one c = search needs

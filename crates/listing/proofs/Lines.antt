@@ -7,10 +7,11 @@ use native.Mathlib.Numerals.{add-one}
 use native.Mathlib.Omega.{arith}
 use lib.ListN.{length, getD, take}
 use lib.Seq.{take-length}
-use Rattle.text.specs.Lines.{newline, sideWord, sideLine, pointLine, pointLines}
+use Rattle.text.specs.Lines.{newline, sideWord}
 use Rattle.text.specs.Numbers.{decimal}
 use Rattle.text.specs.PlacedAt.{PlacedAt}
 use Rattle.text.proofs.PlacedAt.{put-none, put-more, put-as, put-put}
+use Rattle.listing.specs.Lines.{sideLine, pointLine, pointLines}
 
 -- ---- the side's
 

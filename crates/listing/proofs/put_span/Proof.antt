@@ -1,14 +1,14 @@
--- `text::put_span` meets its contract: the word, the number, and the line's end.
+-- `put_span` meets its contract: the word, the number, and the line's end.
 use mathlib.Core.Path.{ap}
 use native.Mathlib.Omega.{arith}
 use mir.Syntax.{w64}
 use mir.ValLaws.{toZ-ofZ}
-use Rattle.text.specs.Lines.{spanLine}
+use Rattle.listing.specs.Lines.{spanLine}
 use Rattle.text.specs.Numbers.{signed}
 use Rattle.text.proofs.PlacedAt.{put-same, put-put}
 use borrow.Author.Needs.{needs}
-use Rattle.text.proofs.put_span.Statement.{statement}
-use Rattle.text.proofs.put_span.Tie as tie
+use Rattle.listing.proofs.put_span.Statement.{statement}
+use Rattle.listing.proofs.put_span.Tie as tie
 
 -- ---- places
 

@@ -10,8 +10,9 @@ use Prim.Native.Nat.{ℕ}
 use lib.IntN.{pos, negsuc}
 use lib.ListN.{replicate, take, drop}
 use Rattle.bits.specs.Digits.{digitsOf}
+use Rattle.text.specs.Lines.{refusedLine}
 use Rattle.text.specs.Numbers.{trimmed, decimal, hex16, signed}
-use Rattle.text.specs.Lines.{rateLine, sideLine, countLine, spanLine, pointLine, refusedLine, pointLines, listing}
+use Rattle.listing.specs.Lines.{rateLine, sideLine, countLine, spanLine, pointLine, pointLines, listing}
 
 -- an example: a text, and its bytes
 pub record Example : Type 0 where

@@ -1,8 +1,8 @@
--- `text::put_rate` meets its contract.
+-- `put_rate` meets its contract.
 use borrow.Author.Needs.{needs}
-use Rattle.text.specs.Lines.{rateLine}
-use Rattle.text.proofs.put_rate.Statement.{statement}
-use Rattle.text.proofs.put_rate.Tie as tie
+use Rattle.listing.specs.Lines.{rateLine}
+use Rattle.listing.proofs.put_rate.Statement.{statement}
+use Rattle.listing.proofs.put_rate.Tie as tie
 
 slice-aggregate-put-one : tie.Need-slice-aggregate-put-one
 slice-aggregate-put-one c = search needs

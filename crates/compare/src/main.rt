@@ -2,11 +2,11 @@
 // between them, a line for each difference and nothing for equal records; or the refusal, and which record it was.
 ghost use mathlib.Core.Path.{_≡_};
 ghost use Prim.Native.Nat.{_+_, _*_, _≤_, min};
-ghost use lib.ListN.{length};
+ghost use lib.ListN.{length, take};
 ghost use Rattle.limits.specs.Points.{maxPoints};
 ghost use Rattle.text.specs.PlacedAt.{PlacedAt};
 ghost use Rattle.inputs.specs.Inputs.{inputLimit};
-ghost use Rattle.compare.specs.Lines.{kindWord, propertyLine, ratioLine, lineOf, refusedInLine};
+ghost use Rattle.compare.specs.Lines.{propertyWord, kindWord, propertyLine, ratioLine, lineOf, refusedInLine};
 ghost use Rattle.compare.specs.Pieces.{propertiesText, pointText, pointsText};
 ghost use Rattle.compare.specs.Printed.{lineLimit, textLimit, printed};
 use differences::Difference;
@@ -28,19 +28,75 @@ fn output_room() -> [u8; TEXT]
     [0; TEXT]
 }
 
+// A word of up to 10 bytes, at the front of these.
+pub struct Word {
+    pub bytes: [u8; 10],
+    pub length: usize,
+}
+
+// The word of a property.
+fn property_word(property: Property) -> Word
+    ensures { λ r. ⌜ (r .length ≤ 10) × (take (r .length) (r .bytes) ≡ propertyWord property) ⌝ }
+{
+    match property {
+        Property::Rate => Word {
+            bytes: *b"rate      ",
+            length: 5,
+        },
+        Property::Side => Word {
+            bytes: *b"side      ",
+            length: 5,
+        },
+        Property::Count => Word {
+            bytes: *b"count     ",
+            length: 6,
+        },
+        Property::Form => Word {
+            bytes: *b"form      ",
+            length: 5,
+        },
+    }
+}
+
+// The word of a kind.
+fn kind_word(kind: Kind) -> Word
+    ensures { λ r. ⌜ (r .length ≤ 10) × (take (r .length) (r .bytes) ≡ kindWord kind) ⌝ }
+{
+    match kind {
+        Kind::Number(_) => Word {
+            bytes: *b" number   ",
+            length: 8,
+        },
+        Kind::Infinity(_) => Word {
+            bytes: *b" infinity ",
+            length: 10,
+        },
+        Kind::Nan(_) => Word {
+            bytes: *b" nan      ",
+            length: 5,
+        },
+    }
+}
+
+// A word.
+fn put_word(out: &mut [u8], at: usize, word: Word) -> usize
+    requires { ⌜ (at + 10 ≤ length (now out)) × (word .length ≤ 10) ⌝ }
+    ensures { λ r. ⌜ PlacedAt 10 (take (word .length) (word .bytes)) at r (now (out .entry)) (now (out .exit)) ⌝ }
+{
+    let bytes = word.bytes;
+    let length = word.length;
+    text::put_text(out, at, &bytes[..length])
+}
+
 // The line of a property.
 fn put_property(out: &mut [u8], at: usize, property: Property, first: u32, second: u32) -> usize
     requires { ⌜ at + lineLimit ≤ length (now out) ⌝ }
     ensures { λ r. ⌜ PlacedAt lineLimit (propertyLine property first second) at r (now (out .entry)) (now (out .exit)) ⌝ }
 {
-    let a = first as u64;
-    let b = second as u64;
-    match property {
-        Property::Rate => text::put_two(out, at, b"rate ", a, b" ", b),
-        Property::Side => text::put_two(out, at, b"side ", a, b" ", b),
-        Property::Count => text::put_two(out, at, b"count ", a, b" ", b),
-        Property::Form => text::put_two(out, at, b"form ", a, b" ", b),
-    }
+    let word = property_word(property);
+    let number = put_word(out, at, word);
+    let rest = text::put_decimal(out, number, first as u64);
+    text::put_one(out, rest, b" ", second as u64)
 }
 
 // The word of a kind.
@@ -48,11 +104,8 @@ fn put_kind(out: &mut [u8], at: usize, kind: Kind) -> usize
     requires { ⌜ at + 10 ≤ length (now out) ⌝ }
     ensures { λ r. ⌜ PlacedAt 10 (kindWord kind) at r (now (out .entry)) (now (out .exit)) ⌝ }
 {
-    match kind {
-        Kind::Number(_) => text::put_text(out, at, b" number "),
-        Kind::Infinity(_) => text::put_text(out, at, b" infinity "),
-        Kind::Nan(_) => text::put_text(out, at, b" nan "),
-    }
+    let word = kind_word(kind);
+    put_word(out, at, word)
 }
 
 // The line of a ratio: the bits of the first record's, of kind k, and of the second's, of kind l.

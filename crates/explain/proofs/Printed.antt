@@ -25,7 +25,7 @@ use Rattle.reasons.proofs.Reasons.{explained-past}
 use Rattle.inputs.specs.Inputs.{inputLimit, blank}
 use Rattle.inputs.specs.Readings.{answerOf, Reading}
 use Rattle.inputs.proofs.Inputs.{over-front, read-own}
-use Rattle.explain.specs.Indexes.{indexOf, capped}
+use Rattle.explain.specs.Indexes.{givenIndex, capped}
 use Rattle.explain.specs.Lines.{costLine, reasonLine}
 use Rattle.explain.specs.Printed.{bodyIn, costOf, offsetOf, pointText, indexText, answerText, printed}
 use Rattle.explain.proofs.Printed.Offsets.{body-end}
@@ -86,8 +86,8 @@ module _ {s : List ℕ} {r : ReadAnswer} {ts vs : List ℕ} (h : Reading s r ts 
         (omega arith, omega arith, omega (arith, within run (o .1) .1))
 
     -- the text for the index
-    pub run-text : (b : ℕ) → b ≡ r .used - length (codedRatios own) → indexText b own (indexOf t) ≡ printed s t
+    pub run-text : (b : ℕ) → b ≡ r .used - length (codedRatios own) → indexText b own (givenIndex t) ≡ printed s t
     unfolding answerText
     run-text b e =
-        ap (λ (n : ℕ). indexText n own (indexOf t)) (e ∙ body-start .1 ∙ ap bodyIn (sym (take-all inputLimit s (h .whole))))
+        ap (λ (n : ℕ). indexText n own (givenIndex t)) (e ∙ body-start .1 ∙ ap bodyIn (sym (take-all inputLimit s (h .whole))))
         ∙ sym (ap (λ (a : Answer). answerText (take inputLimit s) a t) (sym (h .answered)) ∙ rw (eq-eqb (r .number) 0 ok))

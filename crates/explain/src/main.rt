@@ -8,7 +8,7 @@ ghost use Rattle.limits.specs.Points.{maxPoints};
 ghost use Rattle.ratio_format.specs.Bodies.{codedRatios};
 ghost use Rattle.text.specs.PlacedAt.{PlacedAt};
 ghost use Rattle.inputs.specs.Inputs.{inputLimit};
-ghost use Rattle.explain.specs.Indexes.{isDigit, digitOf, indexOf, capped};
+ghost use Rattle.explain.specs.Indexes.{isDigit, digitOf, givenIndex, capped};
 ghost use Rattle.explain.specs.Lines.{costLine, xorLine, reasonLine};
 ghost use Rattle.explain.specs.Printed.{bodyLimit, argumentLimit, textLimit, costOf, pointText, printed};
 use inputs::input_room;
@@ -55,7 +55,7 @@ fn append_digit(n: usize, c: u8) -> usize
 
 // The index that a text is, up to 4,096, which stands for a text that is none, too: no run has that index.
 fn index_in(text: &[u8]) -> usize
-    ensures { λ r. ⌜ r ≡ capped (indexOf (now (text .entry))) ⌝ }
+    ensures { λ r. ⌜ r ≡ capped (givenIndex (now (text .entry))) ⌝ }
 {
     if text.len() == 0 {
         return MAX_POINTS;

@@ -10,14 +10,14 @@ use lib.Seq.{take-length}
 use Rattle.text.specs.Lines.{newline, sideWord}
 use Rattle.text.specs.Numbers.{decimal}
 use Rattle.text.specs.PlacedAt.{PlacedAt}
-use Rattle.text.proofs.PlacedAt.{put-none, put-more, put-as, put-put}
+use Rattle.text.proofs.PlacedAt.{placed-none, placed-within, placed-as, placed-then}
 use Rattle.listing.specs.Lines.{sideLine, pointLine, pointLines}
 
 -- ---- the side's
 
 pub side-none : (n at : ℕ) (o : List ℕ) → n ≡ 0 → PlacedAt 26 (sideLine n) at at o o
 unfolding sideLine
-side-none n at o e = rw e (put-more (omega arith) (put-none at o))
+side-none n at o e = rw e (placed-within (omega arith) (placed-none at o))
 
 pub side-line : (n : ℕ) → (n ≡ 0 → ⊥) → {m at e : ℕ} {o p : List ℕ} → PlacedAt m (sideWord ++ (decimal n ++ newline)) at e o p → PlacedAt m (sideLine n) at e o p
 unfolding sideLine
@@ -42,17 +42,17 @@ Points i ts vs at e o p = PlacedAt (38 * i) (pointLines (take i ts) (take i vs))
 module _ (ts vs : List ℕ) (same : length ts ≡ length vs) where
   pub points-none : (at : ℕ) (o : List ℕ) → Points 0 ts vs at at o o
   unfolding pointLines
-  points-none at o = put-none at o
+  points-none at o = placed-none at o
 
   pub points-more : {i at e f : ℕ} {o p q : List ℕ} → i < length ts → at + 38 * i ≤ length o
       → Points i ts vs at e o p → PlacedAt 38 (pointLine (getD ts i 0) (getD vs i 0)) e f p q → Points (i + 1) ts vs at f o q
   points-more {i} i< room h g =
-      let l = put-put room h g in
+      let l = placed-then room h g in
       let e : pointLines (take i ts) (take i vs) ++ pointLine (getD ts i 0) (getD vs i 0) ≡ pointLines (take (i + 1) ts) (take (i + 1) vs) =
       rw add-one (lines-more ts vs i i< (omega arith)) in
-      put-as (omega (arith, ap length e, l .most)) e l
+      placed-as (omega (arith, ap length e, l .most)) e l
 
   pub points-all : {i at e : ℕ} {o p : List ℕ} → length ts ≡ i → Points i ts vs at e o p → PlacedAt (38 * length ts) (pointLines ts vs) at e o p
   points-all {i} all h =
       let e : pointLines (take i ts) (take i vs) ≡ pointLines ts vs = rw (← all, take-length, same, take-length) in
-      put-as (omega (arith, ap length e, h .most)) e h
+      placed-as (omega (arith, ap length e, h .most)) e h

@@ -12,7 +12,7 @@ use Rattle.record_format.specs.Moves.{Move, moveOf}
 use Rattle.record_format.proofs.MoveClaims.{moved-within}
 use Rattle.text.specs.Lines.{refusedLine}
 use Rattle.text.specs.PlacedAt.{PlacedAt}
-use Rattle.text.proofs.PlacedAt.{put-same}
+use Rattle.text.proofs.PlacedAt.{placed-same}
 use Rattle.inputs.specs.Inputs.{inputLimit}
 use Rattle.move_record.specs.Lines.{lineLimit, movedLine, answerLine}
 use Rattle.move_record.specs.Printed.{blankRecord, moveInput, Told}
@@ -44,5 +44,5 @@ move-told f s o p l q a end short blank kept h put =
       moved = ap (λ (x : MoveAnswer). eqb (x .number) 0) is;
       room = subst (λ (n : ℕ). a .length ≤ n) (sym kept) (subst (λ (x : MoveAnswer). x .length ≤ length o) (sym (h .0)) (moved-within f s o));
       bytes = ap (take (a .length)) (h .1 ∙ ap (λ (m : Move). m .output) e) ∙ ap (λ (x : MoveAnswer). take (x .length) (moveInput f s .output)) is;
-      line = put-same (ap answerLine is) put;
+      line = placed-same (ap answerLine is) put;
     }

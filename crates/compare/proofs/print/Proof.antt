@@ -6,7 +6,7 @@ use native.Mathlib.Nat.{min-le-left}
 use native.Mathlib.Omega.{arith}
 use lib.Seq.{length-take-le}
 use Rattle.limits.specs.Points.{maxPoints}
-use Rattle.text.proofs.PlacedAt.{put-same, put-more, put-put}
+use Rattle.text.proofs.PlacedAt.{placed-same, placed-within, placed-then}
 use Rattle.inputs.specs.Readings.{Held}
 use Rattle.inputs.proofs.Inputs.{read-held}
 use Rattle.differences.specs.declared.OverallDifferences.{OverallDifferences}
@@ -113,8 +113,8 @@ returns c =
     let put = c .before .before in
     let i = put .before .before in
     let o = i .before in
-    put-more (omega arith)
-    (put-same (refused-text (first o .read-input .ensures) (second o .read-input2 .ensures) (o .overall-of .result) (o .overall-of .ensures) (i .if1 .taken)) (put .put-refused-in .ensures))
+    placed-within (omega arith)
+    (placed-same (refused-text (first o .read-input .ensures) (second o .read-input2 .ensures) (o .overall-of .result) (o .overall-of .ensures) (i .if1 .taken)) (put .put-refused-in .ensures))
 
 cast-m : tie.Need-cast-m
 cast-m c = search needs
@@ -178,11 +178,11 @@ returns-2 c =
     let room = start o .pre .2 in
     let n = few (l .before) in
     let w = p .put-properties .ensures in
-    put-more (omega (arith, n))
-    (put-same
+    placed-within (omega (arith, n))
+    (placed-same
     (lines-text (first o .read-input .ensures) (second o .read-input2 .ensures) (o .overall-of .result) (o .overall-of .ensures) (e .if1 .left) (l .before .least .result) (l .before .least .ensures))
-    (put-put (omega (arith, n, room)) w
-    (put-put (omega (arith, n, room, w .most, w .next, p .put-properties .kept .0)) (l .put-points .ensures) (put .put-difference .ensures))))
+    (placed-then (omega (arith, n, room)) w
+    (placed-then (omega (arith, n, room, w .most, w .next, p .put-properties .kept .0)) (l .put-points .ensures) (put .put-difference .ensures))))
 
 pub print-spec : {M : Type 1} → statement M
 print-spec =

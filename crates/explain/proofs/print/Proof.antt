@@ -7,11 +7,11 @@ use lib.ListN.{length, take}
 use lib.Seq.{length-take-le}
 use Rattle.limits.specs.Points.{maxPoints}
 use Rattle.ratio_format.specs.Bodies.{codedRatios}
-use Rattle.text.proofs.PlacedAt.{put-same, put-more}
+use Rattle.text.proofs.PlacedAt.{placed-same, placed-within}
 use Rattle.inputs.specs.Inputs.{inputLimit}
 use Rattle.inputs.specs.Readings.{Held}
 use Rattle.inputs.proofs.Inputs.{read-held}
-use Rattle.explain.specs.Indexes.{indexOf}
+use Rattle.explain.specs.Indexes.{givenIndex}
 use Rattle.explain.specs.Printed.{bodyIn, pointText}
 use Rattle.explain.proofs.Printed.{point-capped, refused-text, body-start, run-text}
 use borrow.Author.Needs.{needs}
@@ -86,7 +86,7 @@ returns c =
     let put = c .before .before in
     let i = put .before .before in
     let k = refused i in
-    put-more (omega arith) (put-same (refused-text (k .read-input .ensures) (start k .args .index .now) (i .if1 .taken)) (put .put-refused .ensures))
+    placed-within (omega arith) (placed-same (refused-text (k .read-input .ensures) (start k .args .index .now) (i .if1 .taken)) (put .put-refused .ensures))
 
 cast-count : tie.Need-cast-count
 cast-count c = search needs
@@ -130,9 +130,9 @@ returns-2 c =
     let used = read e .read-input .result .used in
     let b = used - k .body-size .result in
     let short : length (ratios e) ≤ maxPoints = omega (arith, few e, run-held e .few) in
-    put-same
+    placed-same
     (ap (pointText b (ratios e)) (i .index-in .ensures)
-    ∙ point-capped b (ratios e) short (indexOf text)
+    ∙ point-capped b (ratios e) short (givenIndex text)
     ∙ run-text (read e .read-input .ensures) text (e .if1 .left) b (ap (λ (n : ℕ). used - n) (k .body-size .ensures)))
     (put .put-index .ensures)
 

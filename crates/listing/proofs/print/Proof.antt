@@ -8,7 +8,7 @@ use mir.Syntax.{w64}
 use mir.Val.{SFits}
 use mir.ValLaws.{toZ-ofZ}
 use Rattle.span.specs.declared.SpanAnswer.{SpanAnswer}
-use Rattle.text.proofs.PlacedAt.{put-same, put-more}
+use Rattle.text.proofs.PlacedAt.{placed-same, placed-within}
 use Rattle.inputs.specs.Readings.{Held}
 use Rattle.inputs.proofs.Inputs.{read-held}
 use Rattle.listing.proofs.Printed.{refused-text, run-text, listing-within}
@@ -63,7 +63,7 @@ returns : tie.Need-returns
 returns c =
     let put = c .before .before in
     let i = put .before .before in
-    put-more (omega arith) (put-same (refused-text (refused i .read-input .ensures) (i .if1 .taken)) (put .put-refused .ensures))
+    placed-within (omega arith) (placed-same (refused-text (refused i .read-input .ensures) (i .if1 .taken)) (put .put-refused .ensures))
 
 cast-count : tie.Need-cast-count
 cast-count c = search needs
@@ -105,7 +105,7 @@ returns-2 c =
     let k = spanned (listed told) in
     let fits : SFits w64 (a .result .milliseconds) = record { sfits = told .struct-told .given .1 .1 .0 .1 } in
     let e = toZ-ofZ w64 (a .result .milliseconds) fits ∙ ap (λ (x : SpanAnswer). x .milliseconds) (a .ensures) in
-    put-more (listing-within (run-held k)) (put-same (run-text (read k .read-input .ensures) (k .if1 .left) _ e) (put .put-listing .ensures))
+    placed-within (listing-within (run-held k)) (placed-same (run-text (read k .read-input .ensures) (k .if1 .left) _ e) (put .put-listing .ensures))
 
 pub print-spec : {M : Type 1} → statement M
 print-spec =

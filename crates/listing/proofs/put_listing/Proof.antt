@@ -5,7 +5,7 @@ use borrow.Author.Needs.{needs}
 use mir.Syntax.{w64}
 use mir.ValLaws.{toZ-ofZ}
 use Rattle.listing.specs.Lines.{spanLine, listing}
-use Rattle.text.proofs.PlacedAt.{put-same, put-more, put-put}
+use Rattle.text.proofs.PlacedAt.{placed-same, placed-within, placed-then}
 use Rattle.listing.proofs.put_listing.Statement.{statement}
 use Rattle.listing.proofs.put_listing.Tie as tie
 
@@ -58,11 +58,11 @@ returns c =
     let side = sided count in
     let rate = rated side in
     let s = start rate in
-    let span-put = put-same (ap spanLine (toZ-ofZ w64 (s .args .span) (s .fits .span))) (span .put-span .ensures) in
-    put-more (omega arith)
-    (put-put (omega arith) (rate .put-rate .ensures)
-    (put-put (omega arith) (side .put-side .ensures)
-    (put-put (omega arith) (count .put-count .ensures) (put-put (omega arith) span-put (points .put-points .ensures)))))
+    let span-put = placed-same (ap spanLine (toZ-ofZ w64 (s .args .span) (s .fits .span))) (span .put-span .ensures) in
+    placed-within (omega arith)
+    (placed-then (omega arith) (rate .put-rate .ensures)
+    (placed-then (omega arith) (side .put-side .ensures)
+    (placed-then (omega arith) (count .put-count .ensures) (placed-then (omega arith) span-put (points .put-points .ensures)))))
 
 pub put-listing-spec : {M : Type 1} → statement M
 put-listing-spec =

@@ -1,7 +1,7 @@
 -- `put_point` meets its contract: the position, the bits of its ratio, and the line's end.
 use native.Mathlib.Omega.{arith}
 use Rattle.listing.specs.Lines.{pointLine}
-use Rattle.text.proofs.PlacedAt.{put-put}
+use Rattle.text.proofs.PlacedAt.{placed-then}
 use borrow.Author.Needs.{needs}
 use Rattle.listing.proofs.put_point.Statement.{statement}
 use Rattle.listing.proofs.put_point.Tie as tie
@@ -32,7 +32,7 @@ returns : tie.Need-returns
 unfolding pointLine
 returns c =
     let end = c .before .before in
-    put-put (omega arith) (position (ratio end) .put-decimal .ensures) (put-put (omega arith) (ratio end .put-bits .ensures) (end .put-newline .ensures))
+    placed-then (omega arith) (position (ratio end) .put-decimal .ensures) (placed-then (omega arith) (ratio end .put-bits .ensures) (end .put-newline .ensures))
 
 pub put-point-spec : {M : Type 1} → statement M
 put-point-spec =

@@ -5,7 +5,7 @@ use mir.Syntax.{w64}
 use mir.ValLaws.{toZ-ofZ}
 use Rattle.listing.specs.Lines.{spanLine}
 use Rattle.text.specs.Numbers.{signed}
-use Rattle.text.proofs.PlacedAt.{put-same, put-put}
+use Rattle.text.proofs.PlacedAt.{placed-same, placed-then}
 use borrow.Author.Needs.{needs}
 use Rattle.listing.proofs.put_span.Statement.{statement}
 use Rattle.listing.proofs.put_span.Tie as tie
@@ -44,8 +44,8 @@ returns c =
     let end = c .before .before in
     let signed-put = number end in
     let s = start (word signed-put) in
-    put-put (omega arith) (word signed-put .put-text .ensures)
-    (put-put (omega arith) (put-same (ap signed (toZ-ofZ w64 (s .args .span) (s .fits .span))) (signed-put .put-signed .ensures)) (end .put-newline .ensures))
+    placed-then (omega arith) (word signed-put .put-text .ensures)
+    (placed-then (omega arith) (placed-same (ap signed (toZ-ofZ w64 (s .args .span) (s .fits .span))) (signed-put .put-signed .ensures)) (end .put-newline .ensures))
 
 pub put-span-spec : {M : Type 1} → statement M
 put-span-spec =

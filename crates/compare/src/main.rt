@@ -28,13 +28,13 @@ fn output_room() -> [u8; TEXT]
     [0; TEXT]
 }
 
-// A word of up to 10 bytes, at the front of these.
+// A word of up to 10 bytes: the first `length` of these.
 pub struct Word {
     pub bytes: [u8; 10],
     pub length: usize,
 }
 
-// The word of a property.
+// The word of a property, and a space.
 fn property_word(property: Property) -> Word
     ensures { λ r. ⌜ (r .length ≤ 10) × (take (r .length) (r .bytes) ≡ propertyWord property) ⌝ }
 {
@@ -58,7 +58,7 @@ fn property_word(property: Property) -> Word
     }
 }
 
-// The word of a kind.
+// The word of a kind, between two spaces.
 fn kind_word(kind: Kind) -> Word
     ensures { λ r. ⌜ (r .length ≤ 10) × (take (r .length) (r .bytes) ≡ kindWord kind) ⌝ }
 {
@@ -78,7 +78,7 @@ fn kind_word(kind: Kind) -> Word
     }
 }
 
-// A word.
+// Puts a word.
 fn put_word(out: &mut [u8], at: usize, word: Word) -> usize
     requires { ⌜ (at + 10 ≤ length (now out)) × (word .length ≤ 10) ⌝ }
     ensures { λ r. ⌜ PlacedAt 10 (take (word .length) (word .bytes)) at r (now (out .entry)) (now (out .exit)) ⌝ }
@@ -99,7 +99,7 @@ fn put_property(out: &mut [u8], at: usize, property: Property, first: u32, secon
     text::put_one(out, rest, b" ", second as u64)
 }
 
-// The word of a kind.
+// Puts the word of a kind.
 fn put_kind(out: &mut [u8], at: usize, kind: Kind) -> usize
     requires { ⌜ at + 10 ≤ length (now out) ⌝ }
     ensures { λ r. ⌜ PlacedAt 10 (kindWord kind) at r (now (out .entry)) (now (out .exit)) ⌝ }

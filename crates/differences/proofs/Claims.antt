@@ -23,7 +23,7 @@ use Rattle.differences.specs.declared.Property.the-variants as property
 use Rattle.differences.specs.declared.Difference.{Difference}
 use Rattle.differences.specs.declared.Difference.the-variants.{Equal, InProperty, Position, Ratio, More}
 use Rattle.differences.specs.declared.Values.{Values}
-use Rattle.differences.specs.declared.Values.the-variants.{Same, Other}
+use Rattle.differences.specs.declared.Values.the-variants.{Nothing, Other}
 use Rattle.differences.specs.Differences.{propertyDifference, moreDifference, valuesAt, positionBy, ratioBy, positionAt, ratioAt, listed, pointsTo, differences}
 use Rattle.lists.specs.Among.{Among}
 use Rattle.lists.proofs.Among.{among-left, among-right, among-either, among-none}
@@ -43,7 +43,7 @@ pub record Unlike (xs ys : List ℕ) (i x y : ℕ) : Type 0 where
 values-unlike : (xs ys : List ℕ) (i x y : ℕ) → valuesAt xs ys i ≡ Other x y → Unlike xs ys i x y
 values-unlike xs ys i x y e = go (ltb i (length xs)) refl (ltb i (length ys)) refl
   where
-    same-or-not : (t : Bool) → eqb (getD xs i 0) (getD ys i 0) ≡ t → cond t Same (Other (getD xs i 0) (getD ys i 0)) ≡ Other x y → i < length xs → i < length ys → Unlike xs ys i x y
+    same-or-not : (t : Bool) → eqb (getD xs i 0) (getD ys i 0) ≡ t → cond t Nothing (Other (getD xs i 0) (getD ys i 0)) ≡ Other x y → i < length xs → i < length ys → Unlike xs ys i x y
     same-or-not true w h a b = absurd (let z : _≡_ {A = ℕ} 0 1 = cc in omega arith)
     same-or-not false w h a b =
         let one : x ≡ getD xs i 0 = cc in
@@ -94,7 +94,7 @@ module _ (r q : Run) (d : Difference) where
     from-position i h k = go (valuesAt (r .positions) (q .positions) i) refl k
       where
         go : (z : Values) → valuesAt (r .positions) (q .positions) i ≡ z → Among d (listed (positionBy i z)) → Differs r q d
-        go Same w k = absurd k
+        go Nothing w k = absurd k
         go (Other x y) w (inl e) =
             let u = values-unlike (r .positions) (q .positions) i x y w in
             subst (Differs r q) (sym e) ((u .first, u .second), u .one, u .other, u .apart)
@@ -105,7 +105,7 @@ module _ (r q : Run) (d : Difference) where
     from-ratio i h k = go (valuesAt (r .ratios) (q .ratios) i) refl k
       where
         go : (z : Values) → valuesAt (r .ratios) (q .ratios) i ≡ z → Among d (listed (ratioBy i z)) → Differs r q d
-        go Same w k = absurd k
+        go Nothing w k = absurd k
         go (Other x y) w (inl e) =
             let u = values-unlike (r .ratios) (q .ratios) i x y w in
             subst (Differs r q) (sym e) ((omega arith, omega arith), u .one, u .other, u .apart, refl, refl)

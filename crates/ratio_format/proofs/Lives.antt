@@ -115,8 +115,8 @@ module _ (k : Coder) (s : Live) (v : ℕ) (o : List ℕ) where
     no : (n : ℕ) → (n ≡ 0 → ⊥) → addRefusalBy k s v o ≡ refusalBy n → Outcome
     yes : badLive s ≡ false → s .seen < maxPoints → addRefusalBy k s v o ≡ noRefusal → Outcome
 
-  pub outcome : Outcome
-  outcome = go (eqb (firstOf (stateTests s) .number) 0) refl (ltb (length o) (length (addBytesBy k s v))) refl
+  pub add-outcome : Outcome
+  add-outcome = go (eqb (firstOf (stateTests s) .number) 0) refl (ltb (length o) (length (addBytesBy k s v))) refl
     where
       go : (t : Bool) → eqb (firstOf (stateTests s) .number) 0 ≡ t → (r : Bool) → ltb (length o) (length (addBytesBy k s v)) ≡ r → Outcome
       go false t r er = let z = eqb-false (firstOf (stateTests s) .number) 0 t in no (firstOf (stateTests s) .number) z (add-tested (firstOf (stateTests s) .number) refl z)
@@ -132,7 +132,7 @@ pub fresh-good : badLive freshLive ≡ false
 fresh-good = refl
 
 pub live-stays : LiveStays
-live-stays k s v o b = go (outcome k s v o)
+live-stays k s v o b = go (add-outcome k s v o)
   where
     go : Outcome k s v o → badLive (addStateBy k s v o) ≡ false
     go (no n z e) = rw (add-refused k s v o n z e .1) b
@@ -141,7 +141,7 @@ live-stays k s v o b = go (outcome k s v o)
         (live-good (addedTo s v) (window-stays (s .window) v (s .seen) (good-live s b .0)) (omega arith))
 
 size-stays : (k : Coder) (s : Live) (v : ℕ) (o : List ℕ) → length (s .window .ratios) ≡ windowSize → length (addStateBy k s v o .window .ratios) ≡ windowSize
-size-stays k s v o h = go (outcome k s v o)
+size-stays k s v o h = go (add-outcome k s v o)
   where
     go : Outcome k s v o → length (addStateBy k s v o .window .ratios) ≡ windowSize
     go (no n z e) = rw (add-refused k s v o n z e .1) h
@@ -188,7 +188,7 @@ joined-from : (s : Live) (ts : List Tick) → length (s .window .ratios) ≡ win
 unfolding addJoined addTaken codedFrom
 joined-from s [] h = refl
 joined-from s (t ∷ ts) h =
-    joined-more s t ts h (outcome coded s (t .ratio) (t .output)) (joined-from (tickState s t) ts (size-stays coded s (t .ratio) (t .output) h))
+    joined-more s t ts h (add-outcome coded s (t .ratio) (t .output)) (joined-from (tickState s t) ts (size-stays coded s (t .ratio) (t .output) h))
 
 -- from a fresh state
 pub live-joined : LiveJoined

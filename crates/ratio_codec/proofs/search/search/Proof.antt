@@ -7,7 +7,7 @@ use borrow.Author.Needs.{needs}
 use lib.ListN.{length, getD}
 use Rattle.ratio_format.specs.Choice.{Best}
 use Rattle.ratio_format.proofs.Zeros.Sums.{sum-other}
-use Rattle.ratio_codec.proofs.search.Scanned.{Scanned, scanned-none, scanned-wins, scanned-loses, scanned-pass, scanned-equal, scanned-all}
+use Rattle.ratio_codec.proofs.search.Scanned.{Scanned, scanned-start, scanned-wins, scanned-loses, scanned-pass, scanned-equal, scanned-all}
 use Rattle.ratio_codec.proofs.search.search.Statement.{statement}
 use Rattle.ratio_codec.proofs.search.search.Tie as tie
 
@@ -18,7 +18,7 @@ abbrev μ-loop : tie.MeasureT-loop
 μ-loop window v place₀ sum₀ i₀ place sum i = length window - i
 
 loop-holds : tie.Need-loop-holds Inv-loop μ-loop
-loop-holds c = scanned-none (c .before .args .v) (c .before .args .window .now)
+loop-holds c = scanned-start (c .before .args .v) (c .before .args .window .now)
 
 sub-u : tie.Need-sub-u Inv-loop μ-loop
 sub-u c = omega arith

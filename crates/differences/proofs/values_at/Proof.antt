@@ -1,8 +1,6 @@
 -- `differences::values_at` meets its contract: an index that not both lists have, and one that they have.
 use mathlib.Core.Logic.{inl, inr}
-use Prim.Native.Nat.{_<_}
 use native.Mathlib.Omega.{arith}
-use lib.ListN.{length}
 use borrow.Author.Needs.{needs}
 use Rattle.differences.proofs.Differences.{values-beyond, values-same, values-other}
 use Rattle.differences.proofs.values_at.Statement.{statement}

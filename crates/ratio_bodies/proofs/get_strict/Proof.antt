@@ -97,7 +97,8 @@ returns c =
 refresh-requires : tie.Need-refresh-requires Inv-loop μ-loop
 refresh-requires c κs =
     let known = c .before .before .before in
-    (turn (known .before .before) .loop .inv .1, omega arith, omega arith)
+    let read = known .before .before in
+    (turn read .loop .inv .1, omega arith, omega arith)
 
 -- the ratio that was read, and its bytes
 module _ (c : tie.After-refresh Inv-loop μ-loop) where

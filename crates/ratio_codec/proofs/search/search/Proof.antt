@@ -43,11 +43,12 @@ returns c =
 sum-of-requires : tie.Need-sum-of-requires Inv-loop μ-loop
 sum-of-requires c κs = search needs
 
--- the loop's turn in which a sum is compared
+-- where the ratio is not equal, from where its sum was compared, and the loop's turn
+abbrev unequal : tie.Joined2 Inv-loop μ-loop → tie.Else1 Inv-loop μ-loop
+unequal c = c .before .before
+
 abbrev turnOf : tie.Joined2 Inv-loop μ-loop → tie.At-loop Inv-loop μ-loop
-turnOf c =
-    let unequal = c .before .before in
-    unequal .before .before .before
+turnOf c = unequal c .before .before .before
 
 -- the ratio at place i is counted
 counted : (c : tie.Joined2 Inv-loop μ-loop)
@@ -62,7 +63,7 @@ counted c =
     let w = a .window .now in
     let k = turn .before .shared-slice-known .given (length w - 1 - l .i) .fits in
     let h : l .i < length w = omega arith in
-    let o = sum-other (a .v) (getD w (length w - 1 - l .i) 0) (start .fits .v .fits) k (λ q. c .before .before .if1 .left (sym q)) in
+    let o = sum-other (a .v) (getD w (length w - 1 - l .i) 0) (start .fits .v .fits) k (λ q. unequal c .if1 .left (sym q)) in
     ⊎-elim
     (λ t. let n = scanned-wins (a .v) w (l .i) (l .place) (l .sum) (l .inv) h (omega arith) (omega arith) in let e = n .2 in (n .0, omega arith, cc))
     (λ t. let n = scanned-loses (a .v) w (l .i) (l .place) (l .sum) (l .inv) h (omega arith) in let e = n .2 in (n .0, omega arith, cc))

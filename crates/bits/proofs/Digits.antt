@@ -76,8 +76,8 @@ digits-low {b} b⁺ (suc j) h l =
 pub digits-join : {b : ℕ} → zero < b → (i j h : ℕ) {l : ℕ} → l < b ^ j → digitsOf b (i + j) (h * b ^ j + l) ≡ digitsOf b i h ++ digitsOf b j l
 digits-join {b} b⁺ i j h {l} l< = rw (digits-append, digits-low b⁺, digits-div h l<)
 
-pub digits-mod : {b : ℕ} → zero < b → (j n : ℕ) → digitsOf b j (n % b ^ j) ≡ digitsOf b j n
-digits-mod {b} b⁺ j n = sym (digits-low b⁺ j (n / b ^ j) (n % b ^ j)) ∙ ap (digitsOf b j) (div-add-mod' n (b ^ j))
+pub digits-of-mod : {b : ℕ} → zero < b → (j n : ℕ) → digitsOf b j (n % b ^ j) ≡ digitsOf b j n
+digits-of-mod {b} b⁺ j n = sym (digits-low b⁺ j (n / b ^ j) (n % b ^ j)) ∙ ap (digitsOf b j) (div-add-mod' n (b ^ j))
 
 -- a byte is a digit in base 256
 pub byte-digit : (x j : ℕ) → x / 256 ^ j % 256 ≡ byteOf x j

@@ -13,7 +13,7 @@ use Rattle.lists.specs.Below.{Below}
 use Rattle.bits.specs.Digits.{digitsOf, bitsOf, bytesOf, numberOf}
 use Rattle.bits.specs.Packing.{bits, eights, fillOf, pack}
 use Rattle.lists.proofs.Below.{below-append, below-take, below-drop, below-replicate}
-use Rattle.bits.proofs.Digits.{below-digits, two⁺, pow-bytes, length-digits, digits-append, digits-mod, number-lt, number-digits, digits-number}
+use Rattle.bits.proofs.Digits.{below-digits, two⁺, pow-bytes, length-digits, digits-append, digits-of-mod, number-lt, number-digits, digits-number}
 
 -- the bits of bytes
 
@@ -37,7 +37,7 @@ pub bits-bytes : (j x : ℕ) → bits (bytesOf j x) ≡ bitsOf (8 * j) x
 unfolding bits digitsOf
 bits-bytes zero x = refl
 bits-bytes (suc j) x =
-    ap (λ (l : List ℕ). l ++ bits (bytesOf j x)) (digits-mod two⁺ 8 (x / 256 ^ j))
+    ap (λ (l : List ℕ). l ++ bits (bytesOf j x)) (digits-of-mod two⁺ 8 (x / 256 ^ j))
     ∙ ap₂ (λ (p : ℕ) (l : List ℕ). bitsOf 8 (x / p) ++ l) (pow-bytes j) (bits-bytes j x)
     ∙ sym (digits-append 2 8 (8 * j) x)
     ∙ ap (λ (n : ℕ). bitsOf n x) (add-comm 8 (8 * j) ∙ sym (mul-suc 8 j))

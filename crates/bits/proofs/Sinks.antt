@@ -18,9 +18,9 @@ use Rattle.bits.specs.Digits.{digitsOf, bitsOf, bytesOf}
 use Rattle.bits.specs.Packing.{bits, fillOf, pack}
 use Rattle.bits.specs.Sinks.{Sound, Held, overWord, PlacedBits, Laid}
 use Rattle.bits.specs.declared.fields.Sink.{Sink}
-use Rattle.bits.proofs.Digits.{two⁺, length-digits, digits-zero, digits-append, digits-join, digits-mod}
+use Rattle.bits.proofs.Digits.{two⁺, length-digits, digits-zero, digits-append, digits-join, digits-of-mod}
 use Rattle.bits.proofs.Packing.{bits-append, bits-bytes, bits-take, bits-drop, bits-same, length-pack, below-pack, bits-pack}
-use Rattle.bits.proofs.Digits.Word.{mask, join-lt, shl-is, two-lt, two-bits}
+use Rattle.bits.proofs.Digits.Word.{mask-pow, join-lt, shl-is, two-lt, two-bits}
 
 -- a sink by its parts
 abbrev pub sink : ℕ → ℕ → ℕ → Sink
@@ -172,7 +172,7 @@ module _ (s : Sink) (sound : Sound s) (n w : ℕ) (n≤ : n ≤ 64) (w< : w < 2 
       ∙ digits-join two⁺ (s .width) fill (s .held) first<
 
   pub past-sound : Sound past
-  past-sound = record { small = more<; fits = rw (mask more more<) (mod-lt w (pow-pos more)) }
+  past-sound = record { small = more<; fits = rw (mask-pow more more<) (mod-lt w (pow-pos more)) }
 
   module _ (ds : List ℕ) (h : Held ds s) where
     all : ds ++ bitsOf n w ≡ (take (8 * s .at) ds ++ bitsOf 64 word) ++ bitsOf more w
@@ -191,7 +191,7 @@ module _ (s : Sink) (sound : Sound s) (n w : ℕ) (n≤ : n ≤ 64) (w< : w < 2 
   past-laid p ds h = (
     record {
       size = length-append ds (bitsOf n w) ∙ omega (arith, h .size, length-digits 2 n w);
-      tail = ap (λ (m : ℕ). bitsOf more (w % m)) (mask more more<) ∙ digits-mod two⁺ more w
+      tail = ap (λ (m : ℕ). bitsOf more (w % m)) (mask-pow more more<) ∙ digits-of-mod two⁺ more w
           ∙ sym (ap (drop (8 * (s .at + 8))) (all ds h) ∙ drop-at (take (8 * s .at) ds ++ bitsOf 64 word) (bitsOf more w) (8 * (s .at + 8)) (length-full ds h));
     },
     λ o t.

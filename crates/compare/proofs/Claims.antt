@@ -18,7 +18,7 @@ use Rattle.differences.specs.declared.Property.the-variants.{Rate, Side, Count,
 use Rattle.differences.specs.declared.Difference.{Difference}
 use Rattle.differences.specs.declared.Difference.the-variants.{Equal, InProperty, Position, Ratio, More}
 use Rattle.differences.specs.Differences.{differences}
-use Rattle.differences.specs.Comparisons.{Comparison, comparison, refusedBy}
+use Rattle.differences.specs.Comparisons.{Comparison, comparison, refusedComparison}
 use Rattle.lists.specs.Among.{Among}
 use Rattle.differences.proofs.Claims.{lists-exactly, none-own}
 use Rattle.differences.proofs.Comparisons.{compares, compares-only, empty-exactly, compared-first, compared-second, comparison-trailing}
@@ -91,13 +91,13 @@ prints-nothing s t u v = (
 pub prints-first : PrintsFirst
 prints-first s t b never =
     let n = reads-no-other s b never in
-    (n, ap comparisonText (compared-first (readInput s) (readInput t) n) ∙ text-refused (refusedBy (readInput s .answer) 1) n)
+    (n, ap comparisonText (compared-first (readInput s) (readInput t) n) ∙ text-refused (refusedComparison (readInput s .answer) 1) n)
 
 pub prints-second : PrintsSecond
 prints-second r a x t b never =
     let n = reads-no-other t b never in
     let ok = ap (λ (y : Answer). y .answer .number) (reads-record r a x) in
-    (n, ap comparisonText (compared-second (readInput (recordOf r ++ x)) (readInput t) ok n) ∙ text-refused (refusedBy (readInput t .answer) 2) n)
+    (n, ap comparisonText (compared-second (readInput (recordOf r ++ x)) (readInput t) ok n) ∙ text-refused (refusedComparison (readInput t .answer) 2) n)
 
 -- ---- bytes behind a record
 

@@ -21,7 +21,7 @@ use Rattle.inputs.proofs.Inputs.{reads-record}
 use Rattle.text.specs.Numbers.{trimmed, decimal, hex16}
 use Rattle.differences.specs.Differences.{positionAt, ratioAt, pointsTo, differences}
 use Rattle.differences.specs.Examples.{otherRun}
-use Rattle.differences.specs.Comparisons.{Comparison, refusedBy}
+use Rattle.differences.specs.Comparisons.{Comparison, refusedComparison}
 use Rattle.differences.proofs.Comparisons.{compared-first, compared-second}
 use Rattle.compare.specs.Lines.{propertyLine, positionLine, ratioLine, moreLine, textOf, refusedInLine}
 use Rattle.compare.specs.Printed.{comparisonText, printed}
@@ -42,7 +42,7 @@ unfolding digitsOf trimmed decimal hex16 ofBits ofFields positionAt ratioAt poin
 texts = (refl, refl)
 
 -- of an empty file the head of the rate's field is not whole, whichever it is
-refused-empty : (w : ℕ) → refusedBy (readInput [] .answer) w ≡ record { number = 10; place = 0; which = w; list = [] }
+refused-empty : (w : ℕ) → refusedComparison (readInput [] .answer) w ≡ record { number = 10; place = 0; which = w; list = [] }
 unfolding readWith firstOf
 refused-empty w = refl
 
@@ -53,7 +53,7 @@ lines : (refusedInLine 10 0 1 ≡ refusedFirst) × (refusedInLine 10 0 2 ≡ ref
 unfolding digitsOf trimmed decimal refusedInLine
 lines = (refl, refl)
 
-line-empty : (w : ℕ) → comparisonText (refusedBy (readInput [] .answer) w) ≡ refusedInLine 10 0 w
+line-empty : (w : ℕ) → comparisonText (refusedComparison (readInput [] .answer) w) ≡ refusedInLine 10 0 w
 line-empty w = ap comparisonText (refused-empty w) ∙ text-refused (record { number = 10; place = 0; which = w; list = [] }) (λ e. omega (arith, e))
 
 first-empty : (t : List ℕ) → printed [] t ≡ refusedFirst

@@ -6,7 +6,7 @@ use native.Mathlib.Numerals.{add-one}
 use native.Mathlib.Omega.{arith}
 use lib.ListN.{length}
 use Rattle.text.specs.PlacedAt.{PlacedAt}
-use Rattle.text.proofs.PlacedAt.{put-none, put-as, put-put}
+use Rattle.text.proofs.PlacedAt.{placed-none, placed-as, placed-then}
 use Rattle.compare.specs.Pieces.{pointText, pointsText}
 use Rattle.compare.specs.Printed.{lineLimit}
 
@@ -17,7 +17,7 @@ module _ (ts vs us ws : List ℕ) where
 
   pub points-none : (at : ℕ) (o : List ℕ) → Points 0 at at o o
   unfolding pointsText
-  points-none at o = put-none at o
+  points-none at o = placed-none at o
 
   points-next : (i : ℕ) → pointsText ts vs us ws i ++ pointText ts vs us ws i ≡ pointsText ts vs us ws (i + 1)
   unfolding pointsText
@@ -26,5 +26,5 @@ module _ (ts vs us ws : List ℕ) where
   pub points-more : (i : ℕ) {at e f : ℕ} {o p q : List ℕ} → at + lineLimit * 2 * i ≤ length o
       → Points i at e o p → PlacedAt (lineLimit * 2) (pointText ts vs us ws i) e f p q → Points (i + 1) at f o q
   points-more i room h g =
-      let l = put-put room h g in
-      put-as (omega (arith, ap length (points-next i), l .most)) (points-next i) l
+      let l = placed-then room h g in
+      placed-as (omega (arith, ap length (points-next i), l .most)) (points-next i) l

@@ -1,4 +1,4 @@
--- What the program prints, by what strict reading left in its outputs and by the calls' answers.
+-- What the program prints, by what reading its inputs left and by the calls' answers.
 use mathlib.Core.List.{List, _++_, append-assoc}
 use mathlib.Core.Path.{_≡_, sym, ap, ap₂, subst, _∙_}
 use Prim.Native.Nat.{ℕ, _≤_, min}
@@ -6,11 +6,12 @@ use native.Mathlib.Omega.{arith}
 use borrow.Author.Tests.{eq-eqb, ne-eqb}
 use lib.ListN.{length, take}
 use lib.Seq.{take-all}
-use Rattle.record_format.specs.Claims.{Bytes}
-use Rattle.record_format.specs.Reading.{Answer, readStrict}
+use Rattle.record_format.specs.Reading.{Answer, readStrict, blank}
 use Rattle.record_format.specs.declared.ReadAnswer.{ReadAnswer}
-use Rattle.inputs.specs.Inputs.{inputLimit, blank}
-use Rattle.inputs.proofs.Inputs.{Read, answerOf, read-all, roomy}
+use Rattle.record_format.proofs.Reading.Rooms.{roomy}
+use Rattle.inputs.specs.Inputs.{inputLimit}
+use Rattle.inputs.specs.Readings.{answerOf, Reading}
+use Rattle.inputs.proofs.Inputs.{read-all}
 use Rattle.differences.specs.declared.OverallDifferences.{OverallDifferences}
 use Rattle.differences.specs.Overall.{overallOf}
 use Rattle.differences.specs.Comparisons.{Comparison, comparison, runOf}
@@ -38,15 +39,14 @@ text-list c e = rw (eq-eqb (c .number) 0 e)
 pub printed-whole : (s t : List ℕ) → length s ≤ inputLimit → length t ≤ inputLimit → printed s t ≡ comparisonText (comparison s t)
 printed-whole s t m n = ap₂ (λ (x y : List ℕ). comparisonText (comparison x y)) (take-all inputLimit s m) (take-all inputLimit t n)
 
-module _ {s t : List ℕ} {a b : ReadAnswer} {ts vs us ws : List ℕ} (x : Read s a ts vs) (y : Read t b us ws)
-    (bytes : Bytes s) (others : Bytes t) (short : length s ≤ inputLimit) (brief : length t ≤ inputLimit)
+module _ {s t : List ℕ} {a b : ReadAnswer} {ts vs us ws : List ℕ} (x : Reading s a ts vs) (y : Reading t b us ws)
     (h : OverallDifferences) (is : h ≡ overallOf a b) where
   made : MakeUp (answerOf a ts vs) (answerOf b us ws) h (comparison s t)
   made =
       subst (λ (o : OverallDifferences). MakeUp (answerOf a ts vs) (answerOf b us ws) o (comparison s t)) (sym is)
       (subst (λ (p : Answer). MakeUp p (answerOf b us ws) (overallOf (p .answer) b) (comparison s t)) (sym (read-all x))
       (subst (λ (q : Answer). let p = readStrict 0 s blank blank in MakeUp p q (overallOf (p .answer) (q .answer)) (comparison s t)) (sym (read-all y))
-      (by-calls s t blank blank blank blank bytes others room room room room)))
+      (by-calls s t blank blank blank blank (x .bytes) (y .bytes) room room room room)))
     where
       room : 4096 ≤ length blank
       room = roomy 4096 (omega arith)
@@ -56,7 +56,7 @@ module _ {s t : List ℕ} {a b : ReadAnswer} {ts vs us ws : List ℕ} (x : Read 
   refused-text n =
       ap₂ (λ (p w : ℕ). refusedInLine (h .number) p w) (made .1) (made .2)
       ∙ ap (λ (k : ℕ). refusedInLine k (comparison s t .place) (comparison s t .which)) (made .0)
-      ∙ sym (printed-whole s t short brief ∙ text-refused (comparison s t) (λ e. n (made .0 ∙ e)))
+      ∙ sym (printed-whole s t (x .whole) (y .whole) ∙ text-refused (comparison s t) (λ e. n (made .0 ∙ e)))
 
   -- two runs, and k points that both have
   pub lines-text : h .number ≡ 0 → (k : ℕ) → k ≡ min (a .count) (b .count)
@@ -72,7 +72,7 @@ module _ {s t : List ℕ} {a b : ReadAnswer} {ts vs us ws : List ℕ} (x : Read 
       (append-assoc (lineOf (h .side)) _ points
       ∙ ap (λ (l : List ℕ). lineOf (h .side) ++ l) (append-assoc (lineOf (h .count)) _ points))
       ∙ sym
-      (printed-whole s t short brief
+      (printed-whole s t (x .whole) (y .whole)
       ∙ text-list (comparison s t) (sym (made .0) ∙ ok)
       ∙ ap textOf (subst (λ (n : ℕ). comparison s t .list ≡ listed (h .rate) ++ (listed (h .side) ++ (listed (h .count) ++ (listed (h .form) ++ (pointsTo r q n ++ listed (h .more)))))) (sym few) (made .4 ok))
       ∙ text-then (h .rate) _

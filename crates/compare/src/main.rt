@@ -2,11 +2,11 @@
 // between them, a line for each difference and nothing for equal records; or the refusal, and which record it was.
 ghost use mathlib.Core.Path.{_≡_};
 ghost use Prim.Native.Nat.{_+_, _*_, _≤_, min};
-ghost use lib.ListN.{length};
+ghost use lib.ListN.{length, take};
 ghost use Rattle.limits.specs.Points.{maxPoints};
 ghost use Rattle.text.specs.PlacedAt.{PlacedAt};
 ghost use Rattle.inputs.specs.Inputs.{inputLimit};
-ghost use Rattle.compare.specs.Lines.{kindWord, propertyLine, ratioLine, lineOf, refusedInLine};
+ghost use Rattle.compare.specs.Lines.{propertyWord, kindWord, propertyLine, ratioLine, lineOf, refusedInLine};
 ghost use Rattle.compare.specs.Pieces.{propertiesText, pointText, pointsText};
 ghost use Rattle.compare.specs.Printed.{lineLimit, textLimit, printed};
 use differences::Difference;
@@ -14,6 +14,7 @@ use differences::OverallDifferences;
 use differences::Property;
 use inputs::input_room;
 use inputs::numbers_room;
+use inputs::read_input;
 use kind::Kind;
 use libc::STDOUT_FILENO;
 
@@ -27,31 +28,84 @@ fn output_room() -> [u8; TEXT]
     [0; TEXT]
 }
 
+// A word of up to 10 bytes: the first `length` of these.
+pub struct Word {
+    pub bytes: [u8; 10],
+    pub length: usize,
+}
+
+// The word of a property, and a space.
+fn property_word(property: Property) -> Word
+    ensures { λ r. ⌜ (r .length ≤ 10) × (take (r .length) (r .bytes) ≡ propertyWord property) ⌝ }
+{
+    match property {
+        Property::Rate => Word {
+            bytes: *b"rate      ",
+            length: 5,
+        },
+        Property::Side => Word {
+            bytes: *b"side      ",
+            length: 5,
+        },
+        Property::Count => Word {
+            bytes: *b"count     ",
+            length: 6,
+        },
+        Property::Form => Word {
+            bytes: *b"form      ",
+            length: 5,
+        },
+    }
+}
+
+// The word of a kind, between two spaces.
+fn kind_word(kind: Kind) -> Word
+    ensures { λ r. ⌜ (r .length ≤ 10) × (take (r .length) (r .bytes) ≡ kindWord kind) ⌝ }
+{
+    match kind {
+        Kind::Number(_) => Word {
+            bytes: *b" number   ",
+            length: 8,
+        },
+        Kind::Infinity(_) => Word {
+            bytes: *b" infinity ",
+            length: 10,
+        },
+        Kind::Nan(_) => Word {
+            bytes: *b" nan      ",
+            length: 5,
+        },
+    }
+}
+
+// Puts a word.
+fn put_word(out: &mut [u8], at: usize, word: Word) -> usize
+    requires { ⌜ (at + 10 ≤ length (now out)) × (word .length ≤ 10) ⌝ }
+    ensures { λ r. ⌜ PlacedAt 10 (take (word .length) (word .bytes)) at r (now (out .entry)) (now (out .exit)) ⌝ }
+{
+    let bytes = word.bytes;
+    let length = word.length;
+    text::put_text(out, at, &bytes[..length])
+}
+
 // The line of a property.
 fn put_property(out: &mut [u8], at: usize, property: Property, first: u32, second: u32) -> usize
     requires { ⌜ at + lineLimit ≤ length (now out) ⌝ }
     ensures { λ r. ⌜ PlacedAt lineLimit (propertyLine property first second) at r (now (out .entry)) (now (out .exit)) ⌝ }
 {
-    let a = first as u64;
-    let b = second as u64;
-    match property {
-        Property::Rate => text::put_two(out, at, b"rate ", a, b" ", b),
-        Property::Side => text::put_two(out, at, b"side ", a, b" ", b),
-        Property::Count => text::put_two(out, at, b"count ", a, b" ", b),
-        Property::Form => text::put_two(out, at, b"form ", a, b" ", b),
-    }
+    let word = property_word(property);
+    let number = put_word(out, at, word);
+    let rest = text::put_decimal(out, number, first as u64);
+    text::put_one(out, rest, b" ", second as u64)
 }
 
-// The word of a kind.
+// Puts the word of a kind.
 fn put_kind(out: &mut [u8], at: usize, kind: Kind) -> usize
     requires { ⌜ at + 10 ≤ length (now out) ⌝ }
     ensures { λ r. ⌜ PlacedAt 10 (kindWord kind) at r (now (out .entry)) (now (out .exit)) ⌝ }
 {
-    match kind {
-        Kind::Number(_) => text::put_text(out, at, b" number "),
-        Kind::Infinity(_) => text::put_text(out, at, b" infinity "),
-        Kind::Nan(_) => text::put_text(out, at, b" nan "),
-    }
+    let word = kind_word(kind);
+    put_word(out, at, word)
 }
 
 // The line of a ratio: the bits of the first record's, of kind k, and of the second's, of kind l.
@@ -189,10 +243,10 @@ fn print(first: &[u8], second: &[u8], out: &mut [u8]) -> usize
 {
     let mut first_positions = numbers_room();
     let mut first_ratios = numbers_room();
-    let a = record_codec::read_strict(0, first, &mut first_positions, &mut first_ratios);
+    let a = read_input(first, &mut first_positions, &mut first_ratios);
     let mut second_positions = numbers_room();
     let mut second_ratios = numbers_room();
-    let b = record_codec::read_strict(0, second, &mut second_positions, &mut second_ratios);
+    let b = read_input(second, &mut second_positions, &mut second_ratios);
     let overall = differences::overall_of(a, b);
     let number = overall.number;
     if number != 0 {
@@ -221,5 +275,5 @@ fn main() {
     let m = files::read_argument(2, &mut second);
     let mut out = output_room();
     let end = print(&first[..n], &second[..m], &mut out);
-    io::write_all(STDOUT_FILENO, &out[..end]);
+    files::write_front(STDOUT_FILENO, &out, end);
 }

@@ -7,7 +7,7 @@ use mathlib.Core.Logic.{_⊎_, inl, inr, ⊎-elim, _↔_}
 use mathlib.Core.Path.{_≡_, refl, sym, ap, ap₂, subst, _∙_}
 use Prim.Native.Nat.{ℕ, zero, suc, _+_, _-_, _≤_, _<_, min}
 use native.Mathlib.Omega.{arith}
-use borrow.Author.Tests.{eqb-true, eqb-false, eq-eqb, ltb-true, ltb-false}
+use borrow.Author.Tests.{eqb-true, eqb-false, ltb-true, ltb-false}
 use lib.Dec.{eqb, ltb}
 use lib.ListN.{length, getD}
 use lib.Seq.{ext-getD}
@@ -15,7 +15,7 @@ use Rattle.kind.specs.Kinds.{kindOf}
 use Rattle.position_format.specs.declared.Form.{Form}
 use Rattle.record_format.specs.Claims.{Accepted}
 use Rattle.record_format.specs.Runs.{Run, run, positionsTag, formOf, recordOf}
-use Rattle.record_format.proofs.Claims.{unique}
+use Rattle.record_format.proofs.Claims.{records-unique}
 use Rattle.record_format.proofs.Runs.{form-of}
 use Rattle.record_format.proofs.Writing.{accepted-fits}
 use Rattle.differences.specs.declared.Property.{Property}
@@ -23,12 +23,12 @@ use Rattle.differences.specs.declared.Property.the-variants as property
 use Rattle.differences.specs.declared.Difference.{Difference}
 use Rattle.differences.specs.declared.Difference.the-variants.{Equal, InProperty, Position, Ratio, More}
 use Rattle.differences.specs.declared.Values.{Values}
-use Rattle.differences.specs.declared.Values.the-variants.{Same, Other}
+use Rattle.differences.specs.declared.Values.the-variants.{Nothing, Other}
 use Rattle.differences.specs.Differences.{propertyDifference, moreDifference, valuesAt, positionBy, ratioBy, positionAt, ratioAt, listed, pointsTo, differences}
 use Rattle.lists.specs.Among.{Among}
 use Rattle.lists.proofs.Among.{among-left, among-right, among-either, among-none}
 use Rattle.differences.specs.Claims.{valueOf, Differs, ListsExactly, EmptyWhenSame}
-use Rattle.differences.proofs.Differences.{property-other, more-other, values-beyond, values-same, values-other}
+use Rattle.differences.proofs.Differences.{property-other, more-other, values-beyond, values-other}
 
 -- ---- the values at an index
 
@@ -43,7 +43,7 @@ pub record Unlike (xs ys : List ℕ) (i x y : ℕ) : Type 0 where
 values-unlike : (xs ys : List ℕ) (i x y : ℕ) → valuesAt xs ys i ≡ Other x y → Unlike xs ys i x y
 values-unlike xs ys i x y e = go (ltb i (length xs)) refl (ltb i (length ys)) refl
   where
-    same-or-not : (t : Bool) → eqb (getD xs i 0) (getD ys i 0) ≡ t → cond t Same (Other (getD xs i 0) (getD ys i 0)) ≡ Other x y → i < length xs → i < length ys → Unlike xs ys i x y
+    same-or-not : (t : Bool) → eqb (getD xs i 0) (getD ys i 0) ≡ t → cond t Nothing (Other (getD xs i 0) (getD ys i 0)) ≡ Other x y → i < length xs → i < length ys → Unlike xs ys i x y
     same-or-not true w h a b = absurd (let z : _≡_ {A = ℕ} 0 1 = cc in omega arith)
     same-or-not false w h a b =
         let one : x ≡ getD xs i 0 = cc in
@@ -94,7 +94,7 @@ module _ (r q : Run) (d : Difference) where
     from-position i h k = go (valuesAt (r .positions) (q .positions) i) refl k
       where
         go : (z : Values) → valuesAt (r .positions) (q .positions) i ≡ z → Among d (listed (positionBy i z)) → Differs r q d
-        go Same w k = absurd k
+        go Nothing w k = absurd k
         go (Other x y) w (inl e) =
             let u = values-unlike (r .positions) (q .positions) i x y w in
             subst (Differs r q) (sym e) ((u .first, u .second), u .one, u .other, u .apart)
@@ -105,7 +105,7 @@ module _ (r q : Run) (d : Difference) where
     from-ratio i h k = go (valuesAt (r .ratios) (q .ratios) i) refl k
       where
         go : (z : Values) → valuesAt (r .ratios) (q .ratios) i ≡ z → Among d (listed (ratioBy i z)) → Differs r q d
-        go Same w k = absurd k
+        go Nothing w k = absurd k
         go (Other x y) w (inl e) =
             let u = values-unlike (r .ratios) (q .ratios) i x y w in
             subst (Differs r q) (sym e) ((omega arith, omega arith), u .one, u .other, u .apart, refl, refl)
@@ -284,6 +284,6 @@ pub empty-when-same : EmptyWhenSame
 empty-when-same r q a b = (
   λ e. ap recordOf (same-run r q a b e),
   λ e.
-      let same = unique r q a b [] [] (append-nil (recordOf r) ∙ e ∙ sym (append-nil (recordOf q))) .0 in
+      let same = records-unique r q a b [] [] (append-nil (recordOf r) ∙ e ∙ sym (append-nil (recordOf q))) .0 in
       subst (λ (x : Run). differences r x ≡ []) same (none-own r a),
 )

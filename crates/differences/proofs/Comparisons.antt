@@ -1,5 +1,5 @@
 -- Two strings of bytes compared: by what strict reading answered of each, of two records, and of all else.
-use mathlib.Core.Bool.{Bool, true, false, cond}
+use mathlib.Core.Bool.{Bool, true, false}
 use mathlib.Core.List.{List, [], _∷_, _++_}
 use mathlib.Core.Path.{_≡_, refl, sym, ap, ap₂, subst, _∙_}
 use Prim.Native.Nat.{ℕ, _≤_, min}
@@ -10,34 +10,33 @@ use lib.ListN.{length, take}
 use Rattle.limits.specs.Points.{maxPoints}
 use Rattle.position_format.specs.declared.Form as form
 use Rattle.record_format.specs.Claims.{Accepted, Beginning, Bytes, ownAnswer}
-use Rattle.record_format.specs.Reading.{Answer, readStrict}
+use Rattle.record_format.specs.Reading.{Answer, readStrict, blank}
 use Rattle.record_format.specs.Runs.{Run, run, positionsTag, recordOf}
 use Rattle.record_format.specs.declared.ReadAnswer.{ReadAnswer}
-use Rattle.record_format.proofs.Claims.{reads-only, trailing-bytes}
+use Rattle.record_format.proofs.Claims.{reads-only, trailing-bytes, reads-blank}
 use Rattle.record_format.proofs.Claims.Trailing.{followed}
 use Rattle.record_format.proofs.Runs.{form-of}
 use Rattle.record_format.proofs.Writing.{accepted-fits}
 use Rattle.ratio_format.specs.Bodies.{strictRatios}
-use Rattle.inputs.specs.Inputs.{blank}
-use Rattle.inputs.proofs.Inputs.{over-front, roomy, reads-blank}
+use Rattle.outputs.proofs.Outputs.{take-over}
 use Rattle.differences.specs.declared.Property.the-variants.{Rate, Side, Count, Form}
 use Rattle.differences.specs.declared.OverallDifferences.{OverallDifferences}
 use Rattle.differences.specs.Differences.{propertyDifference, moreDifference, listed, pointsTo, differences}
 use Rattle.differences.specs.Overall.{refusedOverall, overallRead, overallOf}
-use Rattle.differences.specs.Comparisons.{Comparison, runOf, refusedBy, compared, comparison}
+use Rattle.differences.specs.Comparisons.{Comparison, runOf, refusedComparison, compared, comparison}
 use Rattle.differences.specs.Claims.{Compares, ComparesOnly, EmptyExactly, RefusesFirst, RefusesSecond, MakeUp, ByCalls, ComparisonTrailing, ComparisonFollowed}
 use Rattle.differences.proofs.Claims.{same-run, none-own}
-use Rattle.differences.proofs.Overall.{first-clear, overall-first, overall-second, overall-both}
-use Rattle.record_format.proofs.Reading.Rooms.{any-room, not-expected, not-roomless}
+use Rattle.differences.proofs.Overall.{both-zero, overall-first, overall-second, overall-both}
+use Rattle.record_format.proofs.Reading.Rooms.{any-room, never-fourteen, never-sixteen, roomy}
 
 -- ---- by two answers
 
 module _ (a b : Answer) where
-  pub compared-first : (a .answer .number ≡ 0 → ⊥) → compared a b ≡ refusedBy (a .answer) 1
+  pub compared-first : (a .answer .number ≡ 0 → ⊥) → compared a b ≡ refusedComparison (a .answer) 1
   unfolding compared
   compared-first n = rw (ne-eqb (a .answer .number) 0 n)
 
-  pub compared-second : a .answer .number ≡ 0 → (b .answer .number ≡ 0 → ⊥) → compared a b ≡ refusedBy (b .answer) 2
+  pub compared-second : a .answer .number ≡ 0 → (b .answer .number ≡ 0 → ⊥) → compared a b ≡ refusedComparison (b .answer) 2
   unfolding compared
   compared-second ok n = rw (eq-eqb (a .answer .number) 0 ok, ne-eqb (b .answer .number) 0 n)
 
@@ -49,8 +48,8 @@ module _ (a b : Answer) where
   compared-clear : compared a b .number ≡ 0 → (a .answer .number ≡ 0) × (b .answer .number ≡ 0)
   unfolding compared
   compared-clear e =
-      first-clear (λ (c : Comparison). c .number) (a .answer .number) (b .answer .number)
-      (record { number = 0; place = 0; which = 0; list = differences (runOf a) (runOf b) }) (refusedBy (b .answer) 2) (refusedBy (a .answer) 1) refl refl e
+      both-zero (λ (c : Comparison). c .number) (a .answer .number) (b .answer .number)
+      (record { number = 0; place = 0; which = 0; list = differences (runOf a) (runOf b) }) (refusedComparison (b .answer) 2) (refusedComparison (a .answer) 1) refl refl e
 
 -- ---- of two records
 
@@ -62,7 +61,7 @@ own-run r a ts vs =
     let n = length (r .positions) in
     ap (λ (x : form.Form). run (r .rate) (r .side) x (take n (o .positions)) (take n (o .ratios))) (form-of (r .form))
     ∙ ap₂ (λ (x y : List ℕ). run (r .rate) (r .side) (r .form) x y)
-    (over-front (r .positions) ts (length (r .positions)) refl) (over-front (r .ratios) vs (length (r .positions)) (f .paired))
+    (take-over (r .positions) ts (length (r .positions)) refl) (take-over (r .ratios) vs (length (r .positions)) (f .paired))
 
 compared-own : (r q : Run) → Accepted r → Accepted q
     → compared (ownAnswer r blank blank) (ownAnswer q blank blank) ≡ record { number = 0; place = 0; which = 0; list = differences r q }
@@ -103,34 +102,34 @@ module _ (s ts vs : List ℕ) (bytes : Bytes s) (m : maxPoints ≤ length ts) (n
 
   -- as with the room that a comparison has
   refused-alike : readStrict 0 s blank blank .answer ≡ readStrict 0 s ts vs .answer
-  refused-alike = any-room s blank blank (roomy maxPoints (omega arith)) (roomy maxPoints (omega arith)) ts vs m n
+  refused-alike = any-room strictRatios 0 s blank blank (roomy maxPoints (omega arith)) (roomy maxPoints (omega arith)) ts vs m n
 
 pub refuses-first : RefusesFirst
 refuses-first s t ts vs u m n never = (
   refused-some s ts vs u m n never,
-  not-expected s ts vs m n,
-  not-roomless s ts vs m n,
+  never-fourteen strictRatios s ts vs m n,
+  never-sixteen strictRatios 0 s ts vs m n,
   compared-first (readStrict 0 s blank blank) (readStrict 0 t blank blank)
       (refused-some s blank blank u (roomy maxPoints (omega arith)) (roomy maxPoints (omega arith)) never)
-      ∙ ap (λ (a : ReadAnswer). refusedBy a 1) (refused-alike s ts vs u m n never),
+      ∙ ap (λ (a : ReadAnswer). refusedComparison a 1) (refused-alike s ts vs u m n never),
 )
 
 pub refuses-second : RefusesSecond
 refuses-second r a x t ts vs u m n never = (
   refused-some t ts vs u m n never,
-  not-expected t ts vs m n,
-  not-roomless t ts vs m n,
+  never-fourteen strictRatios t ts vs m n,
+  never-sixteen strictRatios 0 t ts vs m n,
   compared-second (readStrict 0 (recordOf r ++ x) blank blank) (readStrict 0 t blank blank)
       (ap (λ (b : Answer). b .answer .number) (reads-blank r a x))
       (refused-some t blank blank u (roomy maxPoints (omega arith)) (roomy maxPoints (omega arith)) never)
-      ∙ ap (λ (b : ReadAnswer). refusedBy b 2) (refused-alike t ts vs u m n never),
+      ∙ ap (λ (b : ReadAnswer). refusedComparison b 2) (refused-alike t ts vs u m n never),
 )
 
 -- ---- by what the calls answer
 
 -- a refusal
 made-refused : (a b : Answer) {h : OverallDifferences} {c : Comparison} (x : ReadAnswer) (w : ℕ) → (x .number ≡ 0 → ⊥)
-    → h ≡ refusedOverall (x .number) (x .place) w → c ≡ refusedBy x w → MakeUp a b h c
+    → h ≡ refusedOverall (x .number) (x .place) w → c ≡ refusedComparison x w → MakeUp a b h c
 made-refused a b x w d e k = rw (e, k) (refl, refl, refl, λ _. refl, λ z. absurd (d z))
 
 -- two records
@@ -171,22 +170,22 @@ by-calls s t ts vs us ws u v m n k l = go (eqb (a .answer .number) 0) refl (eqb 
     d = readStrict 0 t blank blank
 
     first-alike : c .answer ≡ a .answer
-    first-alike = any-room s blank blank (roomy maxPoints (omega arith)) (roomy maxPoints (omega arith)) ts vs m n
+    first-alike = any-room strictRatios 0 s blank blank (roomy maxPoints (omega arith)) (roomy maxPoints (omega arith)) ts vs m n
 
     second-alike : d .answer ≡ b .answer
-    second-alike = any-room t blank blank (roomy maxPoints (omega arith)) (roomy maxPoints (omega arith)) us ws k l
+    second-alike = any-room strictRatios 0 t blank blank (roomy maxPoints (omega arith)) (roomy maxPoints (omega arith)) us ws k l
 
     go : (x : Bool) → eqb (a .answer .number) 0 ≡ x → (y : Bool) → eqb (b .answer .number) 0 ≡ y → MakeUp a b (overallOf (a .answer) (b .answer)) (compared c d)
     go false w y z =
         let no = eqb-false _ _ w in
         made-refused a b (a .answer) 1 no (sym (overall-first (a .answer) (b .answer) no))
-        (compared-first c d (λ e. no (sym (ap (λ (r : ReadAnswer). r .number) first-alike) ∙ e)) ∙ ap (λ (r : ReadAnswer). refusedBy r 1) first-alike)
+        (compared-first c d (λ e. no (sym (ap (λ (r : ReadAnswer). r .number) first-alike) ∙ e)) ∙ ap (λ (r : ReadAnswer). refusedComparison r 1) first-alike)
     go true w false z =
         let ok = eqb-true _ _ w in
         let no = eqb-false _ _ z in
         made-refused a b (b .answer) 2 no (sym (overall-second (a .answer) (b .answer) ok no))
         (compared-second c d (ap (λ (r : ReadAnswer). r .number) first-alike ∙ ok) (λ e. no (sym (ap (λ (r : ReadAnswer). r .number) second-alike) ∙ e))
-        ∙ ap (λ (r : ReadAnswer). refusedBy r 2) second-alike)
+        ∙ ap (λ (r : ReadAnswer). refusedComparison r 2) second-alike)
     go true w true z =
         let ok = eqb-true _ _ w in
         let fine = eqb-true _ _ z in

@@ -10,7 +10,7 @@ use lib.ListN.{length, getD}
 use Rattle.lists.specs.Compare.{both}
 use Rattle.differences.specs.declared.Property.{Property}
 use Rattle.differences.specs.declared.Difference.the-variants.{Equal, InProperty, More}
-use Rattle.differences.specs.declared.Values.the-variants.{Same, Other}
+use Rattle.differences.specs.declared.Values.the-variants.{Nothing, Other}
 use Rattle.differences.specs.Differences.{propertyDifference, moreDifference, valuesAt}
 
 -- ---- of no index
@@ -44,20 +44,20 @@ module _ (xs ys : List ℕ) (i : ℕ) where
   y = getD ys i 0
 
   -- an index that not both have
-  pub values-beyond : (length xs ≤ i) ⊎ (length ys ≤ i) → Same ≡ valuesAt xs ys i
-  values-beyond (inl h) = sym (ap (λ (t : Bool). cond (both t (ltb i (length ys))) (cond (eqb x y) Same (Other x y)) Same) (le-ltb i (length xs) h))
+  pub values-beyond : (length xs ≤ i) ⊎ (length ys ≤ i) → Nothing ≡ valuesAt xs ys i
+  values-beyond (inl h) = sym (ap (λ (t : Bool). cond (both t (ltb i (length ys))) (cond (eqb x y) Nothing (Other x y)) Nothing) (le-ltb i (length xs) h))
   values-beyond (inr h) =
       sym
-      (ap (λ (t : Bool). cond (both (ltb i (length xs)) t) (cond (eqb x y) Same (Other x y)) Same) (le-ltb i (length ys) h)
-      ∙ ap (λ (t : Bool). cond t (cond (eqb x y) Same (Other x y)) Same) (none-second (ltb i (length xs))))
+      (ap (λ (t : Bool). cond (both (ltb i (length xs)) t) (cond (eqb x y) Nothing (Other x y)) Nothing) (le-ltb i (length ys) h)
+      ∙ ap (λ (t : Bool). cond t (cond (eqb x y) Nothing (Other x y)) Nothing) (none-second (ltb i (length xs))))
 
   module _ (first : i < length xs) (second : i < length ys) where
-    values-within : cond (eqb x y) Same (Other x y) ≡ valuesAt xs ys i
+    values-within : cond (eqb x y) Nothing (Other x y) ≡ valuesAt xs ys i
     values-within =
-        sym (ap₂ (λ (t u : Bool). cond (both t u) (cond (eqb x y) Same (Other x y)) Same) (lt-ltb i (length xs) first) (lt-ltb i (length ys) second))
+        sym (ap₂ (λ (t u : Bool). cond (both t u) (cond (eqb x y) Nothing (Other x y)) Nothing) (lt-ltb i (length xs) first) (lt-ltb i (length ys) second))
 
-    pub values-same : x ≡ y → Same ≡ valuesAt xs ys i
-    values-same e = sym (ap (λ (t : Bool). cond t Same (Other x y)) (eq-eqb x y e)) ∙ values-within
+    pub values-same : x ≡ y → Nothing ≡ valuesAt xs ys i
+    values-same e = sym (ap (λ (t : Bool). cond t Nothing (Other x y)) (eq-eqb x y e)) ∙ values-within
 
     pub values-other : (x ≡ y → ⊥) → Other x y ≡ valuesAt xs ys i
-    values-other d = sym (ap (λ (t : Bool). cond t Same (Other x y)) (ne-eqb x y d)) ∙ values-within
+    values-other d = sym (ap (λ (t : Bool). cond t Nothing (Other x y)) (ne-eqb x y d)) ∙ values-within

@@ -12,9 +12,9 @@ use Rattle.differences.specs.Differences.{propertyDifference, moreDiffer
 use Rattle.differences.specs.Overall.{refusedOverall, overallRead, overallOf}
 
 -- an answer by two numbers, which has the first of them that is not 0: where it has 0, both are
-pub first-clear : {A : Type 0} (f : A → ℕ) (m n : ℕ) (x y z : A) → f y ≡ n → f z ≡ m
+pub both-zero : {A : Type 0} (f : A → ℕ) (m n : ℕ) (x y z : A) → f y ≡ n → f z ≡ m
     → f (cond (eqb m 0) (cond (eqb n 0) x y) z) ≡ 0 → (m ≡ 0) × (n ≡ 0)
-first-clear f m n x y z p q e = go (eqb m 0) refl (eqb n 0) refl
+both-zero f m n x y z p q e = go (eqb m 0) refl (eqb n 0) refl
   where
     go : (t : Bool) → eqb m 0 ≡ t → (u : Bool) → eqb n 0 ≡ u → (m ≡ 0) × (n ≡ 0)
     go true w true v = (eqb-true _ _ w, eqb-true _ _ v)
@@ -25,7 +25,7 @@ module _ (a b : ReadAnswer) where
   pub overall-clear : overallOf a b .number ≡ 0 → (a .number ≡ 0) × (b .number ≡ 0)
   unfolding overallOf
   overall-clear e =
-      first-clear (λ (h : OverallDifferences). h .number) (a .number) (b .number) (overallRead a b) (refusedOverall (b .number) (b .place) 2)
+      both-zero (λ (h : OverallDifferences). h .number) (a .number) (b .number) (overallRead a b) (refusedOverall (b .number) (b .place) 2)
       (refusedOverall (a .number) (a .place) 1) refl refl e
 
   pub overall-first : (a .number ≡ 0 → ⊥) → refusedOverall (a .number) (a .place) 1 ≡ overallOf a b

@@ -23,7 +23,7 @@ use Rattle.differences.specs.declared.Property.the-variants.{Rate, Side,
 use Rattle.differences.specs.declared.Difference.{Difference}
 use Rattle.differences.specs.declared.Difference.the-variants.{Equal, InProperty, Position, Ratio, More}
 use Rattle.differences.specs.declared.Values.{Values}
-use Rattle.differences.specs.declared.Values.the-variants.{Same, Other}
+use Rattle.differences.specs.declared.Values.the-variants.{Nothing, Other}
 
 -- ---- of no index
 
@@ -42,16 +42,16 @@ abbrev pub valuesAt : List ℕ → List ℕ → ℕ → Values
 valuesAt xs ys i =
     let x = getD xs i 0 in
     let y = getD ys i 0 in
-    cond (both (ltb i (length xs)) (ltb i (length ys))) (cond (eqb x y) Same (Other x y)) Same
+    cond (both (ltb i (length xs)) (ltb i (length ys))) (cond (eqb x y) Nothing (Other x y)) Nothing
 
 -- of a position: both values
 abbrev pub positionBy : ℕ → Values → Difference
-positionBy i Same = Equal
+positionBy i Nothing = Equal
 positionBy i (Other t u) = Position i t u
 
 -- of a ratio: the bits of each, and its kind
 abbrev pub ratioBy : ℕ → Values → Difference
-ratioBy i Same = Equal
+ratioBy i Nothing = Equal
 ratioBy i (Other v w) = Ratio i v (kindOf v) w (kindOf w)
 
 -- the position at the index i

@@ -33,7 +33,7 @@ pub enum Difference {
 
 // Two values that are not the same, or else nothing.
 pub enum Values {
-    Same,
+    Nothing,
     Other(u64, u64),
 }
 
@@ -118,16 +118,16 @@ fn values_at(first: &[u64], second: &[u64], index: u64) -> Values
     ensures { λ r. ⌜ r ≡ valuesAt (now (first .entry)) (now (second .entry)) index ⌝ }
 {
     if first.len() as u64 <= index {
-        return Values::Same;
+        return Values::Nothing;
     }
     if second.len() as u64 <= index {
-        return Values::Same;
+        return Values::Nothing;
     }
     let i = index as usize;
     let a = first[i];
     let b = second[i];
     if a == b {
-        return Values::Same;
+        return Values::Nothing;
     }
     Values::Other(a, b)
 }
@@ -139,7 +139,7 @@ pub fn position_at(first: &[u64], second: &[u64], index: u64) -> Difference
 {
     let values = values_at(first, second, index);
     match values {
-        Values::Same => Difference::Equal,
+        Values::Nothing => Difference::Equal,
         Values::Other(a, b) => Difference::Position(index, a, b),
     }
 }
@@ -150,7 +150,7 @@ pub fn ratio_at(first: &[u64], second: &[u64], index: u64) -> Difference
 {
     let values = values_at(first, second, index);
     match values {
-        Values::Same => Difference::Equal,
+        Values::Nothing => Difference::Equal,
         Values::Other(a, b) => Difference::Ratio {
             index,
             first: a,

@@ -9,12 +9,13 @@ use lib.ListN.{length, take}
 use Rattle.limits.specs.Points.{maxPoints}
 use Rattle.ratio_format.specs.RatioForms.{coded}
 use Rattle.record_format.specs.Claims.{Accepted}
-use Rattle.record_format.specs.Reading.{Answer}
+use Rattle.record_format.specs.Reading.{Answer, blank}
 use Rattle.record_format.specs.Runs.{Run, recordOf}
 use Rattle.record_format.proofs.Writing.{accepted-fits, fitting-few}
-use Rattle.inputs.specs.Inputs.{inputLimit, blank, readInput}
-use Rattle.inputs.proofs.Inputs.{over-front, record-uncut, reads-record, reads-no-other}
-use Rattle.explain.specs.Indexes.{indexOf}
+use Rattle.outputs.proofs.Outputs.{take-over}
+use Rattle.inputs.specs.Inputs.{inputLimit, readInput}
+use Rattle.inputs.proofs.Inputs.{record-uncut, reads-record, reads-no-other}
+use Rattle.explain.specs.Indexes.{givenIndex}
 use Rattle.explain.specs.Printed.{bodyIn, indexText, answerText, printed}
 use Rattle.explain.specs.Claims.{BytesThere, PrintsReason, PrintsPast, PrintsOnly}
 use Rattle.explain.proofs.Printed.Offsets.{body-same, ratio-bytes}
@@ -25,14 +26,14 @@ unfolding coded
 bytes-there r a i h = (ratio-bytes r (accepted-fits r (a .passes)) i h, refl)
 
 -- of a record, whatever follows, the text for the index
-record-text : (r : Run) → Accepted r → (rest t : List ℕ) → printed (recordOf r ++ rest) t ≡ indexText (bodyIn (recordOf r)) (r .ratios) (indexOf t)
+record-text : (r : Run) → Accepted r → (rest t : List ℕ) → printed (recordOf r ++ rest) t ≡ indexText (bodyIn (recordOf r)) (r .ratios) (givenIndex t)
 unfolding answerText
 record-text r a rest t =
     let f = accepted-fits r (a .passes) in
     let s = take inputLimit (recordOf r ++ rest) in
     ap (λ (x : Answer). answerText s x t) (reads-record r a rest)
-    ∙ ap (λ (l : List ℕ). indexText (bodyIn s) l (indexOf t)) (over-front (r .ratios) blank (length (r .positions)) (f .paired))
-    ∙ ap (λ (n : ℕ). indexText n (r .ratios) (indexOf t)) (ap bodyIn (record-uncut r a rest) ∙ body-same r f (take (inputLimit - length (recordOf r)) rest))
+    ∙ ap (λ (l : List ℕ). indexText (bodyIn s) l (givenIndex t)) (take-over (r .ratios) blank (length (r .positions)) (f .paired))
+    ∙ ap (λ (n : ℕ). indexText n (r .ratios) (givenIndex t)) (ap bodyIn (record-uncut r a rest) ∙ body-same r f (take (inputLimit - length (recordOf r)) rest))
 
 few : (r : Run) → Accepted r → length (r .ratios) ≤ maxPoints
 few r a = let f = accepted-fits r (a .passes) in omega (arith, f .paired, fitting-few r f)

@@ -12,7 +12,7 @@ use Rattle.lists.specs.Lists.{firstIndex}
 use Rattle.bits.specs.Digits.{numberOf}
 use Rattle.bits.proofs.Digits.{number-snoc}
 use Rattle.limits.specs.Points.{maxPoints}
-use Rattle.explain.specs.Indexes.{notDigit, digitOf, indexOf, capped}
+use Rattle.explain.specs.Indexes.{notDigit, digitOf, givenIndex, capped}
 
 -- ---- the number of the first digits
 
@@ -48,18 +48,18 @@ capped-more t i h n e =
 -- ---- the whole text
 
 -- no text
-pub index-none : (t : List ℕ) → length t ≡ 0 → maxPoints ≡ capped (indexOf t)
+pub index-none : (t : List ℕ) → length t ≡ 0 → maxPoints ≡ capped (givenIndex t)
 index-none t e = rw (eq-eqb (length t) 0 e)
 
 -- a text with another byte than a digit
-pub index-other : (t : List ℕ) → firstIndex notDigit t < length t → maxPoints ≡ capped (indexOf t)
+pub index-other : (t : List ℕ) → firstIndex notDigit t < length t → maxPoints ≡ capped (givenIndex t)
 index-other t h =
     let some-text : length t ≡ 0 → ⊥ = λ e. omega arith in
     let other : firstIndex notDigit t ≡ length t → ⊥ = λ e. omega arith in
     rw (ne-eqb (length t) 0 some-text, ne-eqb (firstIndex notDigit t) (length t) other)
 
 -- digits alone
-pub index-digits : (t : List ℕ) → (length t ≡ 0 → ⊥) → firstIndex notDigit t ≡ length t → (i : ℕ) → length t ≤ i → min maxPoints (valueOf t i) ≡ capped (indexOf t)
+pub index-digits : (t : List ℕ) → (length t ≡ 0 → ⊥) → firstIndex notDigit t ≡ length t → (i : ℕ) → length t ≤ i → min maxPoints (valueOf t i) ≡ capped (givenIndex t)
 index-digits t n e i h =
     ap (λ (l : List ℕ). min maxPoints (numberOf 10 (map digitOf l))) (take-all i t h)
     ∙ rw (ne-eqb (length t) 0 n, eq-eqb (firstIndex notDigit t) (length t) e)

@@ -1,4 +1,4 @@
--- Laws of what the program prints: of an index, of an index that is cut, and by what strict reading left in its outputs.
+-- Laws of what the program prints: of an index, of an index that is cut, and by what reading its input left.
 pub mod Offsets
 use mathlib.Core.Bool.{Bool, true, false, cond}
 use mathlib.Core.List.{List, [], _++_}
@@ -10,11 +10,10 @@ use borrow.Author.Tests.{lt-ltb, le-ltb, leb-true, leb-false, eq-eqb, ne-eqb}
 use lib.Dec.{leb}
 use lib.ListN.{length, getD, take}
 use lib.Seq.{take-all}
-use Rattle.lists.specs.Below.{Below}
 use Rattle.limits.specs.Points.{maxPoints}
 use Rattle.ratio_format.specs.Bodies.{codedRatios}
 use Rattle.record_format.specs.Claims.{ownAnswer}
-use Rattle.record_format.specs.Reading.{Answer}
+use Rattle.record_format.specs.Reading.{Answer, blank}
 use Rattle.record_format.specs.Runs.{Run, recordOf}
 use Rattle.record_format.specs.declared.ReadAnswer.{ReadAnswer}
 use Rattle.record_format.proofs.Sizes.{within}
@@ -23,9 +22,11 @@ use Rattle.text.specs.Lines.{refusedLine}
 use Rattle.reasons.specs.declared.Reason.{Reason}
 use Rattle.reasons.specs.Reasons.{explained}
 use Rattle.reasons.proofs.Reasons.{explained-past}
-use Rattle.inputs.specs.Inputs.{inputLimit, blank}
-use Rattle.inputs.proofs.Inputs.{Read, answerOf, over-front, read-input, read-own}
-use Rattle.explain.specs.Indexes.{indexOf, capped}
+use Rattle.outputs.proofs.Outputs.{take-over}
+use Rattle.inputs.specs.Inputs.{inputLimit}
+use Rattle.inputs.specs.Readings.{answerOf, Reading}
+use Rattle.inputs.proofs.Inputs.{read-own}
+use Rattle.explain.specs.Indexes.{givenIndex, capped}
 use Rattle.explain.specs.Lines.{costLine, reasonLine}
 use Rattle.explain.specs.Printed.{bodyIn, costOf, offsetOf, pointText, indexText, answerText, printed}
 use Rattle.explain.proofs.Printed.Offsets.{body-end}
@@ -56,15 +57,15 @@ module _ (b : ℕ) (vs : List ℕ) where
           let h = leb-false n maxPoints e in
           sym (point-past few (min maxPoints n) (omega arith)) ∙ point-past few n (omega arith)
 
--- ---- by what strict reading of the bytes s left
+-- ---- by what reading the input s left
 
-module _ {s : List ℕ} {r : ReadAnswer} {ts vs : List ℕ} (h : Read s r ts vs) (short : length s ≤ inputLimit) (t : List ℕ) where
+module _ {s : List ℕ} {r : ReadAnswer} {ts vs : List ℕ} (h : Reading s r ts vs) (t : List ℕ) where
   -- a refusal
   pub refused-text : (r .number ≡ 0 → ⊥) → refusedLine (r .number) (r .place) ≡ printed s t
   unfolding answerText
-  refused-text n = sym (ap (λ (a : Answer). answerText (take inputLimit s) a t) (sym (read-input h short)) ∙ rw (ne-eqb (r .number) 0 n))
+  refused-text n = sym (ap (λ (a : Answer). answerText (take inputLimit s) a t) (sym (h .answered)) ∙ rw (ne-eqb (r .number) 0 n))
 
-  module _ (bytes : Below 256 s) (ok : r .number ≡ 0) where
+  module _ (ok : r .number ≡ 0) where
     -- the ratios of the run
     abbrev own : List ℕ
     own = take (r .count) vs
@@ -72,22 +73,22 @@ module _ {s : List ℕ} {r : ReadAnswer} {ts vs : List ℕ} (h : Read s r ts vs)
     -- the offset of their body, by the end of the record
     pub body-start : (length (codedRatios own) ≤ r .used) × (r .used - length (codedRatios own) ≡ bodyIn s) × (r .used ≤ inputLimit)
     body-start =
-        let o = read-own h bytes ok in
+        let o = read-own h ok in
         let run : Run = o .0 in
         let f = accepted-fits run (o .1 .passes) in
         let e : answerOf r ts vs ≡ ownAnswer run blank blank = o .3 in
         let used : r .used ≡ length (recordOf run) = ap (λ (a : Answer). a .answer .used) e in
         let ratios : own ≡ run .ratios =
         ap₂ (λ (n : ℕ) (l : List ℕ). take n l) (ap (λ (a : Answer). a .answer .count) e) (ap (λ (a : Answer). a .ratios) e)
-        ∙ over-front (run .ratios) blank (length (run .positions)) (f .paired) in
+        ∙ take-over (run .ratios) blank (length (run .positions)) (f .paired) in
         let size : length (codedRatios own) ≡ length (codedRatios (run .ratios)) = ap (λ (l : List ℕ). length (codedRatios l)) ratios in
         let end : bodyIn s + length (codedRatios (run .ratios)) ≡ length (recordOf run) =
         subst (λ (l : List ℕ). bodyIn l + length (codedRatios (run .ratios)) ≡ length (recordOf run)) (sym (o .2 .1)) (body-end run f (o .2 .0)) in
         (omega arith, omega arith, omega (arith, within run (o .1) .1))
 
     -- the text for the index
-    pub run-text : (b : ℕ) → b ≡ r .used - length (codedRatios own) → indexText b own (indexOf t) ≡ printed s t
+    pub run-text : (b : ℕ) → b ≡ r .used - length (codedRatios own) → indexText b own (givenIndex t) ≡ printed s t
     unfolding answerText
     run-text b e =
-        ap (λ (n : ℕ). indexText n own (indexOf t)) (e ∙ body-start .1 ∙ ap bodyIn (sym (take-all inputLimit s short)))
-        ∙ sym (ap (λ (a : Answer). answerText (take inputLimit s) a t) (sym (read-input h short)) ∙ rw (eq-eqb (r .number) 0 ok))
+        ap (λ (n : ℕ). indexText n own (givenIndex t)) (e ∙ body-start .1 ∙ ap bodyIn (sym (take-all inputLimit s (h .whole))))
+        ∙ sym (ap (λ (a : Answer). answerText (take inputLimit s) a t) (sym (h .answered)) ∙ rw (eq-eqb (r .number) 0 ok))

@@ -20,7 +20,7 @@ use Rattle.record_format.specs.Runs.{Run, recordOf}
 use Rattle.text.specs.Lines.{refusedLine}
 use Rattle.reasons.specs.Reasons.{windowAt, explained}
 use Rattle.inputs.specs.Inputs.{readInput}
-use Rattle.explain.specs.Indexes.{indexOf}
+use Rattle.explain.specs.Indexes.{givenIndex}
 use Rattle.explain.specs.Lines.{costLine, reasonLine}
 use Rattle.explain.specs.Printed.{bodyIn, costOf, offsetOf, printed}
 
@@ -34,14 +34,14 @@ BytesThere = (r : Run) → Accepted r → (i : ℕ) → i < length (r .ratios)
 
 -- both lines
 abbrev pub PrintsReason : Type 0
-PrintsReason = (r : Run) → Accepted r → (rest t : List ℕ) (i : ℕ) → indexOf t ≡ some i → i < length (r .ratios)
+PrintsReason = (r : Run) → Accepted r → (rest t : List ℕ) (i : ℕ) → givenIndex t ≡ some i → i < length (r .ratios)
     → printed (recordOf r ++ rest) t
     ≡ costLine i (getD (r .ratios) i 0) (costOf (r .ratios) i) (offsetOf (bodyIn (recordOf r)) (r .ratios) i) ++ reasonLine (explained (r .ratios) i)
 
 -- an index that is not below the count, or a text that is no number
 abbrev pub PrintsPast : Type 0
 PrintsPast = (r : Run) → Accepted r → (rest t : List ℕ)
-    → (indexOf t ≡ none) ⊎ ((i : ℕ) × (indexOf t ≡ some i) × (length (r .ratios) ≤ i)) → printed (recordOf r ++ rest) t ≡ refusedLine 22 0
+    → (givenIndex t ≡ none) ⊎ ((i : ℕ) × (givenIndex t ≡ some i) × (length (r .ratios) ≤ i)) → printed (recordOf r ++ rest) t ≡ refusedLine 22 0
 
 -- of all else: the refusal of the bytes that the program reads
 abbrev pub PrintsOnly : Type 0

@@ -15,7 +15,7 @@ use Rattle.record_format.specs.Runs.{Run, run, recordOf}
 use Rattle.text.specs.Lines.{refusedLine}
 use Rattle.text.specs.Numbers.{trimmed, decimal, hex16}
 use Rattle.reasons.specs.declared.Reason.the-variants.{Reference, Exception, Empty, Refused}
-use Rattle.explain.specs.Indexes.{indexOf}
+use Rattle.explain.specs.Indexes.{givenIndex}
 use Rattle.explain.specs.Lines.{costLine, reasonLine}
 use Rattle.explain.specs.Printed.{printed}
 
@@ -73,7 +73,7 @@ examples-hold = refl
 
 -- texts of an index: no text, `0`, `007`, `1x`, ` 1`, and 2 ^ 64 + 1
 pub index-examples :
-    map indexOf ([] ∷ (48 ∷ []) ∷ (48 ∷ 48 ∷ 55 ∷ []) ∷ (49 ∷ 120 ∷ []) ∷ (32 ∷ 49 ∷ [])
+    map givenIndex ([] ∷ (48 ∷ []) ∷ (48 ∷ 48 ∷ 55 ∷ []) ∷ (49 ∷ 120 ∷ []) ∷ (32 ∷ 49 ∷ [])
     ∷ (49 ∷ 56 ∷ 52 ∷ 52 ∷ 54 ∷ 55 ∷ 52 ∷ 52 ∷ 48 ∷ 55 ∷ 51 ∷ 55 ∷ 48 ∷ 57 ∷ 53 ∷ 53 ∷ 49 ∷ 54 ∷ 49 ∷ 55 ∷ []) ∷ [])
     ≡ none ∷ some 0 ∷ some 7 ∷ none ∷ none ∷ some (2 ^ 64 + 1) ∷ []
 unfolding numberOf firstIndex

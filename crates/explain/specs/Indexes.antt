@@ -2,7 +2,7 @@
 --   isDigit c      c is one of 0 to 9
 --   digitOf c      the digit of that code
 --   notDigit c     it is not
---   indexOf t      the number that the text t is, in base 10: digits alone, at least one, leading zeros allowed; or nothing
+--   givenIndex t   the number that the text t is, in base 10: digits alone, at least one, leading zeros allowed; or nothing
 --   capped o       the number as far as it can be an index: 4,096 stands for all from there on, and for none
 use mathlib.Core.Bool.{Bool, not, cond}
 use mathlib.Core.List.{List, map}
@@ -28,8 +28,8 @@ abbrev pub digitOf : ℕ → ℕ
 digitOf c = c - 48
 
 -- no text is no number, and a number however long is that number
-abbrev pub indexOf : List ℕ → Option ℕ
-indexOf t =
+abbrev pub givenIndex : List ℕ → Option ℕ
+givenIndex t =
     cond (both (not (eqb (length t) 0)) (eqb (firstIndex notDigit t) (length t)))
     (some (numberOf 10 (map digitOf t)))
     none

@@ -24,7 +24,7 @@ use Rattle.record_format.specs.Reading.{Answer, ratiosAt}
 use Rattle.text.specs.Lines.{refusedLine}
 use Rattle.reasons.specs.Reasons.{windowAt, explained}
 use Rattle.inputs.specs.Inputs.{inputLimit, readInput}
-use Rattle.explain.specs.Indexes.{indexOf}
+use Rattle.explain.specs.Indexes.{givenIndex}
 use Rattle.explain.specs.Lines.{costLine, reasonLine}
 
 -- nine bytes for each ratio
@@ -68,7 +68,7 @@ indexText b vs (some i) = pointText b vs i
 unfoldable pub answerText : List ℕ → Answer → List ℕ → List ℕ
 answerText s a t =
     cond (eqb (a .answer .number) 0)
-    (indexText (bodyIn s) (take (a .answer .count) (a .ratios)) (indexOf t))
+    (indexText (bodyIn s) (take (a .answer .count) (a .ratios)) (givenIndex t))
     (refusedLine (a .answer .number) (a .answer .place))
 
 -- the program's whole output

@@ -8,11 +8,12 @@ ghost use Rattle.limits.specs.Points.{maxPoints};
 ghost use Rattle.ratio_format.specs.Bodies.{codedRatios};
 ghost use Rattle.text.specs.PlacedAt.{PlacedAt};
 ghost use Rattle.inputs.specs.Inputs.{inputLimit};
-ghost use Rattle.explain.specs.Indexes.{isDigit, digitOf, indexOf, capped};
+ghost use Rattle.explain.specs.Indexes.{isDigit, digitOf, givenIndex, capped};
 ghost use Rattle.explain.specs.Lines.{costLine, xorLine, reasonLine};
 ghost use Rattle.explain.specs.Printed.{bodyLimit, argumentLimit, textLimit, costOf, pointText, printed};
 use inputs::input_room;
 use inputs::numbers_room;
+use inputs::read_input;
 use libc::STDOUT_FILENO;
 use limits::MAX_POINTS;
 use outputs::Wrote;
@@ -54,7 +55,7 @@ fn append_digit(n: usize, c: u8) -> usize
 
 // The index that a text is, up to 4,096, which stands for a text that is none, too: no run has that index.
 fn index_in(text: &[u8]) -> usize
-    ensures { λ r. ⌜ r ≡ capped (indexOf (now (text .entry))) ⌝ }
+    ensures { λ r. ⌜ r ≡ capped (givenIndex (now (text .entry))) ⌝ }
 {
     if text.len() == 0 {
         return MAX_POINTS;
@@ -191,7 +192,7 @@ fn print(input: &[u8], index: &[u8], out: &mut [u8]) -> usize
 {
     let mut positions = numbers_room();
     let mut ratios = numbers_room();
-    let answer = record_codec::read_strict(0, input, &mut positions, &mut ratios);
+    let answer = read_input(input, &mut positions, &mut ratios);
     let number = answer.number;
     if number != 0 {
         return text::put_refused(out, 0, number, answer.place);
@@ -210,5 +211,5 @@ fn main() {
     let m = os::arg(2, &mut index);
     let mut out = output_room();
     let end = print(&input[..n], &index[..m], &mut out);
-    io::write_all(STDOUT_FILENO, &out[..end]);
+    files::write_front(STDOUT_FILENO, &out, end);
 }

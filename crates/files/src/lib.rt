@@ -1,5 +1,7 @@
-// A named file read into lent bytes, and a new one made of lent bytes, for programs that are given file names. Internal.
+// A named file read into lent bytes, and the front of lent bytes written to an open file or to a new one, for programs. Internal.
 // No contract can say which bytes a file holds: what is proved of a reading is that the number that it returns lies within the buffer.
+ghost use Prim.Native.Nat.{_≤_};
+ghost use lib.ListN.{length};
 ghost use Rattle.io.specs.Counts.{Counts};
 
 // Reads the file from its start until the buffer is full, the file ends or a read fails, and returns how many bytes it put at the front of
@@ -26,9 +28,18 @@ pub fn read_argument(i: usize, buf: &mut [u8]) -> usize
     read_file(&path[..n], buf)
 }
 
-// Writes all bytes to an open file and closes it, and returns whether both succeeded; if not, a line on standard error says why.
-fn fill(fd: i32, path: &[u8], bytes: &[u8]) -> bool {
-    if !io::write_all(fd, bytes) {
+// Writes the first n bytes to an open file, and returns whether that succeeded.
+pub fn write_front(fd: i32, bytes: &[u8], n: usize) -> bool
+    requires { ⌜ n ≤ length (now bytes) ⌝ }
+{
+    io::write_all(fd, &bytes[..n])
+}
+
+// The same, and closes the file; if either fails, a line on standard error says why.
+fn fill(fd: i32, path: &[u8], bytes: &[u8], n: usize) -> bool
+    requires { ⌜ n ≤ length (now bytes) ⌝ }
+{
+    if !write_front(fd, bytes, n) {
         os::fail(path);
         libc::close(fd);
         return false;
@@ -40,15 +51,17 @@ fn fill(fd: i32, path: &[u8], bytes: &[u8]) -> bool {
     true
 }
 
-// Makes a new file of all these bytes, and returns whether it stands. A file that stands already is never replaced, and only one that was made
+// Makes a new file of the first n bytes, and returns whether it stands. A file that stands already is never replaced, and only one that was made
 // here and could not be filled is removed. Where the answer is no, a line on standard error says why.
-pub fn save_new(path: &[u8], bytes: &[u8]) -> bool {
+pub fn save_new(path: &[u8], bytes: &[u8], n: usize) -> bool
+    requires { ⌜ n ≤ length (now bytes) ⌝ }
+{
     let fd = os::create(path);
     if fd < 0 {
         os::fail(path);
         return false;
     }
-    if !fill(fd, path, bytes) {
+    if !fill(fd, path, bytes, n) {
         os::unlink(path);
         return false;
     }

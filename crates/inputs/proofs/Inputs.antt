@@ -1,74 +1,52 @@
--- Laws of what a program reads: what strict reading left in its outputs, the run of a record, and that there is one.
+-- Laws of what a program reads: what reading an input left, the run of a record, and that there is one.
 use mathlib.Core.Path.{_≡_, sym, ap, ap₂, subst, _∙_}
 use mathlib.Core.List.{List, _++_, append-assoc}
 use Prim.Native.Nat.{ℕ, _+_, _-_, _≤_}
 use native.Mathlib.Omega.{arith}
-use lib.ListN.{length, take, drop, length-append, length-replicate, take-append-drop}
+use lib.ListN.{length, take, drop, length-append, take-append-drop}
 use lib.Seq.{take-all, take-at, take-append-add}
-use Rattle.lists.specs.Below.{Below}
 use Rattle.lists.proofs.Below.{below-take}
 use Rattle.limits.specs.Points.{maxPoints}
-use Rattle.outputs.specs.Outputs.{over}
 use Rattle.record_format.specs.Claims.{Accepted, Beginning, Bytes, ownAnswer}
-use Rattle.record_format.specs.Reading.{Answer, readStrict}
+use Rattle.record_format.specs.Reading.{Answer, readStrict, blank}
 use Rattle.record_format.specs.Runs.{Run, recordOf}
 use Rattle.record_format.specs.declared.ReadAnswer.{ReadAnswer}
 use Rattle.record_format.proofs.Writing.{accepted-fits, fitting-few}
 use Rattle.record_format.proofs.Sizes.{within}
-use Rattle.record_format.proofs.Claims.{reads-back, reads-only, with-room}
-use Rattle.inputs.specs.Inputs.{inputLimit, blank, readInput, ReadsFar}
+use Rattle.record_format.proofs.Claims.{reads-only, reads-blank}
+use Rattle.inputs.specs.Inputs.{inputLimit, readInput, ReadsFar}
+use Rattle.inputs.specs.Readings.{answerOf, Reading, Held}
 
--- ---- what strict reading of the bytes s left: it answered r, and the outputs are ts and vs
+-- ---- what reading an input left
 
-pub record Read (s : List ℕ) (r : ReadAnswer) (ts vs : List ℕ) : Type 0 where
-  pub numbers : r ≡ readStrict 0 s blank blank .answer
-  pub positions : ts ≡ readStrict 0 s blank blank .positions
-  pub ratios : vs ≡ readStrict 0 s blank blank .ratios
-
--- from a call that is lent such outputs
-pub read-as : {s : List ℕ} {r : ReadAnswer} {ps qs ts vs : List ℕ} → ps ≡ blank → qs ≡ blank
-    → (r ≡ readStrict 0 s ps qs .answer) × (ts ≡ readStrict 0 s ps qs .positions) × (vs ≡ readStrict 0 s ps qs .ratios) → Read s r ts vs
-read-as {s} p q e = record {
-  numbers = e .0 ∙ ap₂ (λ (ts vs : List ℕ). readStrict 0 s ts vs .answer) p q;
-  positions = e .1 ∙ ap₂ (λ (ts vs : List ℕ). readStrict 0 s ts vs .positions) p q;
-  ratios = e .2 ∙ ap₂ (λ (ts vs : List ℕ). readStrict 0 s ts vs .ratios) p q;
+-- from a call that is lent outputs with room for every run, all 0
+pub reading-of : {s : List ℕ} {r : ReadAnswer} {ps qs ts vs : List ℕ} → Bytes s → length s ≤ inputLimit → ps ≡ blank → qs ≡ blank
+    → (r ≡ readStrict 0 s ps qs .answer) × (ts ≡ readStrict 0 s ps qs .positions) × (vs ≡ readStrict 0 s ps qs .ratios) → Reading s r ts vs
+reading-of {s} {r} {ps} {qs} {ts} {vs} bytes whole p q e = record {
+  bytes = bytes;
+  whole = whole;
+  answered =
+      ap (λ (x : ReadAnswer). answerOf x ts vs) (e .0)
+      ∙ ap₂ (λ (l m : List ℕ). answerOf (readStrict 0 s ps qs .answer) l m) (e .1) (e .2)
+      ∙ ap₂ (readStrict 0 s) p q
+      ∙ ap (λ (l : List ℕ). readStrict 0 l blank blank) (sym (take-all inputLimit s whole));
 }
 
--- the first n numbers of two outputs are a run's
-pub record Held (n : ℕ) (ts vs : List ℕ) : Type 0 where
-  pub few : n ≤ maxPoints
-  pub positions : n ≤ length ts
-  pub ratios : n ≤ length vs
-
--- an answer by its parts
-abbrev pub answerOf : ReadAnswer → List ℕ → List ℕ → Answer
-answerOf r ts vs = record { answer = r; positions = ts; ratios = vs }
-
--- the numbers at the front of an output
-pub over-front : (xs o : List ℕ) (n : ℕ) → length xs ≡ n → take n (over xs o) ≡ xs
-over-front xs o n e = take-at xs (drop (length xs) o) n e
-
-module _ {s : List ℕ} {r : ReadAnswer} {ts vs : List ℕ} (h : Read s r ts vs) where
+module _ {s : List ℕ} {r : ReadAnswer} {ts vs : List ℕ} (h : Reading s r ts vs) where
+  -- reading the input as it is
   pub read-all : answerOf r ts vs ≡ readStrict 0 s blank blank
-  read-all =
-      ap (λ (x : ReadAnswer). answerOf x ts vs) (h .numbers)
-      ∙ ap (λ (l : List ℕ). answerOf (readStrict 0 s blank blank .answer) l vs) (h .positions)
-      ∙ ap (λ (l : List ℕ). answerOf (readStrict 0 s blank blank .answer) (readStrict 0 s blank blank .positions) l) (h .ratios)
-
-  -- a program reads all of it
-  pub read-input : length s ≤ inputLimit → answerOf r ts vs ≡ readInput s
-  read-input short = read-all ∙ ap (λ (l : List ℕ). readStrict 0 l blank blank) (sym (take-all inputLimit s short))
+  read-all = h .answered ∙ ap (λ (l : List ℕ). readStrict 0 l blank blank) (take-all inputLimit s (h .whole))
 
   -- where nothing was refused the input begins with a run's record, and the answer is that run's
-  pub read-own : Below 256 s → r .number ≡ 0 → (own : Run) × Accepted own × ((rest : List ℕ) × (s ≡ recordOf own ++ rest)) × (answerOf r ts vs ≡ ownAnswer own blank blank)
-  read-own bytes ok =
-      let o = reads-only 0 s blank blank bytes (sym (ap (λ (x : ReadAnswer). x .number) (h .numbers)) ∙ ok) in
+  pub read-own : r .number ≡ 0 → (own : Run) × Accepted own × ((rest : List ℕ) × (s ≡ recordOf own ++ rest)) × (answerOf r ts vs ≡ ownAnswer own blank blank)
+  read-own ok =
+      let o = reads-only 0 s blank blank (h .bytes) (sym (ap (λ (x : Answer). x .answer .number) read-all) ∙ ok) in
       (o .0, o .1, o .2, read-all ∙ o .3)
 
   -- and its numbers stand at the front of the outputs
-  pub read-held : Below 256 s → r .number ≡ 0 → Held (r .count) ts vs
-  read-held bytes ok =
-      let o = read-own bytes ok in
+  pub read-held : r .number ≡ 0 → Held (r .count) ts vs
+  read-held ok =
+      let o = read-own ok in
       let own : Run = o .0 in
       let f = accepted-fits own (o .1 .passes) in
       subst (λ (a : Answer). Held (a .answer .count) (a .positions) (a .ratios)) (sym (o .3))
@@ -80,23 +58,12 @@ module _ {s : List ℕ} {r : ReadAnswer} {ts vs : List ℕ} (h : Read s r ts vs)
 
 -- ---- what a program reads of a record, and of all else
 
--- the room is enough
-pub roomy : (n : ℕ) → n ≤ maxPoints → n ≤ length blank
-unfolding blank
-roomy n h = omega (arith, length-replicate {A = ℕ} maxPoints 0)
-
 -- a record is not cut: it is no longer than what a program reads
 pub record-uncut : (r : Run) → Accepted r → (rest : List ℕ) → take inputLimit (recordOf r ++ rest) ≡ recordOf r ++ take (inputLimit - length (recordOf r)) rest
 record-uncut r a rest =
     let h = within r a .1 in
     let e : inputLimit ≡ length (recordOf r) + (inputLimit - length (recordOf r)) = omega arith in
     ap (λ (n : ℕ). take n (recordOf r ++ rest)) e ∙ take-append-add (recordOf r) rest (inputLimit - length (recordOf r))
-
--- strict reading with this room gives back the run
-pub reads-blank : (r : Run) → Accepted r → (rest : List ℕ) → readStrict 0 (recordOf r ++ rest) blank blank ≡ ownAnswer r blank blank
-reads-blank r a rest =
-    let few = fitting-few r (accepted-fits r (a .passes)) in
-    reads-back r a 0 rest blank blank .0 ∙ with-room r blank blank (roomy (length (r .positions)) few) (roomy (length (r .positions)) few)
 
 pub reads-record : (r : Run) → Accepted r → (rest : List ℕ) → readInput (recordOf r ++ rest) ≡ ownAnswer r blank blank
 reads-record r a rest =

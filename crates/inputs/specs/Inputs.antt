@@ -1,22 +1,16 @@
 -- Document 01, "Bytes to compare", the listing, with the limit of document 02, No. 3: how a program reads a record. Every program reads as far.
 --   inputLimit      how many bytes a program reads at most
---   blank           an output with room for every run, all 0
 --   readInput s     the reading of the input s: at most inputLimit bytes of it, strictly, with no rate expected
 --   ReadsFar        input up to 65,536 bytes is read whole, and bytes past these change nothing; proved in proofs/Inputs
 use mathlib.Core.List.{List, _++_}
 use mathlib.Core.Path.{_≡_}
 use Prim.Native.Nat.{ℕ, _^_, _≤_}
-use lib.ListN.{length, take, replicate}
-use Rattle.limits.specs.Points.{maxPoints}
-use Rattle.record_format.specs.Reading.{Answer, readStrict}
+use lib.ListN.{length, take}
+use Rattle.record_format.specs.Reading.{Answer, readStrict, blank}
 
 -- 64 KiB, which every record stays below
 abbrev pub inputLimit : ℕ
 inputLimit = 2 ^ 16
-
--- 4,096 numbers, all 0
-unfoldable pub blank : List ℕ
-blank = replicate maxPoints 0
 
 -- what reading answers of the bytes that a program reads
 abbrev pub readInput : List ℕ → Answer

@@ -9,9 +9,11 @@ use Rattle.record_format.specs.Claims.{Accepted, ownAnswer}
 use Rattle.record_format.specs.Runs.{Run}
 use Rattle.record_format.proofs.Writing.{accepted-fits}
 use Rattle.span.specs.Spans.{spanned}
-use Rattle.text.specs.Lines.{listing}
-use Rattle.inputs.specs.Inputs.{blank, readInput}
-use Rattle.inputs.proofs.Inputs.{over-front, reads-record, reads-no-other}
+use Rattle.record_format.specs.Reading.{blank}
+use Rattle.outputs.proofs.Outputs.{take-over}
+use Rattle.inputs.specs.Inputs.{readInput}
+use Rattle.inputs.proofs.Inputs.{reads-record, reads-no-other}
+use Rattle.listing.specs.Lines.{listing}
 use Rattle.listing.specs.Printed.{runText, textOf}
 use Rattle.listing.specs.Claims.{listingOf, PrintsRun, PrintsOnly}
 
@@ -21,7 +23,7 @@ unfolding textOf runText
 own-text r a =
     let f = accepted-fits r (a .passes) in
     ap₂ (λ (ts vs : List ℕ). listing (r .rate) (r .side) (spanned (r .rate) ts .milliseconds) ts vs)
-    (over-front (r .positions) blank (length (r .positions)) refl) (over-front (r .ratios) blank (length (r .positions)) (f .paired))
+    (take-over (r .positions) blank (length (r .positions)) refl) (take-over (r .ratios) blank (length (r .positions)) (f .paired))
 
 pub prints-run : PrintsRun
 prints-run r a rest = ap textOf (reads-record r a rest) ∙ own-text r a

@@ -12,9 +12,10 @@ use Rattle.record_format.specs.Claims.{Accepted, Beginning, Bytes}
 use Rattle.record_format.specs.Examples.{listedBytes, sidedBytes, pausedBytes}
 use Rattle.record_format.specs.Runs.{Run, recordOf}
 use Rattle.span.specs.Spans.{spanned}
-use Rattle.text.specs.Examples.{listedText, sidedText, pausedText, refusedText}
-use Rattle.text.specs.Lines.{refusedLine, listing}
+use Rattle.text.specs.Lines.{refusedLine}
 use Rattle.inputs.specs.Inputs.{readInput}
+use Rattle.listing.specs.Lines.{listing}
+use Rattle.listing.specs.Examples.{listedText, sidedText, pausedText, refusedText}
 use Rattle.listing.specs.Printed.{printed}
 
 -- of a run

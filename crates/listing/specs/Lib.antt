@@ -1,2 +1,4 @@
+pub mod Lines
+pub mod Examples
 pub mod Printed
 pub mod Claims

@@ -11,8 +11,9 @@ use lib.ListN.{take}
 use Rattle.limits.specs.Points.{maxPoints}
 use Rattle.record_format.specs.Reading.{Answer}
 use Rattle.span.specs.Spans.{spanned}
-use Rattle.text.specs.Lines.{refusedLine, listing}
+use Rattle.text.specs.Lines.{refusedLine}
 use Rattle.inputs.specs.Inputs.{readInput}
+use Rattle.listing.specs.Lines.{listing}
 
 -- 106 for the lines of rate, side, count and span, and 38 for each point
 abbrev pub textLimit : ℕ

@@ -11,16 +11,16 @@ use Rattle.ratio_format.specs.declared.StepAnswer.{StepAnswer}
 use Rattle.ratio_format.specs.Windows.{pushed}
 use Rattle.ratio_format.specs.Stepping.{stepAnswer, stepCursor}
 use Rattle.ratio_format.specs.Claims.{given}
-use Rattle.ratio_format.proofs.Stepping.{Good, good-cursor, read-within, refusal, moved, Outcome, outcome, left-bad, left-end, left-over, left-no, left-ratio}
+use Rattle.ratio_format.proofs.Stepping.{Good, good-cursor, read-within, refusal, moved, Outcome, step-outcome, left-bad, left-end, left-over, left-no, left-ratio}
 use Rattle.live.specs.declared.stepping.Found.{Found}
 use Rattle.live.specs.States.{stepFound}
 
 -- no ratio, and a ratio v of k bytes
-abbrev nothing : ℕ → Found
-nothing n = record { number = n; ratio = 0; used = 0 }
+abbrev noRatio : ℕ → Found
+noRatio n = record { number = n; ratio = 0; used = 0 }
 
-abbrev something : ℕ → ℕ → Found
-something v k = record { number = 0; ratio = v; used = k }
+abbrev aRatio : ℕ → ℕ → Found
+aRatio v k = record { number = 0; ratio = v; used = k }
 
 -- the answer, and the state after u more bytes with n ratios seen and the window w
 abbrev answerBy : Found → StepAnswer
@@ -38,28 +38,28 @@ module _ (b : List ℕ) (c : Cursor) where
       ap₂ (λ (x : StepAnswer) (y : Cursor). record { number = x .number; ratio = x .ratio; used = y .place - c .place }) (t .0) (t .1)
       ∙ ap (λ (n : ℕ). record { number = a .number; ratio = a .ratio; used = n }) e
 
-  found-none : (n : ℕ) → (stepAnswer b c ≡ refusal n) × (stepCursor b c ≡ c) → stepFound b c ≡ nothing n
+  found-none : (n : ℕ) → (stepAnswer b c ≡ refusal n) × (stepCursor b c ≡ c) → stepFound b c ≡ noRatio n
   found-none n t = parts (refusal n) c 0 t (omega arith)
 
-  found-ratio : (v k : ℕ) → (stepAnswer b c ≡ given v) × (stepCursor b c ≡ moved c v k) → stepFound b c ≡ something v k
+  found-ratio : (v k : ℕ) → (stepAnswer b c ≡ given v) × (stepCursor b c ≡ moved c v k) → stepFound b c ≡ aRatio v k
   found-ratio v k t = parts (given v) (moved c v k) k t (omega arith)
 
-  pub is-none : (f : Found) (n : ℕ) → f ≡ nothing n → (stepAnswer b c ≡ refusal n) × (stepCursor b c ≡ c) → f ≡ stepFound b c
-  is-none f n q t = q ∙ sym (found-none n t)
+  pub step-found-none : (f : Found) (n : ℕ) → f ≡ noRatio n → (stepAnswer b c ≡ refusal n) × (stepCursor b c ≡ c) → f ≡ stepFound b c
+  step-found-none f n q t = q ∙ sym (found-none n t)
 
-  pub is-ratio : (v k : ℕ) → (stepAnswer b c ≡ given v) × (stepCursor b c ≡ moved c v k) → something v k ≡ stepFound b c
-  is-ratio v k t = sym (found-ratio v k t)
+  pub step-found-ratio : (v k : ℕ) → (stepAnswer b c ≡ given v) × (stepCursor b c ≡ moved c v k) → aRatio v k ≡ stepFound b c
+  step-found-ratio v k t = sym (found-ratio v k t)
 
   -- ---- one of two
 
   -- no ratio, and the state stays; or a ratio that ends within the body
   data Finding (f : Found) : Type 0 where
-    not-found : (n : ℕ) → 0 < n → f ≡ nothing n → (stepAnswer b c ≡ refusal n) × (stepCursor b c ≡ c) → Finding f
-    one : (v k : ℕ) → Good b c → c .place + k ≤ length b → f ≡ something v k → (stepAnswer b c ≡ given v) × (stepCursor b c ≡ moved c v k) → Finding f
+    not-found : (n : ℕ) → 0 < n → f ≡ noRatio n → (stepAnswer b c ≡ refusal n) × (stepCursor b c ≡ c) → Finding f
+    one : (v k : ℕ) → Good b c → c .place + k ≤ length b → f ≡ aRatio v k → (stepAnswer b c ≡ given v) × (stepCursor b c ≡ moved c v k) → Finding f
 
   module _ (f : Found) (e : f ≡ stepFound b c) where
     finding : Finding f
-    finding = go (outcome b c)
+    finding = go (step-outcome b c)
       where
         no-ratio : (n : ℕ) → 0 < n → (stepAnswer b c ≡ refusal n) × (stepCursor b c ≡ c) → Finding f
         no-ratio n h t = not-found n h (e ∙ found-none n t) t

@@ -1,6 +1,7 @@
 -- Document 01, "Stepping": a reader that holds its body, in terms of the definitions over a body and a state.
 --   cursorOf r      what the reader r keeps beside its body
 --   nextAnswer r    what its next call answers
+--   withCursor r c  the reader r with another state
 --   nextReader r    the reader afterwards, over the same body
 --   firstTwo b n    the answers of making a reader of the body b with the count n, and of its first two steps
 use mathlib.Core.List.{List}

@@ -61,7 +61,7 @@ pub fn begin(count: u64) -> Begun
 }
 
 // The body that a reader with this count holds.
-pub fn kept_body<'a>(body: &'a [u8], count: u64) -> &'a [u8]
+pub(crate) fn kept_body<'a>(body: &'a [u8], count: u64) -> &'a [u8]
     ensures { λ r. ⌜ now r ≡ madeBody count (now (body .entry)) ⌝ }
 {
     if (MAX_POINTS as u64) < count {
@@ -95,7 +95,7 @@ struct Found {
 }
 
 // No ratio: the refusal with this number, or the end.
-fn nothing(number: u32) -> Found
+fn no_ratio(number: u32) -> Found
     ensures { λ r. ⌜ r ≡ record { number = number; ratio = 0; used = 0 } ⌝ }
 {
     Found {
@@ -111,19 +111,19 @@ fn seek(body: &[u8], ratios: &[u64], place: u64, count: u64, seen: u64, fill: u6
     ensures { λ r. ⌜ r ≡ stepFound (now (body .entry)) (stateOf place count seen (now (ratios .entry)) fill) ⌝ }
 {
     if bad_state(body, place, count, seen, fill) {
-        return nothing(7);
+        return no_ratio(7);
     }
     if seen == count {
         if place == body.len() as u64 {
-            return nothing(8);
+            return no_ratio(8);
         }
-        return nothing(18);
+        return no_ratio(18);
     }
     let filled = fill as usize;
     let at = place as usize;
     let read = read_one_strict(&ratios[..filled], &body[at..]);
     let Read::Ratio(ratio, used) = read else {
-        return nothing(18);
+        return no_ratio(18);
     };
     Found {
         number: 0,

@@ -9,7 +9,7 @@ use lib.ListN.{length, take, drop, length-replicate, take-append-drop}
 use lib.Seq.{take-at}
 use Rattle.lists.proofs.Below.{below-take}
 use Rattle.refusals.specs.declared.Refusal.{Refusal}
-use Rattle.refusals.proofs.Tests.{first-end}
+use Rattle.refusals.proofs.Tests.{firstOf-end}
 use Rattle.position_format.specs.declared.Form.{Form}
 use Rattle.record_format.specs.Claims.{Accepted, Beginning}
 use Rattle.record_format.specs.Moves.{Move, otherForm, inForm, moveOf}
@@ -28,17 +28,17 @@ use Rattle.move_record.specs.Claims.{MovesFile, RefusesFile}
 use Rattle.move_record.proofs.Printed.{line-refused, line-moved}
 
 -- every record has room
-roomy : (r : Run) → Accepted r → length (recordOf r) ≤ length blankRecord
+record-has-room : (r : Run) → Accepted r → length (recordOf r) ≤ length blankRecord
 unfolding blankRecord
-roomy r a = omega (arith, within r a .1, length-replicate {A = ℕ} maxRecord 0)
+record-has-room r a = omega (arith, within r a .1, length-replicate {A = ℕ} maxRecord 0)
 
 -- the move of a record that both forms take
 moved : (f : Form) (r : Run) → Accepted r → r .form ≡ otherForm f → Accepted (inForm f r) → (rest : List ℕ) → moveInput f (recordOf r ++ rest) ≡ movedTo r (inForm f r) blankRecord
 moved f r a e b rest =
     let more = take (inputLimit - length (recordOf r)) rest in
-    let clear = ap (λ (g : Refusal). g .number) (fits-target f r (accepted-fits (inForm f r) (b .passes)) ∙ first-end) in
+    let clear = ap (λ (g : Refusal). g .number) (fits-target f r (accepted-fits (inForm f r) (b .passes)) ∙ firstOf-end) in
     ap (λ (l : List ℕ). moveOf f l blankRecord) (record-uncut r a rest)
-    ∙ by-room f r a e more blankRecord clear .1 (roomy (inForm f r) b)
+    ∙ by-room f r a e more blankRecord clear .1 (record-has-room (inForm f r) b)
 
 pub moves-file : MovesFile
 moves-file f r a e b rest =
@@ -61,7 +61,7 @@ refuses-file f s bytes never =
     let low = below-take 256 inputLimit s bytes in
     let no : (moveOf f l blankRecord .answer .number ≡ 0 → ⊥) = λ e. (let m = moves-only f l blankRecord low e in never (m .0) (m .1) (m .2) (m .4) (from-cut (m .0) s (m .3))) in (
       no,
-      λ e. (let m = short-only f l blankRecord low e in let room = roomy (inForm f (m .0)) (m .4) in let short = m .5 in omega arith),
+      λ e. (let m = short-only f l blankRecord low e in let room = record-has-room (inForm f (m .0)) (m .4) in let short = m .5 in omega arith),
       ne-eqb (moveInput f s .answer .number) 0 no,
       ap (λ (x : Move). take (x .answer .length) (moveInput f s .output)) (moves-whole f l blankRecord no),
       sym (line-refused (moveInput f s .answer) no),

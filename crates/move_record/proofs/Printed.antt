@@ -12,7 +12,7 @@ use Rattle.record_format.specs.Moves.{Move, moveOf}
 use Rattle.record_format.proofs.MoveClaims.{moved-within}
 use Rattle.text.specs.Lines.{refusedLine}
 use Rattle.text.specs.PlacedAt.{PlacedAt}
-use Rattle.text.proofs.PlacedAt.{put-same}
+use Rattle.text.proofs.PlacedAt.{placed-same}
 use Rattle.inputs.specs.Inputs.{inputLimit}
 use Rattle.move_record.specs.Lines.{lineLimit, movedLine, answerLine}
 use Rattle.move_record.specs.Printed.{blankRecord, moveInput, Told}
@@ -34,15 +34,15 @@ module _ (a : MoveAnswer) where
 whole : (f : Form) (s o : List ℕ) → length s ≤ inputLimit → o ≡ blankRecord → moveOf f s o ≡ moveInput f s
 whole f s o short e = ap (moveOf f s) e ∙ ap (λ (l : List ℕ). moveOf f l blankRecord) (sym (take-all inputLimit s short))
 
-pub told : (f : Form) (s o p l q : List ℕ) (a : MoveAnswer) (end : ℕ) → length s ≤ inputLimit → o ≡ blankRecord → length p ≡ length o
+pub move-told : (f : Form) (s o p l q : List ℕ) (a : MoveAnswer) (end : ℕ) → length s ≤ inputLimit → o ≡ blankRecord → length p ≡ length o
     → (a ≡ moveOf f s o .answer) × (p ≡ moveOf f s o .output) → PlacedAt lineLimit (answerLine a) 0 end l q
-    → Told f s (record { moved = eqb (a .number) 0; size = a .length; line = end }) p l q
-told f s o p l q a end short blank kept h put =
+    → Told f s (record { moved = eqb (a .number) 0; length = a .length; line = end }) p l q
+move-told f s o p l q a end short blank kept h put =
     let e = whole f s o short blank in
     let is : a ≡ moveInput f s .answer = h .0 ∙ ap (λ (m : Move). m .answer) e in
     record {
       moved = ap (λ (x : MoveAnswer). eqb (x .number) 0) is;
       room = subst (λ (n : ℕ). a .length ≤ n) (sym kept) (subst (λ (x : MoveAnswer). x .length ≤ length o) (sym (h .0)) (moved-within f s o));
       bytes = ap (take (a .length)) (h .1 ∙ ap (λ (m : Move). m .output) e) ∙ ap (λ (x : MoveAnswer). take (x .length) (moveInput f s .output)) is;
-      line = put-same (ap answerLine is) put;
+      line = placed-same (ap answerLine is) put;
     }

@@ -18,13 +18,13 @@ use Rattle.inputs.specs.Inputs.{inputLimit}
 use Rattle.move_record.specs.declared.Word.the-variants.{To, Other}
 use Rattle.move_record.specs.Words.{formNamed}
 use Rattle.move_record.specs.Lines.{movedLine}
-use Rattle.move_record.specs.Printed.{blankRecord, isMoved, printed, written}
+use Rattle.move_record.specs.Printed.{blankRecord, isMoved, printed, fileBytes}
 
 -- a run that both forms take
 abbrev pub MovesFile : Type 0
 MovesFile = (f : Form) (r : Run) → Accepted r → r .form ≡ otherForm f → Accepted (inForm f r) → (rest : List ℕ)
     → (isMoved f (recordOf r ++ rest) ≡ true)
-    × (written f (recordOf r ++ rest) ≡ recordOf (inForm f r))
+    × (fileBytes f (recordOf r ++ rest) ≡ recordOf (inForm f r))
     × (printed f (recordOf r ++ rest) ≡ movedLine (length (recordOf r)) (length (recordOf (inForm f r))))
 
 -- everything else, by the bytes that the program reads
@@ -32,7 +32,7 @@ abbrev pub RefusesFile : Type 0
 RefusesFile = (f : Form) (s : List ℕ) → Bytes s
     → ((r : Run) → Accepted r → r .form ≡ otherForm f → Accepted (inForm f r) → Beginning (recordOf r) s → ⊥)
     → let a = moveOf f (take inputLimit s) blankRecord .answer in
-    (a .number ≡ 0 → ⊥) × (a .number ≡ 6 → ⊥) × (isMoved f s ≡ false) × (written f s ≡ []) × (printed f s ≡ refusedLine (a .number) (a .place))
+    (a .number ≡ 0 → ⊥) × (a .number ≡ 6 → ⊥) × (isMoved f s ≡ false) × (fileBytes f s ≡ []) × (printed f s ≡ refusedLine (a .number) (a .place))
 
 -- 119 105 100 101 and 111 108 100
 abbrev pub NamesForms : Type 0

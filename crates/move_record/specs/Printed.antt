@@ -3,7 +3,7 @@
 --   moveInput f s   the move of the input s to the form f: at most inputLimit bytes of it, into such an output
 --   isMoved f s     whether there is a file to be made
 --   printed f s     the line, which goes out where no file is to be made or once it stands
---   written f s     the bytes of the file
+--   fileBytes f s   the bytes of the file
 --   Told ..         what the function that does all but read, write and print leaves: these four, in its answer and its outputs
 use mathlib.Core.Bool.{Bool}
 use mathlib.Core.List.{List}
@@ -36,12 +36,12 @@ abbrev pub printed : Form → List ℕ → List ℕ
 printed f s = answerLine (moveInput f s .answer)
 
 -- nothing for a refusal
-abbrev pub written : Form → List ℕ → List ℕ
-written f s = take (moveInput f s .answer .length) (moveInput f s .output)
+abbrev pub fileBytes : Form → List ℕ → List ℕ
+fileBytes f s = take (moveInput f s .answer .length) (moveInput f s .output)
 
 -- the record at the front of the output o, and the line at that of l, which is now p
 pub record Told (f : Form) (s : List ℕ) (r : Outcome) (o l p : List ℕ) : Type 0 where
   pub moved : r .moved ≡ isMoved f s
-  pub room : r .size ≤ length o
-  pub bytes : take (r .size) o ≡ written f s
+  pub room : r .length ≤ length o
+  pub bytes : take (r .length) o ≡ fileBytes f s
   pub line : PlacedAt lineLimit (printed f s) 0 (r .line) l p

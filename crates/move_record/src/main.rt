@@ -28,10 +28,10 @@ pub enum Word {
     Other,
 }
 
-// What came of a move: whether there is a record to be written, how many bytes it has, and how many the line has.
+// What came of a move: whether there is a record to be written, its length, and that of the line.
 pub struct Outcome {
     pub moved: bool,
-    pub size: usize,
+    pub length: usize,
     pub line: usize,
 }
 
@@ -119,20 +119,22 @@ fn move_input(form: Form, input: &[u8], out: &mut [u8], line: &mut [u8]) -> Outc
     let end = put_answer(line, answer);
     Outcome {
         moved: answer.number == 0,
-        size: answer.length as usize,
+        length: answer.length as usize,
         line: end,
     }
 }
 
-// Makes the file that the third argument names. One that is longer than a name may be is left out by `arg`, which notes so.
-fn save(bytes: &[u8]) -> bool {
+// Makes the file that the third argument names of the first n bytes. A name that is longer than one may be is left out by `arg`, which notes so.
+fn save(bytes: &[u8], n: usize) -> bool
+    requires { ⌜ n ≤ length (now bytes) ⌝ }
+{
     let mut path = io::buffer();
-    let n = os::arg(3, &mut path);
+    let k = os::arg(3, &mut path);
     if os::errno() != 0 {
         os::fail(b"the name of the new file");
         return false;
     }
-    files::save_new(&path[..n], bytes)
+    files::save_new(&path[..k], bytes, n)
 }
 
 // The line goes out once the file stands, or where there is none to be made.
@@ -142,14 +144,14 @@ fn move_file(form: Form) {
     let mut out = record_room();
     let mut line = line_room();
     let outcome = move_input(form, &input[..n], &mut out, &mut line);
-    let size = outcome.size;
+    let length = outcome.length;
     if outcome.moved {
-        if !save(&out[..size]) {
+        if !save(&out, length) {
             return;
         }
     }
     let end = outcome.line;
-    io::write_all(STDOUT_FILENO, &line[..end]);
+    files::write_front(STDOUT_FILENO, &line, end);
 }
 
 // Says how the program is called.

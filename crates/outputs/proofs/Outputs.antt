@@ -1,4 +1,4 @@
--- Laws of what an output holds with a part replaced: its length, what stands after the part, and two parts after each other.
+-- Laws of what an output holds with a part replaced: its length, what stands after the part, two parts after each other, and the part at its front.
 pub mod Clear
 pub mod Parts
 pub mod Over
@@ -10,7 +10,7 @@ use native.Mathlib.Nat.{add-assoc}
 use native.Mathlib.Omega.{arith}
 use lib.ListN.{length, take, drop, length-append, length-drop}
 use lib.Seq.{length-take-le, take-at, drop-at, drop-drop}
-use Rattle.outputs.specs.Outputs.{overAt}
+use Rattle.outputs.specs.Outputs.{over, overAt}
 
 module _ (xs : List ℕ) (at n : ℕ) (vs : List ℕ) (len : length vs ≡ n) (room : at + n ≤ length xs) where
   length-before : length (take at xs) ≡ at
@@ -37,3 +37,7 @@ module _ (xs : List ℕ) (at n : ℕ) (vs : List ℕ) (len : length vs ≡ n) (r
       sym (drop-drop m (at + n) (overAt xs at n vs)) ∙ ap (drop m) drop-overAt ∙ drop-drop m (at + n) xs
       ∙ ap (λ (k : ℕ). drop k xs) (add-assoc at n m) in
       ap₂ (λ (p r : List ℕ). p ++ (ws ++ r)) t d ∙ simp append-assoc
+
+-- what was put at the front
+pub take-over : (bs o : List ℕ) (n : ℕ) → length bs ≡ n → take n (over bs o) ≡ bs
+take-over bs o n e = take-at bs (drop (length bs) o) n e

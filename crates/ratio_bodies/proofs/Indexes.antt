@@ -17,8 +17,8 @@ use Rattle.ratio_bodies.specs.Indexes.{keys, keyOf, Bounded, Indexed, Tr
 use Rattle.ratio_codec.proofs.read.References.{coded-in}
 
 -- of no ratio
-pub trailing-none : (l : List ℕ) → Trailing (replicate keys 0) l 0
-trailing-none l = (
+pub trailing-start : (l : List ℕ) → Trailing (replicate keys 0) l 0
+trailing-start l = (
   (length-replicate {A = ℕ} keys 0, λ k. omega (arith, below-at 1 (omega arith) (replicate keys 0) (below-replicate 1 keys {d = 0} (omega arith)) k)),
   λ j h. absurd (omega arith),
 )

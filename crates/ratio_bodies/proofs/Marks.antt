@@ -23,8 +23,8 @@ use Rattle.ratio_search.specs.BytePlanes.{slots}
 use Rattle.ratio_bodies.specs.Marks.{slotOf, Last, Again, Marks}
 
 -- before the first ratio
-pub marks-none : (ms l : List ℕ) → length ms ≡ slots → Marks ms l 0
-marks-none ms l e = (e, λ k h g. absurd (omega arith))
+pub marks-start : (ms l : List ℕ) → length ms ≡ slots → Marks ms l 0
+marks-start ms l e = (e, λ k h g. absurd (omega arith))
 
 module _ (ms l : List ℕ) (i v : ℕ) (marks : Marks ms l i) (h : i ≤ length l) where
   abbrev w : List ℕ

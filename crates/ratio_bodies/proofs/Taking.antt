@@ -37,8 +37,8 @@ module _ (rule : Rule) (count : ℕ) (body o : List ℕ) where
   Taking out at i =
       (i ≤ count) × (at ≤ length body) × (length out ≡ length o) × (drop i out ≡ drop i o) × (all ≡ after (take i out) at (rest out at i))
 
-  pub taking-none : Taking o 0 0
-  taking-none =
+  pub taking-start : Taking o 0 0
+  taking-start =
       let z : count - 0 ≡ count = omega arith in
       let u : all .used ≡ 0 + all .used = omega arith in
       (omega arith, omega arith, refl, refl, rw z (ap (λ (k : ℕ). record { ratios = all .ratios; used = k }) u))

@@ -111,10 +111,10 @@ find-le v (u ∷ w) = go (find-le v w) (eqb v u)
 abbrev pub FoundAt : ℕ → ℕ → ℕ → ℕ → Type 0
 FoundAt s p f n = ((s ≡ equalSum) × (f ≡ p) × (f < n)) ⊎ ((s < 8) × (f ≡ n))
 
-pub found : (v : ℕ) (w : List ℕ) → v < 2 ^ 64 → Below (2 ^ 64) w → FoundAt (best v w .sum) (best v w .place) (find v w) (length w)
+pub best-find : (v : ℕ) (w : List ℕ) → v < 2 ^ 64 → Below (2 ^ 64) w → FoundAt (best v w .sum) (best v w .place) (find v w) (length w)
 unfolding best find Below
-found v [] hv ha = inr (omega arith, refl)
-found v (u ∷ w) hv ha = go (found v w hv (ha .1)) (eqb v u) refl
+best-find v [] hv ha = inr (omega arith, refl)
+best-find v (u ∷ w) hv ha = go (best-find v w hv (ha .1)) (eqb v u) refl
   where
     other : eqb v u ≡ false → sumOf v u < 8
     other e = sum-other v u hv (ha .0) (eqb-false v u e)
@@ -145,10 +145,10 @@ module _ (v : ℕ) (w : List ℕ) (hv : v < 2 ^ 64) (ha : Below (2 ^ 64) w) wher
       ⊎-elim
       (λ a. rw (lt-ltb (find v w) (length w) (a .2)) (ap Reference (a .1)))
       (λ b. absurd (omega arith))
-      (found v w hv ha)
+      (best-find v w hv ha)
 
   small : (best v w .sum ≡ equalSum → ⊥) → (best v w .sum < 8) × (ltb (find v w) (length w) ≡ false)
-  small n = ⊎-elim (λ a. absurd (n (a .0))) (λ b. (b .0, le-ltb (find v w) (length w) (omega arith))) (found v w hv ha)
+  small n = ⊎-elim (λ a. absurd (n (a .0))) (λ b. (b .0, le-ltb (find v w) (length w) (omega arith))) (best-find v w hv ha)
 
   pub ratio-form-xor : (best v w .sum ≡ equalSum → ⊥) → 2 ≤ best v w .sum
       → ratioForm v w ≡ xorOf (best v w) (bitXor v (getD w (best v w .place) 0))
@@ -191,7 +191,7 @@ module _ (v : ℕ) (w : List ℕ) where
 
   -- a ratio that is not in the window has a best sum below 8
   pub absent-small : v < 2 ^ 64 → Below (2 ^ 64) w → length w ≤ find v w → best v w .sum < 8
-  absent-small hv ha h = ⊎-elim (λ a. absurd (omega arith)) (λ b. b .0) (found v w hv ha)
+  absent-small hv ha h = ⊎-elim (λ a. absurd (omega arith)) (λ b. b .0) (best-find v w hv ha)
 
   -- a ratio that stands in the window is found
   pub find-lt : (p : ℕ) → p < length w → getD w p 0 ≡ v → find v w < length w

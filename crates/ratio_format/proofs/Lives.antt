@@ -12,7 +12,7 @@ use Rattle.refusals.specs.declared.Refusal.{Refusal}
 use Rattle.limits.specs.Points.{maxPoints}
 use Rattle.refusals.specs.Tests.{noRefusal, firstOf}
 use Rattle.outputs.specs.Outputs.{zeros, over}
-use Rattle.refusals.proofs.Tests.{first-here, first-skip, first-end, first-clear, first-append-none, first-append-some}
+use Rattle.refusals.proofs.Tests.{firstOf-here, firstOf-skip, firstOf-end, firstOf-clear, firstOf-append-none, firstOf-append-some}
 use Rattle.ratio_format.specs.declared.Window.{Window}
 use Rattle.ratio_format.specs.declared.Live.{Live}
 use Rattle.ratio_format.specs.declared.AddAnswer.{AddAnswer}
@@ -54,19 +54,19 @@ refusalBy n = record { number = n; place = 0 }
 
 module _ (s : Live) where
   pub state-bad : badLive s ≡ true → firstOf (stateTests s) ≡ refusalBy 7
-  state-bad b = first-here _ _ b
+  state-bad b = firstOf-here _ _ b
 
   pub state-many : badLive s ≡ false → maxPoints ≤ s .seen → firstOf (stateTests s) ≡ refusalBy 3
-  state-many b m = first-skip _ _ b ∙ first-here _ _ (le-leb maxPoints (s .seen) m)
+  state-many b m = firstOf-skip _ _ b ∙ firstOf-here _ _ (le-leb maxPoints (s .seen) m)
 
   pub state-passes : badLive s ≡ false → s .seen < maxPoints → firstOf (stateTests s) ≡ noRefusal
-  state-passes b m = first-skip _ _ b ∙ first-skip _ _ (lt-leb maxPoints (s .seen) m) ∙ first-end
+  state-passes b m = firstOf-skip _ _ b ∙ firstOf-skip _ _ (lt-leb maxPoints (s .seen) m) ∙ firstOf-end
 
   -- where none of them applies
   pub state-passed : firstOf (stateTests s) .number ≡ 0 → (badLive s ≡ false) × (s .seen < maxPoints)
   state-passed e =
-      let bad = first-clear _ _ (omega arith) e in
-      let many = first-clear _ _ (omega arith) (bad .1) in
+      let bad = firstOf-clear _ _ (omega arith) e in
+      let many = firstOf-clear _ _ (omega arith) (bad .1) in
       (bad .0, leb-false maxPoints (s .seen) (many .0))
 
   -- each gives the place 0
@@ -85,16 +85,16 @@ module _ (k : Coder) (s : Live) (v : ℕ) (o : List ℕ) where
   pub add-tested : (n : ℕ) → n ≡ firstOf (stateTests s) .number → (n ≡ 0 → ⊥) → addRefusalBy k s v o ≡ refusalBy n
   unfolding addRefusalBy
   add-tested n e z =
-      first-append-some (stateTests s) _ (λ q. z (e ∙ q)) ∙ ap₂ (λ (i j : ℕ). record { number = i; place = j }) (sym e) (state-place s)
+      firstOf-append-some (stateTests s) _ (λ q. z (e ∙ q)) ∙ ap₂ (λ (i j : ℕ). record { number = i; place = j }) (sym e) (state-place s)
 
   -- none does: the room decides
   pub add-short : firstOf (stateTests s) .number ≡ 0 → length o < length (addBytesBy k s v) → addRefusalBy k s v o ≡ refusalBy 6
   unfolding addRefusalBy
-  add-short z r = first-append-none (stateTests s) _ refl z ∙ first-here _ _ (lt-ltb (length o) (length (addBytesBy k s v)) r)
+  add-short z r = firstOf-append-none (stateTests s) _ refl z ∙ firstOf-here _ _ (lt-ltb (length o) (length (addBytesBy k s v)) r)
 
   pub add-none : firstOf (stateTests s) .number ≡ 0 → length (addBytesBy k s v) ≤ length o → addRefusalBy k s v o ≡ noRefusal
   unfolding addRefusalBy
-  add-none z r = first-append-none (stateTests s) _ refl z ∙ first-skip _ _ (le-ltb (length o) (length (addBytesBy k s v)) r) ∙ first-end
+  add-none z r = firstOf-append-none (stateTests s) _ refl z ∙ firstOf-skip _ _ (le-ltb (length o) (length (addBytesBy k s v)) r) ∙ firstOf-end
 
   -- a refusal: nothing is written, the state stays, and the output is cleared
   pub add-refused : (n : ℕ) → (n ≡ 0 → ⊥) → addRefusalBy k s v o ≡ refusalBy n
@@ -115,8 +115,8 @@ module _ (k : Coder) (s : Live) (v : ℕ) (o : List ℕ) where
     no : (n : ℕ) → (n ≡ 0 → ⊥) → addRefusalBy k s v o ≡ refusalBy n → Outcome
     yes : badLive s ≡ false → s .seen < maxPoints → addRefusalBy k s v o ≡ noRefusal → Outcome
 
-  pub outcome : Outcome
-  outcome = go (eqb (firstOf (stateTests s) .number) 0) refl (ltb (length o) (length (addBytesBy k s v))) refl
+  pub add-outcome : Outcome
+  add-outcome = go (eqb (firstOf (stateTests s) .number) 0) refl (ltb (length o) (length (addBytesBy k s v))) refl
     where
       go : (t : Bool) → eqb (firstOf (stateTests s) .number) 0 ≡ t → (r : Bool) → ltb (length o) (length (addBytesBy k s v)) ≡ r → Outcome
       go false t r er = let z = eqb-false (firstOf (stateTests s) .number) 0 t in no (firstOf (stateTests s) .number) z (add-tested (firstOf (stateTests s) .number) refl z)
@@ -132,7 +132,7 @@ pub fresh-good : badLive freshLive ≡ false
 fresh-good = refl
 
 pub live-stays : LiveStays
-live-stays k s v o b = go (outcome k s v o)
+live-stays k s v o b = go (add-outcome k s v o)
   where
     go : Outcome k s v o → badLive (addStateBy k s v o) ≡ false
     go (no n z e) = rw (add-refused k s v o n z e .1) b
@@ -141,7 +141,7 @@ live-stays k s v o b = go (outcome k s v o)
         (live-good (addedTo s v) (window-stays (s .window) v (s .seen) (good-live s b .0)) (omega arith))
 
 size-stays : (k : Coder) (s : Live) (v : ℕ) (o : List ℕ) → length (s .window .ratios) ≡ windowSize → length (addStateBy k s v o .window .ratios) ≡ windowSize
-size-stays k s v o h = go (outcome k s v o)
+size-stays k s v o h = go (add-outcome k s v o)
   where
     go : Outcome k s v o → length (addStateBy k s v o .window .ratios) ≡ windowSize
     go (no n z e) = rw (add-refused k s v o n z e .1) h
@@ -188,7 +188,7 @@ joined-from : (s : Live) (ts : List Tick) → length (s .window .ratios) ≡ win
 unfolding addJoined addTaken codedFrom
 joined-from s [] h = refl
 joined-from s (t ∷ ts) h =
-    joined-more s t ts h (outcome coded s (t .ratio) (t .output)) (joined-from (tickState s t) ts (size-stays coded s (t .ratio) (t .output) h))
+    joined-more s t ts h (add-outcome coded s (t .ratio) (t .output)) (joined-from (tickState s t) ts (size-stays coded s (t .ratio) (t .output) h))
 
 -- from a fresh state
 pub live-joined : LiveJoined

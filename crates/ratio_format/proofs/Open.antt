@@ -208,10 +208,10 @@ module _ (w : List ℕ) (v k : ℕ) where
       go true f false g e = never e
       go false f y g e = never e
 
-  pub opened : (s : List ℕ) → openOne w s ≡ Ratio v k → Opened w s v k
+  pub open-cases : (s : List ℕ) → openOne w s ≡ Ratio v k → Opened w s v k
   unfolding openOne
-  opened [] e = never e
-  opened (b ∷ s) e =
+  open-cases [] e = never e
+  open-cases (b ∷ s) e =
       go (ltb b xorByte) (ltb b (length w)) refl (ltb b exceptionByte) (ltb (b - xorByte) (length w)) refl (leb 8 (length s)) refl e
     where
       go : (x y : Bool) → ltb b (length w) ≡ y → (f g : Bool) → ltb (b - xorByte) (length w) ≡ g → (n : Bool) → leb 8 (length s) ≡ n
@@ -238,7 +238,7 @@ used-of w s v k (xored p t n h g f e q) = omega arith
 used-of w s v k (excepted f e q) = omega arith
 
 pub open-used : (w s : List ℕ) (v k : ℕ) → openOne w s ≡ Ratio v k → k ≤ length s
-open-used w s v k e = used-of w s v k (opened w v k s e)
+open-used w s v k e = used-of w s v k (open-cases w v k s e)
 
 pub strict-used : (w s : List ℕ) (v k : ℕ) → strictOne w s ≡ Ratio v k → k ≤ length s
 strict-used w s v k e = open-used w s v k (strict-open v k w s e .0)
@@ -255,7 +255,7 @@ module _ (w s : List ℕ) (v k : ℕ) (hs : Below 256 s) (ha : Below (2 ^ 64) w)
   value-of (excepted f e q) = (subst (λ (x : ℕ). x < 2 ^ 64) (sym e) (part-lt 8 1 s hs f), omega arith, omega arith)
 
   pub open-value : openOne w s ≡ Ratio v k → (v < 2 ^ 64) × (1 ≤ k) × (k ≤ length s)
-  open-value e = value-of (opened w v k s e)
+  open-value e = value-of (open-cases w v k s e)
 
   -- the bytes that are written for the ratio are no more
   short-of : Opened w s v k → length (coded v w) ≤ k
@@ -280,4 +280,4 @@ module _ (w s : List ℕ) (v k : ℕ) (hs : Below 256 s) (ha : Below (2 ^ 64) w)
   short-of (excepted f e q) = omega (arith, coded-length v w .1)
 
   pub open-short : openOne w s ≡ Ratio v k → length (coded v w) ≤ k
-  open-short e = short-of (opened w v k s e)
+  open-short e = short-of (open-cases w v k s e)

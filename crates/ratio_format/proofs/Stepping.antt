@@ -13,7 +13,7 @@ use Rattle.lists.specs.Below.{Below}
 use Rattle.lists.proofs.Below.{below-drop}
 use Rattle.limits.specs.Points.{maxPoints}
 use Rattle.refusals.specs.Tests.{noRefusal}
-use Rattle.refusals.proofs.Tests.{first-here, first-skip, first-end}
+use Rattle.refusals.proofs.Tests.{firstOf-here, firstOf-skip, firstOf-end}
 use Rattle.ratio_format.specs.declared.Read.{Read}
 use Rattle.ratio_format.specs.declared.Read.the-variants.{Ratio, Nothing}
 use Rattle.ratio_format.specs.declared.Cursor.{Cursor}
@@ -72,29 +72,29 @@ moved c v k = record { place = c .place + k; count = c .count; seen = c .seen + 
 module _ (b : List ℕ) (c : Cursor) where
   pub step-bad : badCursor b c ≡ true → stepRefusal b c ≡ refusalBy 7
   unfolding stepRefusal
-  step-bad g = first-here _ _ g
+  step-bad g = firstOf-here _ _ g
 
   pub step-end : badCursor b c ≡ false → c .seen ≡ c .count → c .place ≡ length b → stepRefusal b c ≡ refusalBy 8
   unfolding stepRefusal
-  step-end g s p = first-skip _ _ g ∙ first-here _ _ (rw (eq-eqb (c .seen) (c .count) s) (eq-eqb (c .place) (length b) p))
+  step-end g s p = firstOf-skip _ _ g ∙ firstOf-here _ _ (rw (eq-eqb (c .seen) (c .count) s) (eq-eqb (c .place) (length b) p))
 
   pub step-over : badCursor b c ≡ false → c .seen ≡ c .count → (c .place ≡ length b → ⊥) → stepRefusal b c ≡ refusalBy 18
   unfolding stepRefusal
   step-over g s p =
       let e = eq-eqb (c .seen) (c .count) s in
-      first-skip _ _ g ∙ first-skip _ _ (rw e (ne-eqb (c .place) (length b) p)) ∙ first-here _ _ e
+      firstOf-skip _ _ g ∙ firstOf-skip _ _ (rw e (ne-eqb (c .place) (length b) p)) ∙ firstOf-here _ _ e
 
   pub step-no : badCursor b c ≡ false → (c .seen ≡ c .count → ⊥) → nextRead b c ≡ Nothing → stepRefusal b c ≡ refusalBy 18
   unfolding stepRefusal
   step-no g s r =
       let e = ne-eqb (c .seen) (c .count) s in
-      first-skip _ _ g ∙ first-skip _ _ (rw e) ∙ first-skip _ _ e ∙ first-here _ _ (rw r)
+      firstOf-skip _ _ g ∙ firstOf-skip _ _ (rw e) ∙ firstOf-skip _ _ e ∙ firstOf-here _ _ (rw r)
 
   pub step-none : badCursor b c ≡ false → (c .seen ≡ c .count → ⊥) → (v k : ℕ) → nextRead b c ≡ Ratio v k → stepRefusal b c ≡ noRefusal
   unfolding stepRefusal
   step-none g s v k r =
       let e = ne-eqb (c .seen) (c .count) s in
-      first-skip _ _ g ∙ first-skip _ _ (rw e) ∙ first-skip _ _ e ∙ first-skip _ _ (rw r) ∙ first-end
+      firstOf-skip _ _ g ∙ firstOf-skip _ _ (rw e) ∙ firstOf-skip _ _ e ∙ firstOf-skip _ _ (rw r) ∙ firstOf-end
 
   -- a refusal: the state stays
   pub step-refused : (n : ℕ) → eqb n 0 ≡ false → stepRefusal b c ≡ refusalBy n
@@ -116,8 +116,8 @@ module _ (b : List ℕ) (c : Cursor) where
     no : badCursor b c ≡ false → (c .seen ≡ c .count → ⊥) → nextRead b c ≡ Nothing → Outcome
     yes : (v k : ℕ) → badCursor b c ≡ false → (c .seen ≡ c .count → ⊥) → nextRead b c ≡ Ratio v k → Outcome
 
-  pub outcome : Outcome
-  outcome = go (badCursor b c) refl (eqb (c .seen) (c .count)) refl (eqb (c .place) (length b)) refl (nextRead b c) refl
+  pub step-outcome : Outcome
+  step-outcome = go (badCursor b c) refl (eqb (c .seen) (c .count)) refl (eqb (c .place) (length b)) refl (nextRead b c) refl
     where
       go : (g : Bool) → badCursor b c ≡ g → (s : Bool) → eqb (c .seen) (c .count) ≡ s → (p : Bool) → eqb (c .place) (length b) ≡ p
           → (r : Read) → nextRead b c ≡ r → Outcome
@@ -146,7 +146,7 @@ module _ (b : List ℕ) (c : Cursor) where
 
 -- the count stays
 pub step-count : (b : List ℕ) (c : Cursor) → stepCursor b c .count ≡ c .count
-step-count b c = go (outcome b c)
+step-count b c = go (step-outcome b c)
   where
     go : Outcome b c → stepCursor b c .count ≡ c .count
     go (bad g) = ap (λ (d : Cursor). d .count) (left-bad b c g .1)
@@ -169,7 +169,7 @@ moved-good b c v k e s r =
     })
 
 pub cursor-stays : CursorStays
-cursor-stays b c e = go (outcome b c)
+cursor-stays b c e = go (step-outcome b c)
   where
     go : Outcome b c → badCursor b (stepCursor b c) ≡ false
     go (bad g) = rw (left-bad b c g .1) e
@@ -261,11 +261,11 @@ started n = record { place = 0; count = n; seen = 0; window = freshWindow }
 module _ (n : ℕ) (b : List ℕ) where
   pub made-good : n ≤ maxPoints → (made n ≡ noRefusal) × (madeBody n b ≡ b) × (madeCursor n ≡ started n)
   unfolding made madeBody madeCursor
-  made-good h = let e : made n ≡ noRefusal = first-skip _ _ (le-ltb maxPoints n h) ∙ first-end in (e, rw e, rw e)
+  made-good h = let e : made n ≡ noRefusal = firstOf-skip _ _ (le-ltb maxPoints n h) ∙ firstOf-end in (e, rw e, rw e)
 
   pub made-refused : maxPoints < n → (made n ≡ refusalBy 15) × (madeBody n b ≡ []) × (madeCursor n ≡ started 0)
   unfolding made madeBody madeCursor
-  made-refused h = let e : made n ≡ refusalBy 15 = first-here _ _ (lt-ltb maxPoints n h) in (e, rw e, rw e)
+  made-refused h = let e : made n ≡ refusalBy 15 = firstOf-here _ _ (lt-ltb maxPoints n h) in (e, rw e, rw e)
 
 pub made-stays : MadeStays
 made-stays n b = go (ltb maxPoints n) refl
@@ -298,7 +298,7 @@ stepping-ends vs h hs =
 
 -- what a step that ends, and one that gives a ratio, say
 says-end : (b : List ℕ) (c : Cursor) → stepAnswer b c ≡ ended → c .place ≡ length b
-says-end b c e = go (outcome b c)
+says-end b c e = go (step-outcome b c)
   where
     number : {a : StepAnswer} → stepAnswer b c ≡ a → a .number ≡ 8
     number q = sym (ap (λ (a : StepAnswer). a .number) q) ∙ ap (λ (a : StepAnswer). a .number) e
@@ -312,7 +312,7 @@ says-end b c e = go (outcome b c)
 
 says-ratio : (b : List ℕ) (c : Cursor) (v : ℕ) → stepAnswer b c ≡ given v
     → (k : ℕ) × (badCursor b c ≡ false) × (nextRead b c ≡ Ratio v k) × (stepCursor b c ≡ moved c v k)
-says-ratio b c v e = go (outcome b c)
+says-ratio b c v e = go (step-outcome b c)
   where
     number : {a : StepAnswer} → stepAnswer b c ≡ a → a .number ≡ 0
     number q = sym (ap (λ (a : StepAnswer). a .number) q) ∙ ap (λ (a : StepAnswer). a .number) e
@@ -355,8 +355,26 @@ only-from b c (v ∷ vs) hb size below e =
     joins b (c .place) k (coded v w) (o .0) (codedFrom windowSize (push windowSize v w) vs) (o .1) (o .2)
     (others ∙ ap (λ (l : List ℕ). codedFrom windowSize l vs) p)
 
+-- a refused making gives a reader whose first step ends
+refused-ends : stepAnswer [] (started 0) ≡ ended
+refused-ends = left-end [] (started 0) (cursor-good [] (started 0) (record { window = refl; seen = omega arith; count = omega arith; place = omega arith })) refl refl .0
+
 pub stepping-only : SteppingOnly
-unfolding Below
-stepping-only b vs h hb e =
-    let m = made-good (length vs) b h in
-    only-from b (started (length vs)) vs hb refl tt (rw (m .1, m .2) at e)
+unfolding Below stepAnswers
+stepping-only b vs hb e = go (ltb maxPoints (length vs)) refl
+  where
+    no-first : (us : List ℕ) → maxPoints < length us → stepAnswers [] (started 0) (length us + 1) ≡ map given us ++ (ended ∷ []) → ⊥
+    no-first [] h q = omega arith
+    no-first (u ∷ us) h q =
+        let all : stepAnswer [] (started 0) ∷ stepAnswers [] (stepCursor [] (started 0)) (length us + 1) ≡ given u ∷ (map given us ++ (ended ∷ [])) = rw suc-add at q in
+        let first : stepAnswer [] (started 0) ≡ given u = ap (λ (l : List StepAnswer). getD l 0 ended) all in
+        omega (arith, ap (λ (a : StepAnswer). a .number) (sym refused-ends ∙ first))
+
+    go : (t : Bool) → ltb maxPoints (length vs) ≡ t → b ≡ codedRatios vs
+    go true t =
+        let h = ltb-true maxPoints (length vs) t in
+        let m = made-refused (length vs) b h in
+        absurd (no-first vs h (rw (m .1, m .2) at e))
+    go false t =
+        let m = made-good (length vs) b (ltb-false maxPoints (length vs) t) in
+        only-from b (started (length vs)) vs hb refl tt (rw (m .1, m .2) at e)

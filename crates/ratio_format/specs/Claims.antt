@@ -136,7 +136,7 @@ SteppingEnds = (vs : List ℕ) → length vs ≤ maxPoints → Below (2 ^ 64) vs
 
 -- "stepping is strict": a body through which a reader gives as many ratios as its count and then the end is their coding
 abbrev pub SteppingOnly : Type 0
-SteppingOnly = (b vs : List ℕ) → length vs ≤ maxPoints → Below 256 b
+SteppingOnly = (b vs : List ℕ) → Below 256 b
     → stepAnswers (madeBody (length vs) b) (madeCursor (length vs)) (length vs + 1) ≡ map given vs ++ (ended ∷ [])
     → b ≡ codedRatios vs
 

@@ -17,8 +17,8 @@ InSlot ps₀ i v ps n =
     (n ≤ 8) × (length ps ≡ cells) × ((j : ℕ) → j < n → getD ps (j * slots + i % slots) 0 ≡ byteOf v j)
     × ((m : ℕ) → (m % slots ≡ i % slots → ⊥) → getD ps m 0 ≡ getD ps₀ m 0)
 
-pub in-slot-none : (ps : List ℕ) (i v : ℕ) → length ps ≡ cells → InSlot ps i v ps 0
-in-slot-none ps i v e = (omega arith, e, λ j h. absurd (omega arith), λ m n. refl)
+pub in-slot-start : (ps : List ℕ) (i v : ℕ) → length ps ≡ cells → InSlot ps i v ps 0
+in-slot-start ps i v e = (omega arith, e, λ j h. absurd (omega arith), λ m n. refl)
 
 module _ (ps₀ ps : List ℕ) (i v n b : ℕ) (p : InSlot ps₀ i v ps n) (h : n < 8) (e : b ≡ byteOf v n) where
   abbrev at : ℕ
@@ -72,5 +72,5 @@ kept-set ps l n i v h p =
     (p .0, λ j k x y z. p .1 j k x y z ∙ ap (λ (u : ℕ). byteOf u j) (sym (getD-set-other l i k v 0 (λ q. omega arith))))
 
 -- before the first ratio
-pub kept-none : (ps l : List ℕ) → length ps ≡ cells → Kept ps l 0
-kept-none ps l e = (e, λ j k x y z. absurd (omega arith))
+pub kept-start : (ps l : List ℕ) → length ps ≡ cells → Kept ps l 0
+kept-start ps l e = (e, λ j k x y z. absurd (omega arith))

@@ -11,8 +11,8 @@ use Rattle.ratio_format.specs.Zeros.{sumOf}
 use Rattle.ratio_window.specs.Passed.{Passed}
 
 module _ (v : ℕ) (l : List ℕ) where
-  pub passed-none : (s a : ℕ) → Passed v l s a a
-  passed-none s a k h g = absurd (omega arith)
+  pub passed-start : (s a : ℕ) → Passed v l s a a
+  passed-start s a k h g = absurd (omega arith)
 
   pub passed-join : (s a b c : ℕ) → Passed v l s a b → Passed v l s b c → Passed v l s a c
   passed-join s a b c p q k h g = go (leb b k) refl

@@ -15,11 +15,11 @@ use Rattle.lists.proofs.Below.{below-of}
 use Rattle.limits.specs.Points.{maxPoints}
 use Rattle.refusals.specs.declared.Refusal.{Refusal}
 use Rattle.refusals.specs.Tests.{firstOf}
-use Rattle.refusals.proofs.Tests.{first-end, first-skip, first-here}
+use Rattle.refusals.proofs.Tests.{firstOf-end, firstOf-skip, firstOf-here}
 use Rattle.ratio_format.specs.Choice.{find, best}
 use Rattle.ratio_format.specs.Windows.{windowSize}
 use Rattle.ratio_format.specs.Zeros.{equalSum, leadZeros, trailZeros}
-use Rattle.ratio_format.proofs.Choice.{found, best-at, bestXor}
+use Rattle.ratio_format.proofs.Choice.{best-find, best-at, bestXor}
 use Rattle.ratio_format.proofs.Windows.{reverse-back, reverse-below, window-few}
 use Rattle.ratio_format.proofs.Zeros.{lead-le, trail-le}
 use Rattle.reasons.specs.declared.Reason.{Reason}
@@ -56,10 +56,10 @@ module _ (v : ℕ) (w : List ℕ) (hv : v < 2 ^ 64) (ha : Below (2 ^ 64) w) wher
       ⊎-elim
       (λ a. rw (lt-ltb (find v w) (length w) (a .2)) (ap Reference (a .1)))
       (λ b. absurd (omega arith))
-      (found v w hv ha)
+      (best-find v w hv ha)
 
   absent : (best v w .sum ≡ equalSum → ⊥) → ltb (find v w) (length w) ≡ false
-  absent n = ⊎-elim (λ a. absurd (n (a .0))) (λ b. le-ltb (find v w) (length w) (omega arith)) (found v w hv ha)
+  absent n = ⊎-elim (λ a. absurd (n (a .0))) (λ b. le-ltb (find v w) (length w) (omega arith)) (best-find v w hv ha)
 
   pub reason-xor : (best v w .sum ≡ equalSum → ⊥) → 2 ≤ best v w .sum → reasonOf v w ≡ xorReason (best v w .place) (bestXor v w)
   unfolding reasonOf
@@ -78,25 +78,25 @@ module _ (l : List ℕ) (v p s : ℕ) (known : (k : ℕ) → getD l k 0 < 2 ^ 64
   all64 : Below (2 ^ 64) (reverse l)
   all64 = reverse-below (2 ^ 64) l (below-of (2 ^ 64) l known)
 
-  pub slice-reference : s ≡ equalSum → Reference p ≡ reasonOf v (reverse l)
-  slice-reference e = ap Reference place ∙ sym (reason-reference v (reverse l) v64 all64 (sym sum ∙ e))
+  pub sliced-reference : s ≡ equalSum → Reference p ≡ reasonOf v (reverse l)
+  sliced-reference e = ap Reference place ∙ sym (reason-reference v (reverse l) v64 all64 (sym sum ∙ e))
 
-  pub slice-in : 2 ≤ s → p < length l
-  slice-in h = omega (arith, place, sum, best-at v (reverse l) (omega (arith, sum)) .0, length-reverse l)
+  pub sliced-in : 2 ≤ s → p < length l
+  sliced-in h = omega (arith, place, sum, best-at v (reverse l) (omega (arith, sum)) .0, length-reverse l)
 
-  pub slice-xor : (s ≡ equalSum → ⊥) → 2 ≤ s → (a b : ℕ) → let x = bitXor v (getD l (length l - 1 - p) 0) in
+  pub sliced-xor : (s ≡ equalSum → ⊥) → 2 ≤ s → (a b : ℕ) → let x = bitXor v (getD l (length l - 1 - p) 0) in
       a ≡ leadZeros x → b ≡ trailZeros x → Xor p a b ≡ reasonOf v (reverse l)
-  slice-xor n h a b ea eb =
+  sliced-xor n h a b ea eb =
       let same : bestXor v (reverse l) ≡ bitXor v (getD l (length l - 1 - p) 0) =
-      ap (λ (k : ℕ). bitXor v (getD (reverse l) k 0)) (sym place) ∙ ap (bitXor v) (reverse-back l p (slice-in h)) in
+      ap (λ (k : ℕ). bitXor v (getD (reverse l) k 0)) (sym place) ∙ ap (bitXor v) (reverse-back l p (sliced-in h)) in
       let e = reason-xor v (reverse l) v64 all64 (λ e. n (sum ∙ e)) (omega (arith, sum)) in
       cc (same, place, e, ea, eb)
 
-  pub slice-empty : s < 2 → length l ≡ 0 → Empty ≡ reasonOf v (reverse l)
-  slice-empty h e = sym (reason-empty v (reverse l) v64 all64 (omega (arith, sum)) (length-reverse l ∙ e))
+  pub sliced-empty : s < 2 → length l ≡ 0 → Empty ≡ reasonOf v (reverse l)
+  sliced-empty h e = sym (reason-empty v (reverse l) v64 all64 (omega (arith, sum)) (length-reverse l ∙ e))
 
-  pub slice-exception : s < 2 → (length l ≡ 0 → ⊥) → Exception s ≡ reasonOf v (reverse l)
-  slice-exception h n = ap Exception sum ∙ sym (reason-exception v (reverse l) v64 all64 (omega (arith, sum)) (λ e. n (sym (length-reverse l) ∙ e)))
+  pub sliced-exception : s < 2 → (length l ≡ 0 → ⊥) → Exception s ≡ reasonOf v (reverse l)
+  sliced-exception h n = ap Exception sum ∙ sym (reason-exception v (reverse l) v64 all64 (omega (arith, sum)) (λ e. n (sym (length-reverse l) ∙ e)))
 
 -- ---- the whole answer
 
@@ -106,14 +106,14 @@ module _ (vs : List ℕ) (i : ℕ) where
   answered e = ap (λ (f : Refusal). reasonBy f (reasonOf (getD vs i 0) (windowAt vs i))) e
 
   pub explained-many : maxPoints < length vs → explained vs i ≡ Refused 3 0
-  explained-many h = answered (first-here _ _ (lt-ltb _ _ h))
+  explained-many h = answered (firstOf-here _ _ (lt-ltb _ _ h))
 
   module _ (few : length vs ≤ maxPoints) where
     pub explained-past : length vs ≤ i → explained vs i ≡ Refused 22 0
-    explained-past h = answered (first-skip _ _ (le-ltb _ _ few) ∙ first-here _ _ (ap not (le-ltb i (length vs) h)))
+    explained-past h = answered (firstOf-skip _ _ (le-ltb _ _ few) ∙ firstOf-here _ _ (ap not (le-ltb i (length vs) h)))
 
     pub explained-here : i < length vs → explained vs i ≡ reasonOf (getD vs i 0) (windowAt vs i)
-    explained-here h = answered (first-skip _ _ (le-ltb _ _ few) ∙ first-skip _ _ (ap not (lt-ltb i (length vs) h)) ∙ first-end)
+    explained-here h = answered (firstOf-skip _ _ (le-ltb _ _ few) ∙ firstOf-skip _ _ (ap not (lt-ltb i (length vs) h)) ∙ firstOf-end)
 
 -- ---- its numbers are small
 

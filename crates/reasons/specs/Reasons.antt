@@ -3,6 +3,7 @@
 --   reasonOf v w      why v, against the window w, newest first, takes the bytes that it takes
 --   windowAt vs i     the window of the ratio of index i among the ratios vs
 --   explainTests vs i the tests of the call in their order: 3, 22
+--   reasonBy f r      the refusal f, or the reason r where there is none
 --   explained vs i    the whole answer: the reason for the ratio of index i, or the refusal
 use mathlib.Core.Bool.{not, cond}
 use mathlib.Core.List.{List, [], _∷_}

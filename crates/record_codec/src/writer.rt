@@ -9,13 +9,14 @@ ghost use Rattle.position_format.specs.Positions.{validPositions};
 ghost use Rattle.position_format.specs.Tables.{tableOf};
 ghost use Rattle.refusals.specs.Tests.{firstOf};
 ghost use Rattle.record_format.specs.Runs.{run, recordOf};
-ghost use Rattle.record_format.specs.Writing.{stepTests, runTests, writeAnswer, writeOutput};
+ghost use Rattle.record_format.specs.Writing.{outsideTests, runTests, writeAnswer, writeOutput};
 use outputs::Wrote;
+use outputs::sum_of;
 use position_format::Form;
 use record_format::WriteAnswer;
 use record_parts::coding::Coding;
 use record_parts::coding::points_of;
-use record_parts::putting::put_coded_next;
+use record_parts::putting::put_coded;
 use record_parts::putting::put_lead;
 use refusals::Refusal;
 
@@ -31,14 +32,19 @@ fn put_record(
     requires { ⌜ (validPositions (tableOf form) (now positions) ≡ true) × (length (now positions) ≤ maxPoints) × (length (now ratios) ≤ maxPoints) ⌝ }
     ensures { λ r. ⌜ Placed (recordOf (run rate side form (now (positions .entry)) (now (ratios .entry)))) r (now (out .entry)) (now (out .exit)) ⌝ }
 {
-    let lead_end = put_lead(rate, side, form, positions, out);
-    put_coded_next(lead_end, Coding::Ratios, ratios, out)
+    let Wrote::Done(lead_end) = put_lead(rate, side, form, positions, out) else {
+        return Wrote::NoRoom;
+    };
+    sum_of(
+        lead_end,
+        put_coded(Coding::Ratios, ratios, &mut out[lead_end..]),
+    )
 }
 
 // The refusal of positions by a step that document 01's table does not hold: 5.
-pub(crate) fn old_steps(positions: &[u64]) -> Refusal
+fn old_steps(positions: &[u64]) -> Refusal
     requires { ⌜ (length (now positions) ≤ firstHigh (now positions)) × (length (now positions) ≤ maxPoints) ⌝ }
-    ensures { λ r. ⌜ r ≡ firstOf (stepTests Form.Old (now (positions .entry))) ⌝ }
+    ensures { λ r. ⌜ r ≡ firstOf (outsideTests Form.Old (now (positions .entry))) ⌝ }
 {
     let outside = position_codec::first_outside(positions);
     if outside < positions.len() {
@@ -54,9 +60,9 @@ pub(crate) fn old_steps(positions: &[u64]) -> Refusal
 }
 
 // The same in a form: the wide one has a code for every step.
-fn check_steps(form: Form, positions: &[u64]) -> Refusal
+pub(crate) fn check_steps(form: Form, positions: &[u64]) -> Refusal
     requires { ⌜ (length (now positions) ≤ firstHigh (now positions)) × (length (now positions) ≤ maxPoints) ⌝ }
-    ensures { λ r. ⌜ r ≡ firstOf (stepTests form (now (positions .entry))) ⌝ }
+    ensures { λ r. ⌜ r ≡ firstOf (outsideTests form (now (positions .entry))) ⌝ }
 {
     match form {
         Form::Old => old_steps(positions),

@@ -19,7 +19,7 @@ use Rattle.bits.specs.Digits.{bytesOf, numberOf}
 use Rattle.bits.proofs.Digits.{number-digits-lt}
 use Rattle.limits.proofs.Rates.{rate-high}
 use Rattle.refusals.specs.Tests.{Test, firstOf}
-use Rattle.refusals.proofs.Tests.{first-skip, first-clear}
+use Rattle.refusals.proofs.Tests.{firstOf-skip, firstOf-clear}
 use Rattle.outputs.specs.Outputs.{over}
 use Rattle.position_format.specs.declared.Form.{Form}
 use Rattle.position_format.specs.declared.Form.the-variants.{Old, Wide}
@@ -36,12 +36,13 @@ use Rattle.ratio_format.proofs.Bodies.Strict.{strict-coded}
 use Rattle.record_format.specs.Fields.{Field, fieldBytes, laid}
 use Rattle.record_format.specs.Runs.{Run, formOf, ratiosTag, rateSize, countSize, sideFields, positionsField, ratiosField, frontFields, fieldsOf, recordOf}
 use Rattle.record_format.specs.Writing.{runTests, accepts}
-use Rattle.record_format.specs.Reading.{Answer, refusalAnswer, recordAnswer, answerBy, readTests, readWith, readStrict, readOpen, formIn, listOf, otherRate}
+use Rattle.record_format.specs.Reading.{Answer, refusalAnswer, recordAnswer, answerBy, readTests, readWith, readStrict, readOpen, blank, formIn, listOf, otherRate}
 use Rattle.record_format.specs.Moves.{Move, moveOf}
 use Rattle.record_format.specs.Claims.{Accepted, AllAccepted, joined, ownTests, ownAnswer, runAnswer, ReadsBack, ReadsOnly, AcceptsExactly, OpenAgrees, Writes, ReadsWhole, ReadsFront, PrefixFree, ListsApart, TrailingBytes, Shortest, NineEach}
 use Rattle.record_format.proofs.Fields.{fieldIn, closed, closed-append, laid-same}
 use Rattle.record_format.proofs.Reading.{room-enough, answer-clear, answer-good}
 use Rattle.record_format.proofs.Runs.{same-run, form-of, rateIndex, countIndex, positionsIndex, ratiosIndex, fields-small}
+use Rattle.record_format.proofs.Reading.Rooms.{roomy}
 use Rattle.record_format.proofs.Reading.Sides.{sides-same}
 use Rattle.record_format.proofs.Claims.Returned.{read-record}
 use Rattle.record_format.proofs.Claims.Admitted.{front-stands, accepted-begins}
@@ -126,19 +127,25 @@ module _ (r : Run) (e : ℕ) (ts vs : List ℕ) where
   own-clear : (e ≡ 0) ⊎ (e ≡ r .rate) → length (r .positions) ≤ length ts → length (r .positions) ≤ length vs → runAnswer r e ts vs ≡ ownAnswer r ts vs
   own-clear o m n =
       answer-good (ownAnswer r ts vs) ts vs (ownTests r e (length ts) (length vs))
-      (first-skip _ _ (no-other e (r .rate) o)
-      ∙ first-skip _ _ (ap₂ (λ (a b : Bool). cond a true b) (le-ltb _ _ m) (le-ltb _ _ n)))
+      (firstOf-skip _ _ (no-other e (r .rate) o)
+      ∙ firstOf-skip _ _ (ap₂ (λ (a b : Bool). cond a true b) (le-ltb _ _ m) (le-ltb _ _ n)))
 
   own-only : runAnswer r e ts vs .answer .number ≡ 0 → ((e ≡ 0) ⊎ (e ≡ r .rate)) × (length (r .positions) ≤ length ts) × (length (r .positions) ≤ length vs)
   own-only h =
-      let a = first-clear _ _ (lit< tt) (answer-clear (ownTests r e (length ts) (length vs)) (ownAnswer r ts vs) ts vs h) in
-      let b = first-clear _ _ (lit< tt) (a .1) in
+      let a = firstOf-clear _ _ (lit< tt) (answer-clear (ownTests r e (length ts) (length vs)) (ownAnswer r ts vs) ts vs h) in
+      let b = firstOf-clear _ _ (lit< tt) (a .1) in
       let c = room-enough (length ts) (length vs) (length (r .positions)) (b .0) in
       (other-none e (r .rate) (a .0), c .0, c .1)
 
 -- with room, and no other rate expected, the answer is the run's own
 pub with-room : (r : Run) (ts vs : List ℕ) → length (r .positions) ≤ length ts → length (r .positions) ≤ length vs → runAnswer r 0 ts vs ≡ ownAnswer r ts vs
 with-room r ts vs m n = own-clear r 0 ts vs (inl refl) m n
+
+-- so with room for every run
+pub reads-blank : (r : Run) → Accepted r → (rest : List ℕ) → readStrict 0 (recordOf r ++ rest) blank blank ≡ ownAnswer r blank blank
+reads-blank r a rest =
+    let few = fitting-few r (accepted-fits r (a .passes)) in
+    reads-back r a 0 rest blank blank .0 ∙ with-room r blank blank (roomy (length (r .positions)) few) (roomy (length (r .positions)) few)
 
 pub accepts-exactly : AcceptsExactly
 accepts-exactly e s ts vs bytes = (
@@ -230,16 +237,16 @@ fields-closed r =
     (points-closed (r .form) (r .positions) (r .ratios))
 
 -- bytes that begin with the records of two runs: the runs are the same, and so is what follows
-pub unique : (r q : Run) → Accepted r → Accepted q → (x y : List ℕ) → recordOf r ++ x ≡ recordOf q ++ y → (r ≡ q) × (x ≡ y)
+pub records-unique : (r q : Run) → Accepted r → Accepted q → (x y : List ℕ) → recordOf r ++ x ≡ recordOf q ++ y → (r ≡ q) × (x ≡ y)
 unfolding recordOf
-unique r q a b x y e =
+records-unique r q a b x y e =
     let h = laid-same isLast (fieldsOf r) (fieldsOf q) (fields-small r (accepted-fits r (a .passes))) (fields-small q (accepted-fits q (b .passes))) (fields-closed r) (fields-closed q) x y e in
     (same-fields r q a b (h .0), h .1)
 
 pub prefix-free : PrefixFree
 prefix-free r q a b n = (
-  λ t. n (unique r q a b (t .0) [] (sym (t .1) ∙ sym (append-nil (recordOf q))) .0),
-  λ t. n (unique r q a b [] (t .0) (append-nil (recordOf r) ∙ t .1) .0),
+  λ t. n (records-unique r q a b (t .0) [] (sym (t .1) ∙ sym (append-nil (recordOf q))) .0),
+  λ t. n (records-unique r q a b [] (t .0) (append-nil (recordOf r) ∙ t .1) .0),
 )
 
 -- a record is not empty
@@ -253,7 +260,7 @@ apart [] [] a b e = refl
 apart [] (q ∷ qs) a b e = absurd (filled q (joined qs) e)
 apart (r ∷ rs) [] a b e = absurd (filled r (joined rs) (sym e))
 apart (r ∷ rs) (q ∷ qs) a b e =
-    let h = unique r q (a .0) (b .0) (joined rs) (joined qs) e in
+    let h = records-unique r q (a .0) (b .0) (joined rs) (joined qs) e in
     ap₂ (λ (p : Run) (l : List Run). p ∷ l) (h .0) (apart rs qs (a .1) (b .1) (h .1))
 
 pub lists-apart : ListsApart

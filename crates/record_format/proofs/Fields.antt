@@ -49,7 +49,7 @@ laid-one f = append-nil (fieldBytes f)
 
 -- the field f stands at the offset p of the bytes s
 pub record FieldStands (s : List ℕ) (p : ℕ) (f : Field) : Type 0 where
-  pub head : p + headSize ≤ length s
+  pub head-whole : p + headSize ≤ length s
   pub tagged : tagAt s p ≡ f .tag
   pub stated : lengthAt s p ≡ length (f .body)
   pub whole : nextAt s p ≤ length s
@@ -101,9 +101,9 @@ module _ (before : List ℕ) (f : Field) (rest : List ℕ) (small : length (f .b
   length-here : length here ≡ p + length (fieldBytes f) + length rest
   length-here = length-append before (fieldBytes f ++ rest) ∙ omega (arith, length-append (fieldBytes f) rest)
 
-  pub stands : FieldStands here p f
-  stands = record {
-    head = omega (arith, length-here, length-field f);
+  pub field-stands : FieldStands here p f
+  field-stands = record {
+    head-whole = omega (arith, length-here, length-field f);
     tagged = tag-at;
     stated = length-at;
     whole = omega (arith, length-here, next-at);
@@ -158,7 +158,7 @@ laid-stand before (f ∷ fs) rest small = go (laid-stand (before ++ fieldBytes f
     go : StandAll ((before ++ fieldBytes f) ++ (laid fs ++ rest)) (length (before ++ fieldBytes f)) fs
         → StandAll (before ++ (laid (f ∷ fs) ++ rest)) (length before) (f ∷ fs)
     go h =
-        let here = stands before f (laid fs ++ rest) (small .0) in
+        let here = field-stands before f (laid fs ++ rest) (small .0) in
         let e : nextAt (before ++ (fieldBytes f ++ (laid fs ++ rest))) (length before) ≡ length (before ++ fieldBytes f) =
         here .next ∙ sym (length-append before (fieldBytes f)) in
         rw first (here, rw e (subst (λ (l : List ℕ). StandAll l (length (before ++ fieldBytes f)) fs) later h))
@@ -196,8 +196,8 @@ cancel a x y e = sym (drop-append-seam a x) ∙ ap (drop (length a)) e ∙ drop-
 
 pub field-same : (f g : Field) → length (f .body) ≤ maxBody → length (g .body) ≤ maxBody → (x y : List ℕ) → fieldBytes f ++ x ≡ fieldBytes g ++ y → (f ≡ g) × (x ≡ y)
 field-same f g m n x y e =
-    let a = stands [] f x m in
-    let b = stands [] g y n in
+    let a = field-stands [] f x m in
+    let b = field-stands [] g y n in
     let t : f .tag ≡ g .tag = sym (a .tagged) ∙ ap (λ (l : List ℕ). tagAt l 0) e ∙ b .tagged in
     let c : f .body ≡ g .body = sym (a .within) ∙ ap (λ (l : List ℕ). bodyAt l 0) e ∙ b .within in
     let h : f ≡ g = ap₂ fieldOf t c in
@@ -352,25 +352,13 @@ module _ (s rest : List ℕ) (p : ℕ) where
       ap₂ take (length-same (head-within whole)) (drop-append-le (p + headSize) s rest (head-within whole))
       ∙ take-append-le (lengthAt s p) (drop (p + headSize) s) rest (subst (λ (n : ℕ). lengthAt s p ≤ n) (sym (length-drop (p + headSize) s)) (omega (arith, whole)))
 
--- ---- nor in fields that follow one another: n of them, from the offset p on, are whole in s
+-- ---- fields that follow one another: n of them, from the offset p on, are whole in s
 
 field-later : (s : List ℕ) (p n : ℕ) → p ≤ fieldAt s p n
 field-later s p zero = omega arith
 field-later s p (suc n) = omega (arith, next-later s p, field-later s (nextAt s p) n)
 
-first-whole : (s : List ℕ) (p n : ℕ) → fieldAt s p (suc n) ≤ length s → nextAt s p ≤ length s
-first-whole s p n whole = omega (arith, field-later s (nextAt s p) n)
-
--- each of them is whole
-pub field-whole : (s : List ℕ) (p n : ℕ) → fieldAt s p n ≤ length s → (k : ℕ) → k < n → nextAt s (fieldAt s p k) ≤ length s
-field-whole s p zero whole k h = absurd (omega arith)
-field-whole s p (suc n) whole zero h = first-whole s p n whole
-field-whole s p (suc n) whole (suc k) h = field-whole s (nextAt s p) n whole k (omega arith)
-
--- and stands at the same offset where s is followed by more, so that its tag, its length and its body are the same
-pub field-at-same : (s rest : List ℕ) (p n : ℕ) → fieldAt s p n ≤ length s → (k : ℕ) → k ≤ n → fieldAt (s ++ rest) p k ≡ fieldAt s p k
-field-at-same s rest p n whole zero h = refl
-field-at-same s rest p zero whole (suc k) h = absurd (omega arith)
-field-at-same s rest p (suc n) whole (suc k) h =
-    ap (λ (q : ℕ). fieldAt (s ++ rest) q k) (next-same s rest p (head-within s rest p (first-whole s p n whole)))
-    ∙ field-at-same s rest (nextAt s p) n whole k (omega arith)
+-- then the first is whole
+pub first-whole : (s : List ℕ) (p n : ℕ) → 0 < n → fieldAt s p n ≤ length s → nextAt s p ≤ length s
+first-whole s p zero some whole = absurd (omega arith)
+first-whole s p (suc n) some whole = omega (arith, field-later s (nextAt s p) n)

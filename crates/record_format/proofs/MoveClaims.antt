@@ -1,6 +1,6 @@
 -- What moves do, proved of the definitions.
 use mathlib.Core.Path.{_≡_, refl, sym, ap, _∙_, subst}
-use mathlib.Core.Bool.{Bool, true, false, not, cond}
+use mathlib.Core.Bool.{Bool, true, false, cond}
 use mathlib.Core.List.{List, [], _∷_, _++_, append-nil}
 use mathlib.Core.Logic.{_⊎_, inl, inr}
 use Prim.Native.Nat.{ℕ, zero, suc, _+_, _-_, _≤_, _<_}
@@ -10,12 +10,11 @@ use borrow.Author.Tests.{eqb-true, le-ltb, lt-ltb, leb-true, leb-false, ltb-fals
 use lib.Dec.{ltb, leb, eqb, lit<, eqb·suc-zero}
 use lib.ListN.{length, getD, take, drop, length-drop}
 use lib.Seq.{take-at, getD-drop}
-use Rattle.lists.specs.Compare.{both}
 use Rattle.lists.proofs.Compare.{both-true}
 use Rattle.limits.specs.Points.{maxPoints}
 use Rattle.refusals.specs.declared.Refusal.{Refusal}
-use Rattle.refusals.specs.Tests.{Test, test, firstOf, refused}
-use Rattle.refusals.proofs.Tests.{first-here, first-skip, first-end, first-clear, first-append-clear}
+use Rattle.refusals.specs.Tests.{Test, test, refusal, firstOf}
+use Rattle.refusals.proofs.Tests.{firstOf-here, firstOf-skip, firstOf-end, firstOf-clear, firstOf-append-clear}
 use Rattle.position_format.specs.declared.Form.{Form}
 use Rattle.position_format.specs.declared.Form.the-variants.{Old, Wide}
 use Rattle.position_format.specs.Rows.{rows, inTable}
@@ -27,8 +26,8 @@ use Rattle.record_format.specs.Runs.{Run, positionsTag, recordOf}
 use Rattle.record_format.specs.Reading.{Answer, recordAnswer, readTests, readStrict, readWith, positionsAt, rateIn, sideIn, countIn, frontTests}
 use Rattle.record_format.specs.Moves.{Move, otherForm, inForm, runIn, sourceTests, targetTests, moveTests, moveOf}
 use Rattle.record_format.specs.Claims.{Accepted, Bytes, Beginning, ownTests, runAnswer}
-use Rattle.record_format.specs.MoveClaims.{notMoved, movedTo, ByRoom, ToWide, Held, ToOld, FormThere, StrictFirst, MovesOnly, MovesBack, ReadsAlike, MovesWhole}
-use Rattle.record_format.proofs.Reading.{refusal, front-numbered}
+use Rattle.record_format.specs.MoveClaims.{notMoved, movedTo, ByRoom, ToWide, StepHeld, ToOld, FormThere, StrictFirst, MovesOnly, MovesBack, ReadsAlike, MovesWhole}
+use Rattle.record_format.proofs.Reading.{front-numbered}
 use Rattle.record_format.proofs.Claims.Admitted.{FrontSound, front-clear, front-splits, clear-begins}
 use Rattle.record_format.proofs.Reading.Sides.{side-follows}
 use Rattle.record_format.proofs.Moves.{other-other, headOf, source-form, source-strict, target-numbered, runMoveTests, source-refused, move-done, move-clear, move-short, moved-fits, fits-target, ownMove, own-run, own-move, own-target, own-room, own-done, own-form}
@@ -58,14 +57,14 @@ module _ (f : Form) (r : Run) (a : Accepted r) (other : r .form ≡ otherForm f)
 
 pub to-wide : ToWide
 to-wide r a e rest o = (
-  λ many. by-target Wide r a e rest o 3 0 (first-here _ _ (lt-ltb _ _ many)) (λ z. omega arith),
+  λ many. by-target Wide r a e rest o 3 0 (firstOf-here _ _ (lt-ltb _ _ many)) (λ z. omega arith),
   λ few.
-      let clear = ap (λ (g : Refusal). g .number) (first-skip (test (ltb 3500 (length (r .positions))) 3 0) [] (le-ltb _ _ few) ∙ first-end) in
+      let clear = ap (λ (g : Refusal). g .number) (firstOf-skip (test (ltb 3500 (length (r .positions))) 3 0) [] (le-ltb _ _ few) ∙ firstOf-end) in
       (there Wide r a e rest o clear, by-room Wide r a e rest o clear),
 )
 
 -- steps that the table holds from the third point on, up to the point of index k + 2
-held-to : (ts : List ℕ) (k : ℕ) → ((i : ℕ) → 2 ≤ i → i < k + 2 → Held ts i) → k + 2 ≤ length ts → k + 2 ≤ firstOutside rows ts
+held-to : (ts : List ℕ) (k : ℕ) → ((i : ℕ) → 2 ≤ i → i < k + 2 → StepHeld ts i) → k + 2 ≤ length ts → k + 2 ≤ firstOutside rows ts
 held-to ts zero all h = omega arith
 held-to ts (suc k) all h =
     let so-far = held-to ts k (λ i a b. all i a (omega arith)) (omega arith) in
@@ -73,7 +72,7 @@ held-to ts (suc k) all h =
     omega arith
 
 -- and of every point
-held-all : (ts : List ℕ) → ((i : ℕ) → 2 ≤ i → i < length ts → Held ts i) → length ts ≤ firstOutside rows ts
+held-all : (ts : List ℕ) → ((i : ℕ) → 2 ≤ i → i < length ts → StepHeld ts i) → length ts ≤ firstOutside rows ts
 held-all ts all = go (leb 2 (length ts)) refl
   where
     go : (b : Bool) → leb 2 (length ts) ≡ b → length ts ≤ firstOutside rows ts
@@ -86,7 +85,7 @@ held-all ts all = go (leb 2 (length ts)) refl
         omega arith
 
 -- the first point whose step it does not hold
-not-held : (ts : List ℕ) (p : ℕ) → 2 ≤ p → p < length ts → (Held ts p → ⊥) → ((i : ℕ) → 2 ≤ i → i < p → Held ts i) → p ≡ firstOutside rows ts
+not-held : (ts : List ℕ) (p : ℕ) → 2 ≤ p → p < length ts → (StepHeld ts p → ⊥) → ((i : ℕ) → 2 ≤ i → i < p → StepHeld ts i) → p ≡ firstOutside rows ts
 not-held ts p two here out all = go (inTable rows (stepHere ts p)) refl
   where
     go : (b : Bool) → inTable rows (stepHere ts p) ≡ b → p ≡ firstOutside rows ts
@@ -102,9 +101,9 @@ to-old r a e rest o =
       λ p two here out all.
           let is = not-held ts p two here out all in
           by-target Old r a e rest o 5 p
-          (first-here (test (ltb (firstOutside rows ts) (length ts)) 5 (firstOutside rows ts)) [] (lt-ltb _ _ (subst (λ (n : ℕ). n < length ts) is here)) ∙ ap (refusal 5) (sym is)) (λ z. omega arith),
+          (firstOf-here (test (ltb (firstOutside rows ts) (length ts)) 5 (firstOutside rows ts)) [] (lt-ltb _ _ (subst (λ (n : ℕ). n < length ts) is here)) ∙ ap (refusal 5) (sym is)) (λ z. omega arith),
       λ all.
-          let clear = ap (λ (g : Refusal). g .number) (first-skip (test (ltb (firstOutside rows ts) (length ts)) 5 (firstOutside rows ts)) [] (le-ltb _ _ (held-all ts all)) ∙ first-end) in
+          let clear = ap (λ (g : Refusal). g .number) (firstOf-skip (test (ltb (firstOutside rows ts) (length ts)) 5 (firstOutside rows ts)) [] (le-ltb _ _ (held-all ts all)) ∙ firstOf-end) in
           (there Old r a e rest o clear, by-room Old r a e rest o clear),
     )
 
@@ -160,14 +159,14 @@ moved-run f r a rest o h = go (by-form f (r .form))
         let fit = accepted-fits r (a .passes) in
         let run-clear : firstOf (runMoveTests f r o) .number ≡ 0 =
         sym (ap (λ (q : Run). firstOf (runMoveTests f q o) .number) (own-run f r fit (a .words) rest e)) ∙ move-clear f (recordOf r ++ rest) o h .1 in
-        let c = first-append-clear (targetTests f (r .positions)) (test (ltb (length o) (length (recordOf (inForm f r)))) 6 0 ∷ []) (target-numbered f (r .positions)) run-clear in
-        let room : length (recordOf (inForm f r)) ≤ length o = ltb-false _ _ (first-clear (test (ltb (length o) (length (recordOf (inForm f r)))) 6 0) [] (lit< tt) (c .1) .0) in
+        let c = firstOf-append-clear (targetTests f (r .positions)) (test (ltb (length o) (length (recordOf (inForm f r)))) 6 0 ∷ []) (target-numbered f (r .positions)) run-clear in
+        let room : length (recordOf (inForm f r)) ≤ length o = ltb-false _ _ (firstOf-clear (test (ltb (length o) (length (recordOf (inForm f r)))) 6 0) [] (lit< tt) (c .1) .0) in
         (e, there f r a e rest o (c .0), room, by-room f r a e rest o (c .0) .1 room)
 
 pub moves-only : MovesOnly
 moves-only f s o bytes h =
     let clear = move-clear f s o h .0 in
-    let front = first-append-clear (frontTests 0 s) _ (front-numbered 0 s) clear .0 in
+    let front = firstOf-append-clear (frontTests 0 s) _ (front-numbered 0 s) clear .0 in
     let read = sym (ap (λ (g : Refusal). g .number) (source-strict f s maxPoints maxPoints (omega arith) (omega arith) (λ z. other clear z (headOf f s) refl))) ∙ clear in
     let b = clear-begins 0 s maxPoints maxPoints bytes read in
     let r = b .own in
@@ -188,7 +187,7 @@ moves-back f s o bytes h rest p =
     let q = inForm f r in
     let same : inForm (otherForm f) q ≡ r = ap (λ (g : Form). inForm g r) (sym (w .2)) in
     let fit = subst Fitting (sym same) (accepted-fits r (w .1 .passes)) in
-    let clear = ap (λ (g : Refusal). g .number) (fits-target (otherForm f) r fit ∙ first-end) in
+    let clear = ap (λ (g : Refusal). g .number) (fits-target (otherForm f) r fit ∙ firstOf-end) in
     let room : ByRoom (otherForm f) q r rest p = subst (λ (x : Run). ByRoom (otherForm f) q x rest p) same (by-room (otherForm f) q (w .4) (sym (other-other f)) rest p clear) in
     let written : take (length (recordOf q)) (recordOf q ++ drop (length (recordOf q)) o) ≡ recordOf q = take-at (recordOf q) _ (length (recordOf q)) refl in
     let used : take (length (recordOf r)) s ≡ recordOf r = ap (take (length (recordOf r))) (w .3 .1) ∙ take-at (recordOf r) (w .3 .0) (length (recordOf r)) refl in
@@ -255,9 +254,9 @@ moved-within f s o = go (moveOf f s o .answer .number) refl
   where
     go : (n : ℕ) → moveOf f s o .answer .number ≡ n → moveOf f s o .answer .length ≤ length o
     go zero e =
-        let c = first-append-clear (targetTests f (runIn s .positions)) (test (ltb (length o) (length (recordOf (inForm f (runIn s))))) 6 0 ∷ [])
+        let c = firstOf-append-clear (targetTests f (runIn s .positions)) (test (ltb (length o) (length (recordOf (inForm f (runIn s))))) 6 0 ∷ [])
         (target-numbered f (runIn s .positions)) (move-clear f s o e .1) in
-        let room = ltb-false (length o) (length (recordOf (inForm f (runIn s)))) (first-clear (test (ltb (length o) (length (recordOf (inForm f (runIn s))))) 6 0) [] (lit< tt) (c .1) .0) in
+        let room = ltb-false (length o) (length (recordOf (inForm f (runIn s)))) (firstOf-clear (test (ltb (length o) (length (recordOf (inForm f (runIn s))))) 6 0) [] (lit< tt) (c .1) .0) in
         subst (λ (m : Move). m .answer .length ≤ length o) (move-done f s o (move-clear f s o e .0) (c .0) room) room
     go (suc n) e =
         let q = moves-whole f s o (λ z. omega arith) in

@@ -15,28 +15,29 @@ use Rattle.lists.proofs.Compare.{both-true}
 use Rattle.lists.specs.Lists.{member}
 use Rattle.limits.specs.Points.{maxPoints, firstHigh}
 use Rattle.refusals.specs.declared.Refusal.{Refusal}
-use Rattle.refusals.specs.Tests.{Test, test, firstOf, refused}
-use Rattle.refusals.proofs.Tests.{numbered, first-here, first-skip, first-end, first-clear, first-append-none, first-append-some, first-append-clear, numbered-append, without, first-without, without-append}
+use Rattle.refusals.specs.Tests.{Test, test, refusal, firstOf, refused}
+use Rattle.refusals.proofs.Tests.{numbered, firstOf-here, firstOf-skip, firstOf-end, firstOf-clear, firstOf-append-none, firstOf-append-some, firstOf-append-cong, firstOf-append-clear, numbered-append, never, firstOf-never, never-append}
 use Rattle.outputs.specs.Outputs.{over}
 use Rattle.position_format.specs.declared.Form.{Form}
 use Rattle.position_format.specs.declared.Form.the-variants.{Old, Wide}
-use Rattle.position_format.specs.Positions.{validPositions, readPositions}
+use Rattle.position_format.specs.Positions.{validPositions}
 use Rattle.position_format.specs.Tables.{tableOf, pointsOf}
 use Rattle.position_format.proofs.Positions.Valid.{valid-parts}
 use Rattle.position_format.proofs.Tables.WideRows.{wide-valid}
 use Rattle.ratio_format.specs.Bodies.{strictRatios}
 use Rattle.ratio_format.proofs.Bodies.Strict.{strict-coded}
-use Rattle.record_format.specs.Fields.{Field, headSize, fieldBytes, laid, tagAt}
+use Rattle.record_format.specs.Fields.{Field, headSize, fieldBytes, laid, tagAt, bodyTests}
 use Rattle.record_format.specs.Runs.{Run, positionsTag, positionsTags, countSize, positionsField, ratiosField, frontFields, recordOf}
-use Rattle.record_format.specs.Reading.{positionsAt, ratiosAt, endAt, countIn, formIn, frontTests, manyTests, contentsTests, positionsTestsBy, positionsTests, ratiosTests, readTests}
+use Rattle.record_format.specs.Reading.{positionsAt, ratiosAt, endAt, countIn, positionsIn, missing, frontTests, manyTests, positionsTestsBy, positionsTests, ratiosTests, readTests}
 use Rattle.record_format.specs.Moves.{otherForm, inForm, runIn, sourceTests, targetTests, moveTests, Move, refusedMove, recordMove, moveOf}
 use Rattle.record_format.specs.Claims.{positionsPlace}
 use Rattle.record_format.specs.MoveClaims.{notMoved, movedTo, FormFirst}
 use Rattle.record_format.proofs.Fields.{length-laid, laid-append, laid-one}
 use Rattle.record_format.proofs.Reading.Fronts.{count-at, positions-at, front-pass, input, front-all, input-length, tag-there}
-use Rattle.record_format.proofs.Reading.{refusal, front-numbered, front-roomless}
-use Rattle.record_format.proofs.Claims.Returned.{positions-stand, ratios-stand, at-end, counted, run-is, only-own}
-use Rattle.record_format.proofs.Claims.Admitted.{front-clear, clear-begins}
+use Rattle.record_format.proofs.Reading.Rooms.{roomy-tests}
+use Rattle.record_format.proofs.Reading.{front-numbered, front-never-six}
+use Rattle.record_format.proofs.Claims.Returned.{positions-stand, ratios-stand, at-end, count-read, run-is, only-own}
+use Rattle.record_format.proofs.Claims.Admitted.{clear-begins}
 use Rattle.record_format.proofs.Writing.{Fitting, fitting-few, steps-valid, valid-steps}
 
 -- ---- forms
@@ -78,53 +79,44 @@ module _ (f : Form) (s : List ℕ) where
   tag-test = test (not (member (tagAt s (positionsAt s)) tags)) 11 (positionsAt s)
 
   abbrev past-tag : List Test
-  past-tag = (manyTests s ++ contentsTests s (readPositions (tableOf (formIn s)) (countIn s)) 17 (positionsAt s)) ++ later
+  past-tag = (manyTests s ++ (bodyTests s (positionsAt s) ++ (test (missing (positionsIn s)) 17 (positionsAt s) ∷ []))) ++ later
 
   -- what the front's tests refuse is refused
   pub source-front : (firstOf (frontTests 0 s) .number ≡ 0 → ⊥) → firstOf (sourceTests f s) ≡ firstOf (frontTests 0 s)
-  source-front d = first-append-some (frontTests 0 s) _ d
+  source-front d = firstOf-append-some (frontTests 0 s) _ d
+
+  -- a head that has not the tag of f is tested as in reading
+  other-positions : headOf f s ≡ false → firstOf (positionsTestsBy tags s ++ later) ≡ firstOf (positionsTests s ++ later)
+  other-positions e = go (leb (positionsAt s + headSize) (length s)) refl e
+    where
+      go : (b : Bool) → leb (positionsAt s + headSize) (length s) ≡ b → both b (eqb (tagAt s (positionsAt s)) (positionsTag f)) ≡ false
+          → firstOf (positionsTestsBy tags s ++ later) ≡ firstOf (positionsTests s ++ later)
+      go true q h =
+          ap (λ (b : Bool). firstOf (cut-test ∷ test (not b) 11 (positionsAt s) ∷ past-tag))
+          (tags-other f (tagAt s (positionsAt s)) h)
+      go false q h =
+          let cut : ltb (length s) (positionsAt s + headSize) ≡ true = lt-ltb _ _ (leb-false (positionsAt s + headSize) (length s) q) in
+          firstOf-here cut-test _ cut ∙ sym (firstOf-here cut-test _ cut)
 
   module _ (clear : firstOf (frontTests 0 s) .number ≡ 0) where
     past-front : firstOf (sourceTests f s) ≡ firstOf (cut-test ∷ tag-test ∷ past-tag)
-    past-front = first-append-none (frontTests 0 s) _ (front-numbered 0 s) clear
+    past-front = firstOf-append-none (frontTests 0 s) _ (front-numbered 0 s) clear
 
     -- and then 11 for the form moved to
     pub source-form : headOf f s ≡ true → firstOf (sourceTests f s) ≡ refusal 11 (positionsAt s)
     source-form e =
         let p = both-true (leb (positionsAt s + headSize) (length s)) _ e in
-        past-front ∙ first-skip cut-test _ (le-ltb (length s) (positionsAt s + headSize) (leb-true _ _ (p .0))) ∙ first-here tag-test _ (ap not (tag-not-other f (tagAt s (positionsAt s)) (p .1)))
+        past-front ∙ firstOf-skip cut-test _ (le-ltb (length s) (positionsAt s + headSize) (leb-true _ _ (p .0))) ∙ firstOf-here tag-test _ (ap not (tag-not-other f (tagAt s (positionsAt s)) (p .1)))
 
-    -- else the positions' field is tested as in reading
-    other-positions : headOf f s ≡ false → firstOf (positionsTestsBy tags s ++ later) ≡ firstOf (positionsTests s ++ later)
-    other-positions e = go (leb (positionsAt s + headSize) (length s)) refl e
-      where
-        go : (b : Bool) → leb (positionsAt s + headSize) (length s) ≡ b → both b (eqb (tagAt s (positionsAt s)) (positionsTag f)) ≡ false
-            → firstOf (positionsTestsBy tags s ++ later) ≡ firstOf (positionsTests s ++ later)
-        go true q h =
-            ap (λ (b : Bool). firstOf (cut-test ∷ test (not b) 11 (positionsAt s) ∷ past-tag))
-            (tags-other f (tagAt s (positionsAt s)) h)
-        go false q h =
-            let cut : ltb (length s) (positionsAt s + headSize) ≡ true = lt-ltb _ _ (leb-false (positionsAt s + headSize) (length s) q) in
-            first-here cut-test _ cut ∙ sym (first-here cut-test _ cut)
-
+    -- and else those of reading are left
     pub source-points : headOf f s ≡ false → firstOf (sourceTests f s) ≡ firstOf (positionsTests s ++ later)
     source-points e = past-front ∙ other-positions e
 
-  -- where the form is not the one moved to the tests are those of strict reading with room
+  -- where the form is not the one moved to the tests are those of the record, as they are for strict reading with room
   pub source-strict : (m n : ℕ) → maxPoints ≤ m → maxPoints ≤ n → (firstOf (frontTests 0 s) .number ≡ 0 → headOf f s ≡ false)
       → firstOf (sourceTests f s) ≡ firstOf (readTests strictRatios 0 s m n)
-  source-strict m n a b other = go (firstOf (frontTests 0 s) .number) refl
-    where
-      go : (x : ℕ) → firstOf (frontTests 0 s) .number ≡ x → firstOf (sourceTests f s) ≡ firstOf (readTests strictRatios 0 s m n)
-      go zero q =
-          let few = front-clear 0 s [] (ap (λ (l : List Test). firstOf l .number) (append-nil (frontTests 0 s)) ∙ q) .0 .few in
-          source-points q (other q)
-          ∙ sym
-          (first-append-none (frontTests 0 s) _ (front-numbered 0 s) q
-          ∙ first-skip _ _ (ap₂ (λ (x y : Bool). cond x true y) (le-ltb m (countIn s) (omega arith)) (le-ltb n (countIn s) (omega arith))))
-      go (suc x) q =
-          let d : (firstOf (frontTests 0 s) .number ≡ 0 → ⊥) = λ z. omega arith in
-          source-front d ∙ sym (first-append-some (frontTests 0 s) _ d)
+  source-strict m n a b other =
+      firstOf-append-cong (frontTests 0 s) _ _ (front-numbered 0 s) (λ clear. other-positions (other clear)) ∙ sym (roomy-tests strictRatios 0 s m n a b)
 
 -- ---- the whole answer
 
@@ -136,12 +128,12 @@ target-numbered Old ts = refl
 target-numbered Wide ts = refl
 
 -- none but the last has the number 6
-source-roomless : (f : Form) (s : List ℕ) → without 6 (sourceTests f s) ≡ true
-source-roomless f s = without-append 6 (frontTests 0 s) _ (front-roomless 0 s) refl
+source-never-six : (f : Form) (s : List ℕ) → never 6 (sourceTests f s) ≡ true
+source-never-six f s = never-append 6 (frontTests 0 s) _ (front-never-six 0 s) refl
 
-target-roomless : (f : Form) (ts : List ℕ) → without 6 (targetTests f ts) ≡ true
-target-roomless Old ts = refl
-target-roomless Wide ts = refl
+target-never-six : (f : Form) (ts : List ℕ) → never 6 (targetTests f ts) ≡ true
+target-never-six Old ts = refl
+target-never-six Wide ts = refl
 
 -- the tests past those of the record, of a run r
 abbrev pub runMoveTests : Form → Run → List ℕ → List Test
@@ -154,33 +146,33 @@ module _ (f : Form) (s o : List ℕ) where
   refuses g e d = rw (e, ne-eqb (g .number) 0 d)
 
   pub source-refused : (g : Refusal) → g ≡ firstOf (sourceTests f s) → (g .number ≡ 0 → ⊥) → refusedMove g o ≡ moveOf f s o
-  source-refused g e d = refuses g (first-append-some (sourceTests f s) _ (λ z. d (ap (λ (x : Refusal). x .number) e ∙ z)) ∙ sym e) d
+  source-refused g e d = refuses g (firstOf-append-some (sourceTests f s) _ (λ z. d (ap (λ (x : Refusal). x .number) e ∙ z)) ∙ sym e) d
 
   module _ (clear : firstOf (sourceTests f s) .number ≡ 0) where
     past-source : firstOf (moveTests f s o) ≡ firstOf (runMoveTests f (runIn s) o)
-    past-source = first-append-none (sourceTests f s) _ (source-numbered f s) clear
+    past-source = firstOf-append-none (sourceTests f s) _ (source-numbered f s) clear
 
     pub target-refused : (g : Refusal) → g ≡ firstOf (targetTests f (runIn s .positions)) → (g .number ≡ 0 → ⊥) → refusedMove g o ≡ moveOf f s o
     target-refused g e d =
-        refuses g (past-source ∙ first-append-some (targetTests f (runIn s .positions)) _ (λ z. d (ap (λ (x : Refusal). x .number) e ∙ z)) ∙ sym e) d
+        refuses g (past-source ∙ firstOf-append-some (targetTests f (runIn s .positions)) _ (λ z. d (ap (λ (x : Refusal). x .number) e ∙ z)) ∙ sym e) d
 
     module _ (fits : firstOf (targetTests f (runIn s .positions)) .number ≡ 0) where
       past-target : firstOf (moveTests f s o) ≡ firstOf (test (ltb (length o) (length (recordOf (inForm f (runIn s))))) 6 0 ∷ [])
-      past-target = past-source ∙ first-append-none (targetTests f (runIn s .positions)) _ (target-numbered f (runIn s .positions)) fits
+      past-target = past-source ∙ firstOf-append-none (targetTests f (runIn s .positions)) _ (target-numbered f (runIn s .positions)) fits
 
       pub room-refused : length o < length (recordOf (inForm f (runIn s))) → refusedMove (refusal 6 0) o ≡ moveOf f s o
-      room-refused h = refuses (refusal 6 0) (past-target ∙ first-here _ _ (lt-ltb _ _ h)) (λ z. omega arith)
+      room-refused h = refuses (refusal 6 0) (past-target ∙ firstOf-here _ _ (lt-ltb _ _ h)) (λ z. omega arith)
 
       pub move-done : length (recordOf (inForm f (runIn s))) ≤ length o → recordMove f s o ≡ moveOf f s o
       unfolding moveOf
       move-done h =
-          let e : firstOf (moveTests f s o) ≡ refusal 0 0 = past-target ∙ first-skip _ _ (le-ltb (length o) (length (recordOf (inForm f (runIn s)))) h) ∙ first-end in
+          let e : firstOf (moveTests f s o) ≡ refusal 0 0 = past-target ∙ firstOf-skip _ _ (le-ltb (length o) (length (recordOf (inForm f (runIn s)))) h) ∙ firstOf-end in
           rw e
 
 -- a move with number 0 comes of no refusal
 pub move-clear : (f : Form) (s o : List ℕ) → moveOf f s o .answer .number ≡ 0 → (firstOf (sourceTests f s) .number ≡ 0) × (firstOf (runMoveTests f (runIn s) o) .number ≡ 0)
 unfolding moveOf
-move-clear f s o e = first-append-clear (sourceTests f s) _ (source-numbered f s) (go (firstOf (moveTests f s o) .number) refl e)
+move-clear f s o e = firstOf-append-clear (sourceTests f s) _ (source-numbered f s) (go (firstOf (moveTests f s o) .number) refl e)
   where
     go : (n : ℕ) → firstOf (moveTests f s o) .number ≡ n → cond (not (eqb n 0)) (refusedMove (firstOf (moveTests f s o)) o) (recordMove f s o) .answer .number ≡ 0 → firstOf (moveTests f s o) .number ≡ 0
     go zero q h = q
@@ -201,7 +193,7 @@ move-short f s o e = go (firstOf (sourceTests f s) .number) refl
     by-target clear (suc n) q =
         absurd
         (let d : (firstOf (targetTests f (runIn s .positions)) .number ≡ 0 → ⊥) = λ z. omega arith in
-        first-without 6 (lit< tt) (targetTests f (runIn s .positions)) (target-roomless f (runIn s .positions))
+        firstOf-never 6 (lit< tt) (targetTests f (runIn s .positions)) (target-never-six f (runIn s .positions))
         (ap (λ (m : Move). m .answer .number) (target-refused f s o clear (firstOf (targetTests f (runIn s .positions))) refl d) ∙ e))
 
     go : (n : ℕ) → firstOf (sourceTests f s) .number ≡ n
@@ -210,7 +202,7 @@ move-short f s o e = go (firstOf (sourceTests f s) .number) refl
     go (suc n) q =
         absurd
         (let d : (firstOf (sourceTests f s) .number ≡ 0 → ⊥) = λ z. omega arith in
-        first-without 6 (lit< tt) (sourceTests f s) (source-roomless f s)
+        firstOf-never 6 (lit< tt) (sourceTests f s) (source-never-six f s)
         (ap (λ (m : Move). m .answer .number) (source-refused f s o (firstOf (sourceTests f s)) refl d) ∙ e))
 
 -- ---- the run in the other form
@@ -223,7 +215,7 @@ moved-fits f r fit clear =
   where
     few : (f : Form) → firstOf (targetTests f (r .positions)) .number ≡ 0 → length (r .positions) ≤ pointsOf f
     few Old e = fitting-few r fit
-    few Wide e = ltb-false (pointsOf Wide) (length (r .positions)) (first-clear (test (ltb (pointsOf Wide) (length (r .positions))) 3 0) [] (lit< tt) e .0)
+    few Wide e = ltb-false (pointsOf Wide) (length (r .positions)) (firstOf-clear (test (ltb (pointsOf Wide) (length (r .positions))) 3 0) [] (lit< tt) e .0)
 
     valid : length (r .positions) ≤ firstHigh (r .positions) → (f : Form) → firstOf (targetTests f (r .positions)) .number ≡ 0 → validPositions (tableOf f) (r .positions) ≡ true
     valid low Old e = steps-valid (r .positions) low Old e
@@ -232,7 +224,7 @@ moved-fits f r fit clear =
 -- and there only
 pub fits-target : (f : Form) (r : Run) → Fitting (inForm f r) → firstOf (targetTests f (r .positions)) ≡ firstOf []
 fits-target Old r fit = valid-steps Old (r .positions) (fit .valid)
-fits-target Wide r fit = first-skip _ _ (le-ltb _ _ (fit .few))
+fits-target Wide r fit = firstOf-skip _ _ (le-ltb _ _ (fit .few))
 
 -- ---- the record of a run, and then any bytes
 
@@ -269,8 +261,8 @@ module _ (f : Form) (r : Run) (fit : Fitting r) (words : Below (2 ^ 64) (r .rati
   own-source =
       source-strict f s maxPoints maxPoints (omega arith) (omega arith) (λ _. other-head)
       ∙ only-own r fit rest strictRatios (strict-coded (r .ratios) words) 0 maxPoints maxPoints
-      ∙ first-skip _ _ refl
-      ∙ first-skip _ _ (ap₂ (λ (a b : Bool). cond a true b) (le-ltb _ _ (fitting-few r fit)) (le-ltb _ _ (fitting-few r fit)))
+      ∙ firstOf-skip _ _ refl
+      ∙ firstOf-skip _ _ (ap₂ (λ (a b : Bool). cond a true b) (le-ltb _ _ (fitting-few r fit)) (le-ltb _ _ (fitting-few r fit)))
 
   pub own-run : runIn s ≡ r
   own-run = run-is r fit rest strictRatios (strict-coded (r .ratios) words)
@@ -280,7 +272,7 @@ module _ (f : Form) (r : Run) (fit : Fitting r) (words : Below (2 ^ 64) (r .rati
   unfolding moveOf
   own-move o =
       ap₂ (λ (g : Refusal) (m : Move). cond (refused g) (refusedMove g o) m)
-      (past-source f s o (ap (λ (g : Refusal). g .number) (own-source ∙ first-end)) ∙ ap (λ (q : Run). firstOf (runMoveTests f q o)) own-run)
+      (past-source f s o (ap (λ (g : Refusal). g .number) (own-source ∙ firstOf-end)) ∙ ap (λ (q : Run). firstOf (runMoveTests f q o)) own-run)
       (ap₂ (λ (q : Run) (n : ℕ). record { answer = record { number = 0; place = 0; length = length (recordOf (inForm f q)); used = n }; output = over (recordOf (inForm f q)) o })
       own-run (at-end r fit rest))
 
@@ -290,18 +282,18 @@ module _ (f : Form) (r : Run) (o : List ℕ) where
   own-refused g e d = rw (e, ne-eqb (g .number) 0 d)
 
   pub own-target : (g : Refusal) → firstOf (targetTests f (r .positions)) ≡ g → (g .number ≡ 0 → ⊥) → ownMove f r o ≡ refusedMove g o
-  own-target g e d = own-refused g (first-append-some (targetTests f (r .positions)) _ (λ z. d (ap (λ (x : Refusal). x .number) (sym e) ∙ z)) ∙ e) d
+  own-target g e d = own-refused g (firstOf-append-some (targetTests f (r .positions)) _ (λ z. d (ap (λ (x : Refusal). x .number) (sym e) ∙ z)) ∙ e) d
 
   module _ (fits : firstOf (targetTests f (r .positions)) .number ≡ 0) where
     room-left : firstOf (runMoveTests f r o) ≡ firstOf (test (ltb (length o) (length (recordOf (inForm f r)))) 6 0 ∷ [])
-    room-left = first-append-none (targetTests f (r .positions)) _ (target-numbered f (r .positions)) fits
+    room-left = firstOf-append-none (targetTests f (r .positions)) _ (target-numbered f (r .positions)) fits
 
     pub own-room : length o < length (recordOf (inForm f r)) → ownMove f r o ≡ refusedMove (refusal 6 0) o
-    own-room h = own-refused (refusal 6 0) (room-left ∙ first-here _ _ (lt-ltb _ _ h)) (λ z. omega arith)
+    own-room h = own-refused (refusal 6 0) (room-left ∙ firstOf-here _ _ (lt-ltb _ _ h)) (λ z. omega arith)
 
     pub own-done : length (recordOf (inForm f r)) ≤ length o → ownMove f r o ≡ movedTo r (inForm f r) o
     own-done h =
-        let e : firstOf (runMoveTests f r o) ≡ refusal 0 0 = room-left ∙ first-skip _ _ (le-ltb (length o) (length (recordOf (inForm f r))) h) ∙ first-end in
+        let e : firstOf (runMoveTests f r o) ≡ refusal 0 0 = room-left ∙ firstOf-skip _ _ (le-ltb (length o) (length (recordOf (inForm f r))) h) ∙ firstOf-end in
         rw e
 
 -- ---- a front, and past it the head of the form moved to
@@ -315,11 +307,11 @@ form-first f r d n rest o listed sided few long tagged =
     let tag : tagAt s (positionsAt s) ≡ positionsTag f = tag-there r d n rest listed sided counts ∙ tagged in
     let head : headOf f s ≡ true = ap₂ both (le-leb (positionsAt s + headSize) (length s) (omega arith)) (eq-eqb _ _ tag) in
     let clear : firstOf (frontTests 0 s) ≡ firstOf [] =
-    ap firstOf (sym (append-nil (frontTests 0 s))) ∙ front-pass s r d n listed sided counts all 0 [] ∙ first-skip _ _ refl ∙ first-skip _ _ (le-ltb _ _ few) in
+    ap firstOf (sym (append-nil (frontTests 0 s))) ∙ front-pass s r d n listed sided counts all 0 [] ∙ firstOf-skip _ _ refl ∙ firstOf-skip _ _ (le-ltb _ _ few) in
     let at : positionsAt s ≡ positionsPlace d = positions-at s r d n listed sided counts all ∙ omega (arith, count-at s r d n listed sided counts all) in
     sym
     (source-refused f s o (refusal 11 (positionsPlace d))
-    (sym (source-form f s (ap (λ (g : Refusal). g .number) (clear ∙ first-end)) head ∙ ap (refusal 11) at)) (λ z. omega arith))
+    (sym (source-form f s (ap (λ (g : Refusal). g .number) (clear ∙ firstOf-end)) head ∙ ap (refusal 11) at)) (λ z. omega arith))
 
 -- a field and others have at least a head
 head-long : (g : Field) (gs : List Field) (rest : List ℕ) → headSize ≤ length (laid (g ∷ gs) ++ rest)
@@ -386,7 +378,7 @@ module _ (r : Run) (fit : Fitting r) (words : Below (2 ^ 64) (r .ratios)) (rest 
       ap₂ drop at (ap (λ (l : List ℕ). l ++ rest) split ∙ append-assoc (laid points) (laid values) rest) ∙ drop-at (laid points) (laid values ++ rest) (length (laid points)) refl in
       record {
         fits = subst Fitting (sym run-here) fit;
-        many = counted r fit rest ∙ ap (λ (q : Run). length (q .positions)) (sym run-here);
+        many = count-read r fit rest ∙ ap (λ (q : Run). length (q .positions)) (sym run-here);
         order = omega (arith, end, at);
         ratios = ap₂ take size past ∙ take-at (laid values) rest (length (laid values)) refl
             ∙ ap (λ (q : Run). laid (ratiosField (q .ratios) ∷ [])) (sym run-here);

@@ -1,5 +1,5 @@
--- Laws of reading: the tests of a field by how it turns out, the answer by the tests that are left to make, and that bytes after the record
--- change nothing.
+-- Laws of reading: the tests of a field by how it turns out, and the answer by the tests that are left to make.
+pub mod Moved
 pub mod Rooms
 pub mod Fronts
 pub mod Sides
@@ -11,7 +11,7 @@ use Prim.Native.Nat.{ℕ, zero, suc, _+_, _≤_, _<_}
 use native.Mathlib.Omega.{arith}
 use borrow.Author.Tests.{eqb-true, eq-eqb, ne-eqb, ltb-false, le-ltb, lt-ltb, not-false}
 use lib.Dec.{ltb, eqb, lit<, eqb·suc-zero}
-use lib.ListN.{length, drop, length-append}
+use lib.ListN.{length, drop}
 use Rattle.lists.specs.Below.{Below}
 use Rattle.lists.specs.Lists.{member}
 use Rattle.bits.specs.Digits.{bytesOf, digitsOf, numberOf}
@@ -19,18 +19,14 @@ use Rattle.bits.proofs.Digits.{digits-number}
 use Rattle.limits.specs.Points.{maxPoints}
 use Rattle.limits.specs.Sides.{isSide}
 use Rattle.refusals.specs.declared.Refusal.{Refusal}
-use Rattle.refusals.specs.Tests.{Test, test, firstOf, refused}
-use Rattle.refusals.proofs.Tests.{numbered, without, first-here, first-skip, first-clear, first-end}
+use Rattle.refusals.specs.Tests.{Test, test, refusal, firstOf, refused}
+use Rattle.refusals.proofs.Tests.{numbered, never, firstOf-here, firstOf-skip, firstOf-clear, firstOf-end}
 use Rattle.position_format.specs.declared.Form.the-variants.{Wide}
 use Rattle.position_format.specs.Tables.{pointsOf}
-use Rattle.record_format.specs.Fields.{Field, fieldOf, headSize, fieldBytes, tagAt, lengthAt, bodyAt, nextAt, headTests, lengthTests, bodyTests, fieldTests}
-use Rattle.record_format.specs.Reading.{Answer, refusalAnswer, answerBy, missing, sideAt, hasSide, countAt, positionsAt, sideIn, countIn, formIn, positionsIn, lacksRoom, rateTests, sideTests, countTests, frontTests, roomTests, positionsTests, ratiosTests, readTests}
+use Rattle.record_format.specs.Fields.{Field, fieldOf, headSize, fieldBytes, tagAt, lengthAt, bodyAt, nextAt, lengthTests, fieldTests}
+use Rattle.record_format.specs.Reading.{Answer, refusalAnswer, recordAnswer, answerBy, readWith, missing, sideAt, hasSide, countAt, positionsAt, sideIn, countIn, formIn, positionsIn, lacksRoom, rateTests, sideTests, countTests, frontTests, roomTests, positionsTests, ratiosTests, readTests}
 use Rattle.record_format.specs.Runs.{sideTag, positionsTag, positionsTags, formOf, sideSize}
-use Rattle.record_format.proofs.Fields.{FieldStands, length-body, field-here, below-body, tag-same, length-same, next-same, head-within}
-
--- a refusal by its number and place
-abbrev pub refusal : ℕ → ℕ → Refusal
-refusal n p = record { number = n; place = p }
+use Rattle.record_format.proofs.Fields.{FieldStands, length-body, field-here, below-body}
 
 -- ---- the tests of a field, by how it turns out
 
@@ -42,20 +38,20 @@ Stated (some n) l = l ≡ n
 module _ (s tags : List ℕ) (n : Option ℕ) (p : ℕ) (ts : List Test) where
   -- the head is not whole
   pub head-short : length s < p + headSize → refusal 10 p ≡ firstOf (fieldTests s tags n p ++ ts)
-  head-short h = sym (first-here _ _ (lt-ltb (length s) (p + headSize) h))
+  head-short h = sym (firstOf-here _ _ (lt-ltb (length s) (p + headSize) h))
 
   module _ (head : p + headSize ≤ length s) where
     past-head : firstOf (fieldTests s tags n p ++ ts)
         ≡ firstOf (test (not (member (tagAt s p) tags)) 11 p ∷ ((lengthTests s n p ++ (test (ltb (length s) (nextAt s p)) 10 p ∷ [])) ++ ts))
-    past-head = first-skip _ _ (le-ltb (length s) (p + headSize) head)
+    past-head = firstOf-skip _ _ (le-ltb (length s) (p + headSize) head)
 
     -- the tag is another
     pub tag-other : member (tagAt s p) tags ≡ false → refusal 11 p ≡ firstOf (fieldTests s tags n p ++ ts)
-    tag-other e = sym (past-head ∙ first-here _ _ (ap not e))
+    tag-other e = sym (past-head ∙ firstOf-here _ _ (ap not e))
 
     module _ (tagged : member (tagAt s p) tags ≡ true) where
       past-tag : firstOf (fieldTests s tags n p ++ ts) ≡ firstOf ((lengthTests s n p ++ (test (ltb (length s) (nextAt s p)) 10 p ∷ [])) ++ ts)
-      past-tag = past-head ∙ first-skip _ _ (ap not tagged)
+      past-tag = past-head ∙ firstOf-skip _ _ (ap not tagged)
 
       -- the length is another
       pub length-other : (k : ℕ) → n ≡ some k → (lengthAt s p ≡ k → ⊥) → refusal 12 p ≡ firstOf (fieldTests s tags n p ++ ts)
@@ -63,7 +59,7 @@ module _ (s tags : List ℕ) (n : Option ℕ) (p : ℕ) (ts : List Test) where
           sym
           (past-tag
           ∙ ap (λ (m : Option ℕ). firstOf ((lengthTests s m p ++ (test (ltb (length s) (nextAt s p)) 10 p ∷ [])) ++ ts)) e
-          ∙ first-here _ _ (ap not (ne-eqb _ _ d)))
+          ∙ firstOf-here _ _ (ap not (ne-eqb _ _ d)))
 
       module _ (stated : Stated n (lengthAt s p)) where
         past-length : firstOf (fieldTests s tags n p ++ ts) ≡ firstOf (test (ltb (length s) (nextAt s p)) 10 p ∷ ts)
@@ -72,26 +68,26 @@ module _ (s tags : List ℕ) (n : Option ℕ) (p : ℕ) (ts : List Test) where
             go : (m : Option ℕ) → Stated m (lengthAt s p)
                 → firstOf ((lengthTests s m p ++ (test (ltb (length s) (nextAt s p)) 10 p ∷ [])) ++ ts) ≡ firstOf (test (ltb (length s) (nextAt s p)) 10 p ∷ ts)
             go none h = refl
-            go (some k) h = first-skip _ _ (ap not (eq-eqb _ _ h))
+            go (some k) h = firstOf-skip _ _ (ap not (eq-eqb _ _ h))
 
         -- the body is not whole
         pub body-short : length s < nextAt s p → refusal 10 p ≡ firstOf (fieldTests s tags n p ++ ts)
-        body-short h = sym (past-length ∙ first-here _ _ (lt-ltb (length s) (nextAt s p) h))
+        body-short h = sym (past-length ∙ firstOf-here _ _ (lt-ltb (length s) (nextAt s p) h))
 
         -- the field is whole, and the tests of its contents decide
         pub field-good : nextAt s p ≤ length s → firstOf (fieldTests s tags n p ++ ts) ≡ firstOf ts
-        field-good h = past-length ∙ first-skip _ _ (le-ltb (length s) (nextAt s p) h)
+        field-good h = past-length ∙ firstOf-skip _ _ (le-ltb (length s) (nextAt s p) h)
 
 -- a field that stands there
 pub field-passes : {s : List ℕ} {p : ℕ} {f : Field} → FieldStands s p f → (tags : List ℕ) (n : Option ℕ) (ts : List Test)
     → member (f .tag) tags ≡ true → Stated n (length (f .body)) → firstOf (fieldTests s tags n p ++ ts) ≡ firstOf ts
 field-passes {s} {p} {f} h tags n ts t l =
-    field-good s tags n p ts (h .head) (ap (λ (x : ℕ). member x tags) (h .tagged) ∙ t) (subst (Stated n) (sym (h .stated)) l) (h .whole)
+    field-good s tags n p ts (h .head-whole) (ap (λ (x : ℕ). member x tags) (h .tagged) ∙ t) (subst (Stated n) (sym (h .stated)) l) (h .whole)
 
 -- ---- a field that is not refused
 
 pub record FieldSound (s tags : List ℕ) (n : Option ℕ) (p : ℕ) : Type 0 where
-  pub head : p + headSize ≤ length s
+  pub head-whole : p + headSize ≤ length s
   pub tagged : member (tagAt s p) tags ≡ true
   pub stated : Stated n (lengthAt s p)
   pub whole : nextAt s p ≤ length s
@@ -100,19 +96,19 @@ pub field-clear : (s tags : List ℕ) (n : Option ℕ) (p : ℕ) (ts : List Test
 field-clear s tags n p ts clear = go n clear
   where
     made : (m : Option ℕ) → ltb (length s) (p + headSize) ≡ false → not (member (tagAt s p) tags) ≡ false → Stated m (lengthAt s p) → ltb (length s) (nextAt s p) ≡ false → FieldSound s tags m p
-    made m a b c d = record { head = ltb-false _ _ a; tagged = not-false _ b; stated = c; whole = ltb-false _ _ d }
+    made m a b c d = record { head-whole = ltb-false _ _ a; tagged = not-false _ b; stated = c; whole = ltb-false _ _ d }
 
     go : (m : Option ℕ) → firstOf (fieldTests s tags m p ++ ts) .number ≡ 0 → FieldSound s tags m p × (firstOf ts .number ≡ 0)
     go none e =
-        let a = first-clear _ _ (lit< tt) e in
-        let b = first-clear _ _ (lit< tt) (a .1) in
-        let d = first-clear _ _ (lit< tt) (b .1) in
+        let a = firstOf-clear _ _ (lit< tt) e in
+        let b = firstOf-clear _ _ (lit< tt) (a .1) in
+        let d = firstOf-clear _ _ (lit< tt) (b .1) in
         (made none (a .0) (b .0) tt (d .0), d .1)
     go (some k) e =
-        let a = first-clear _ _ (lit< tt) e in
-        let b = first-clear _ _ (lit< tt) (a .1) in
-        let c = first-clear _ _ (lit< tt) (b .1) in
-        let d = first-clear _ _ (lit< tt) (c .1) in
+        let a = firstOf-clear _ _ (lit< tt) e in
+        let b = firstOf-clear _ _ (lit< tt) (a .1) in
+        let c = firstOf-clear _ _ (lit< tt) (b .1) in
+        let d = firstOf-clear _ _ (lit< tt) (c .1) in
         (made (some k) (a .0) (b .0) (eqb-true _ _ (not-false _ (c .0))) (d .0), d .1)
 
 one-of : (x t : ℕ) → member x (t ∷ []) ≡ true → x ≡ t
@@ -127,16 +123,16 @@ module _ {s : List ℕ} {tag : ℕ} {n : Option ℕ} {p : ℕ} (bytes : Below 25
   -- it is the field of its tag with the body that stands there, written as b
   pub sound-follows : (b : List ℕ) → bodyAt s p ≡ b → drop p s ≡ fieldBytes (fieldOf tag b) ++ drop (nextAt s p) s
   sound-follows b e =
-      field-here s p bytes (h .head) (h .whole)
+      field-here s p bytes (h .head-whole) (h .whole)
       ∙ ap₂ (λ (t : ℕ) (l : List ℕ). fieldBytes (fieldOf t l) ++ drop (nextAt s p) s) (one-of (tagAt s p) tag (h .tagged)) e
 
   pub sound-below : Below 256 (bodyAt s p)
-  sound-below = below-body s p bytes (h .head) (h .whole)
+  sound-below = below-body s p bytes (h .head-whole) (h .whole)
 
 -- a field of k bytes holds the number that they stand for
 pub sound-number : {s : List ℕ} {tag k p : ℕ} → Below 256 s → FieldSound s (tag ∷ []) (some k) p → bodyAt s p ≡ bytesOf k (numberOf 256 (bodyAt s p))
 sound-number {s} {tag} {k} {p} bytes h =
-    let e : length (bodyAt s p) ≡ k = length-body s p bytes (h .head) (h .whole) ∙ h .stated in
+    let e : length (bodyAt s p) ≡ k = length-body s p bytes (h .head-whole) (h .whole) ∙ h .stated in
     sym (ap (λ (j : ℕ). digitsOf 256 j (numberOf 256 (bodyAt s p))) (sym e) ∙ digits-number 256 (bodyAt s p) (sound-below bytes h))
 
 -- a list that is not missing
@@ -152,30 +148,6 @@ room-enough m n c e = go (ltb m c) refl e
     go true q k = absurd (false≢true (sym k))
     go false q k = (ltb-false m c q, ltb-false n c k)
 
--- ---- bytes after a field change none of its tests
-
-module _ (s rest : List ℕ) (p : ℕ) (whole : nextAt s p ≤ length s) where
-  head : p + headSize ≤ length s
-  head = head-within s rest p whole
-
-  pub head-tests-same : (tags : List ℕ) → headTests (s ++ rest) tags p ≡ headTests s tags p
-  head-tests-same tags =
-      ap₂ (λ (a : Bool) (t : ℕ). test a 10 p ∷ test (not (member t tags)) 11 p ∷ [])
-      (le-ltb (length (s ++ rest)) (p + headSize) (omega (arith, head, length-append s rest)) ∙ sym (le-ltb (length s) (p + headSize) head))
-      (tag-same s rest p head)
-
-  pub body-tests-same : bodyTests (s ++ rest) p ≡ bodyTests s p
-  body-tests-same =
-      ap (λ (b : Bool). test b 10 p ∷ [])
-      (le-ltb (length (s ++ rest)) (nextAt (s ++ rest) p) (omega (arith, next-same s rest p head, length-append s rest)) ∙ sym (le-ltb (length s) (nextAt s p) whole))
-
-  pub field-tests-same : (tags : List ℕ) (n : Option ℕ) → fieldTests (s ++ rest) tags n p ≡ fieldTests s tags n p
-  field-tests-same tags n = ap₂ (λ (a b : List Test). a ++ b) (head-tests-same tags) (ap₂ (λ (a b : List Test). a ++ b) (lengths n) body-tests-same)
-    where
-      lengths : (m : Option ℕ) → lengthTests (s ++ rest) m p ≡ lengthTests s m p
-      lengths none = refl
-      lengths (some k) = ap (λ (l : ℕ). test (not (eqb l k)) 12 p ∷ []) (length-same s rest p (head-within s rest p whole))
-
 -- ---- the tests of the positions' field
 
 -- where there are not too many points for the form they are those of any field of coded numbers
@@ -187,7 +159,7 @@ positions-few s ts few = rw few
 -- and where there are, past a good tag, they are refused before the body
 pub positions-many : (s : List ℕ) (ts : List Test) → positionsAt s + headSize ≤ length s → member (tagAt s (positionsAt s)) positionsTags ≡ true
     → ltb (pointsOf (formIn s)) (countIn s) ≡ true → refusal 15 (countAt s) ≡ firstOf (positionsTests s ++ ts)
-positions-many s ts head tagged many = sym (first-skip _ _ (le-ltb _ _ head) ∙ first-skip _ _ (ap not tagged) ∙ first-here _ _ many)
+positions-many s ts head tagged many = sym (firstOf-skip _ _ (le-ltb _ _ head) ∙ firstOf-skip _ _ (ap not tagged) ∙ firstOf-here _ _ many)
 
 -- which is so in the wide form alone, whose tag is good
 pub many-tag : (t c : ℕ) → c ≤ maxPoints → pointsOf (formOf t) < c → member t positionsTags ≡ true
@@ -228,10 +200,10 @@ front-numbered e s = go (hasSide s)
     go false = refl
 
 -- nor that of a test of room for bytes
-pub front-roomless : (e : ℕ) (s : List ℕ) → without 6 (frontTests e s) ≡ true
-front-roomless e s = go (hasSide s)
+pub front-never-six : (e : ℕ) (s : List ℕ) → never 6 (frontTests e s) ≡ true
+front-never-six e s = go (hasSide s)
   where
-    go : (b : Bool) → without 6 (rateTests e s ++ (side-of s b ++ countTests s)) ≡ true
+    go : (b : Bool) → never 6 (rateTests e s ++ (side-of s b ++ countTests s)) ≡ true
     go true = refl
     go false = refl
 
@@ -245,10 +217,24 @@ answer-clear tests a ts vs e = go (firstOf tests .number) refl e
     go zero q e = q
     go (suc n) q e = rw (eqb·suc-zero n) at e
 
+-- the number of an answer is that of the first test that applies
+pub answer-number : (tests : List Test) (a : Answer) (ts vs : List ℕ) → a .answer .number ≡ 0 → answerBy tests a ts vs .answer .number ≡ firstOf tests .number
+answer-number tests a ts vs z = go (eqb (firstOf tests .number) 0) refl
+  where
+    go : (b : Bool) → eqb (firstOf tests .number) 0 ≡ b → answerBy tests a ts vs .answer .number ≡ firstOf tests .number
+    go true q = rw q (z ∙ sym (eqb-true (firstOf tests .number) 0 q))
+    go false q = rw q
+
 module _ (a : Answer) (ts vs : List ℕ) where
   -- a refusal is the whole answer
   pub answer-refused : (tests : List Test) (f : Refusal) → f ≡ firstOf tests → (f .number ≡ 0 → ⊥) → answerBy tests a ts vs ≡ refusalAnswer f ts vs
   answer-refused tests f e d = ap (λ (g : Refusal). cond (refused g) (refusalAnswer g ts vs) a) (sym e) ∙ rw (ne-eqb (f .number) 0 d)
 
   pub answer-good : (tests : List Test) → firstOf tests ≡ firstOf [] → answerBy tests a ts vs ≡ a
-  answer-good tests e = ap (λ (g : Refusal). cond (refused g) (refusalAnswer g ts vs) a) (e ∙ first-end)
+  answer-good tests e = ap (λ (g : Refusal). cond (refused g) (refusalAnswer g ts vs) a) (e ∙ firstOf-end)
+
+-- a reading that is refused
+pub read-refused : (k : ℕ → List ℕ → Option (List ℕ)) (e : ℕ) (s ts vs : List ℕ) (n p : ℕ) → (n ≡ 0 → ⊥) → firstOf (readTests k e s (length ts) (length vs)) ≡ refusal n p
+    → readWith k e s ts vs ≡ refusalAnswer (refusal n p) ts vs
+unfolding readWith
+read-refused k e s ts vs n p d q = answer-refused (recordAnswer k s ts vs) ts vs (readTests k e s (length ts) (length vs)) (refusal n p) (sym q) d

@@ -69,7 +69,11 @@ positionsIndex = 1
 abbrev pub ratiosIndex : ℕ
 ratiosIndex = 2
 
--- how many fields a record has from the count's on
+-- how many fields tell where the count's stands: the rate's and the one past it
+abbrev pub openingFieldCount : ℕ
+openingFieldCount = 2
+
+-- and how many from the count's on
 abbrev pub pointFieldCount : ℕ
 pointFieldCount = 3
 

@@ -1,16 +1,16 @@
 -- What reading does with the rate's field and with the field past it.
 use mathlib.Core.Path.{_≡_, refl, sym, ap, ap₂, _∙_, subst}
 use mathlib.Core.Bool.{Bool, true, false, not, cond}
-use mathlib.Core.List.{List, [], _∷_, _++_, append-nil, map, map-append}
+use mathlib.Core.List.{List, [], _∷_, _++_, append-nil, map}
 use mathlib.Core.Logic.{inl, inr}
-use mathlib.Core.Option.{Option, none, some}
+use mathlib.Core.Option.{Option, some}
 use Prim.Native.Nat.{ℕ, _+_, _-_, _^_, _≤_, _<_}
 use native.Mathlib.Nat.{add-zero}
 use native.Mathlib.Omega.{arith}
-use borrow.Author.Tests.{eqb-false, eq-eqb, ne-eqb, ltb-true, ltb-false, lt-ltb, le-ltb, le-leb, lt-leb}
+use borrow.Author.Tests.{eqb-false, eq-eqb, ne-eqb, le-leb, lt-leb}
 use lib.Dec.{ltb, eqb, lit<}
-use lib.ListN.{length, take, drop, getD, length-append}
-use lib.Seq.{drop-append-add, getD-drop, getD-append-add}
+use lib.ListN.{length, drop, getD, length-append}
+use lib.Seq.{drop-at, drop-drop, getD-drop, getD-append-add}
 use Rattle.lists.specs.Compare.{both}
 use Rattle.lists.specs.Lists.{member}
 use Rattle.bits.specs.Digits.{bytesOf, numberOf}
@@ -21,17 +21,16 @@ use Rattle.limits.specs.Sides.{maxSide, isSide}
 use Rattle.limits.proofs.Rates.{rate-high}
 use Rattle.limits.proofs.Sides.{side-in}
 use Rattle.refusals.specs.declared.Refusal.{Refusal}
-use Rattle.refusals.specs.Tests.{Test, test, firstOf, refused}
-use Rattle.refusals.proofs.Tests.{first-here, first-skip}
-use Rattle.position_format.specs.declared.Form.{Form}
-use Rattle.position_format.specs.Positions.{readPositions}
-use Rattle.position_format.specs.Tables.{tableOf, pointsOf}
-use Rattle.record_format.specs.Fields.{Field, fieldOf, tagSize, lengthSize, headSize, tagAt, lengthAt, bodyAt, nextAt, headTests, lengthTests, bodyTests, fieldTests}
-use Rattle.record_format.specs.Runs.{rateTag, sideTag, countTag, positionsTags, formOf, ratiosTag, rateSize, sideSize, countSize, rateField}
-use Rattle.record_format.specs.Reading.{Answer, refusalAnswer, recordAnswer, readTests, readWith, rateAt, sideAt, hasSide, countAt, positionsAt, ratiosAt, endAt, rateIn, sideIn, countIn, formIn, positionsIn, ratiosIn, otherRate, lacksRoom, missing, contentsTests, sideTests, countTests, roomTests, manyTests, positionsTests, ratiosTests}
+use Rattle.refusals.specs.Tests.{Test, test, refusal, firstOf, refused}
+use Rattle.refusals.proofs.Tests.{firstOf-here, firstOf-skip, further, further-append, Further, firstOf-further}
+use Rattle.record_format.specs.Fields.{Field, fieldOf, lengthSize, headSize, tagAt, lengthAt, bodyAt, nextAt, fieldTests}
+use Rattle.record_format.specs.Runs.{rateTag, sideTag, countTag, positionsTags, rateSize, sideSize, countSize, rateField}
+use Rattle.record_format.specs.Reading.{Answer, refusalAnswer, recordAnswer, readTests, readWith, rateAt, sideAt, hasSide, countAt, rateIn, sideIn, countIn, otherRate, sideTests, countTests, roomTests, positionsTests, ratiosTests}
 use Rattle.record_format.specs.SideClaims.{rateBytes, sideBytes, Expects, refusedBy, RateRefused, RateFirst, HeadCut, TagRefused, LengthRefused, BodyCut, SideRefused, CountRefused, shifted, SideShifts}
-use Rattle.record_format.proofs.Fields.{FieldStands, length-field, stands, head-stands}
-use Rattle.record_format.proofs.Reading.{refusal, head-short, tag-other, length-other, body-short, field-passes, tests-flat, answer-refused}
+use Rattle.record_format.proofs.Fields.{FieldStands, length-field, field-stands, head-stands}
+use Rattle.record_format.proofs.Reading.{head-short, tag-other, length-other, body-short, field-passes, tests-flat, read-refused}
+use Rattle.record_format.proofs.Reading.Moved.{FieldsMoved, later-fields, end-moved, count-same, form-same, positions-same, ratios-same, count-tests-moved, room-tests-moved, positions-tests-moved, ratios-tests-moved}
+use Rattle.record_format.proofs.Runs.{pointFieldCount}
 use Rattle.record_format.proofs.Reading.Sides.{absent-count, absent-tests, present-count, present-side, present-tests}
 use Rattle.record_format.proofs.Claims.{no-other, other-none}
 
@@ -58,10 +57,7 @@ not-one x t d = rw (ne-eqb x t d)
 module _ (k : ℕ → List ℕ → Option (List ℕ)) (e : ℕ) (s ts vs : List ℕ) where
   -- what its tests give is the answer
   rate-refuses : (n p : ℕ) → (n ≡ 0 → ⊥) → ((us : List Test) → refusal n p ≡ firstOf (fieldTests s (rateTag ∷ []) (some rateSize) rateAt ++ us)) → readWith k e s ts vs ≡ refusedBy n p ts vs
-  unfolding readWith
-  rate-refuses n p d q =
-      answer-refused (recordAnswer k s ts vs) ts vs (readTests k e s (length ts) (length vs)) (refusal n p)
-      (q _ ∙ sym (ap firstOf (tests-flat k e s (length ts) (length vs)))) d
+  rate-refuses n p d q = read-refused k e s ts vs n p d (ap firstOf (tests-flat k e s (length ts) (length vs)) ∙ sym (q _))
 
 pub rate-refused : RateRefused
 unfolding nextAt
@@ -107,14 +103,14 @@ module _ (k : ℕ → List ℕ → Option (List ℕ)) (e r : ℕ) (rest ts vs : 
   length-all = length-append (rateBytes r) rest ∙ ap (λ (n : ℕ). n + length rest) length-rate
 
   rate-stands : FieldStands s rateAt (rateField r)
-  rate-stands = stands [] (rateField r) rest (omega (arith, length-digits 256 rateSize r))
+  rate-stands = field-stands [] (rateField r) rest (omega (arith, length-digits 256 rateSize r))
 
   at-side : sideAt s ≡ side-place
   at-side = rate-stands .next ∙ omega (arith, length-rate)
 
   -- what follows the rate
-  rest-from : (n : ℕ) → drop (side-place + n) s ≡ drop n rest
-  rest-from n = ap (λ (m : ℕ). drop (m + n) s) (sym length-rate) ∙ drop-append-add (rateBytes r) rest n
+  rest-here : drop side-place s ≡ rest
+  rest-here = drop-at (rateBytes r) rest side-place length-rate
 
   tag-rest : tagAt s (sideAt s) ≡ tagAt rest 0
   unfolding tagAt
@@ -127,21 +123,20 @@ module _ (k : ℕ → List ℕ → Option (List ℕ)) (e r : ℕ) (rest ts vs : 
       ∙ field-passes rate-stands (rateTag ∷ []) (some rateSize) (test (not (isRate (rateIn s))) 13 rateAt ∷ test (otherRate e (rateIn s)) 14 rateAt ∷ from-side)
       refl (length-digits 256 rateSize r)
 
-  refuses : (n p : ℕ) → (n ≡ 0 → ⊥) → firstOf tests ≡ refusal n p → readWith k e s ts vs ≡ refusedBy n p ts vs
-  unfolding readWith
-  refuses n p d q = answer-refused (recordAnswer k s ts vs) ts vs tests (refusal n p) (sym q) d
+  abbrev refuses : (n p : ℕ) → (n ≡ 0 → ⊥) → firstOf tests ≡ refusal n p → readWith k e s ts vs ≡ refusedBy n p ts vs
+  refuses n p d q = read-refused k e s ts vs n p d q
 
   module _ (small : r < 2 ^ 32) where
     rate-is : rateIn s ≡ r
     rate-is = ap (numberOf 256) (rate-stands .within) ∙ number-digits-lt (lit< tt) rateSize (omega arith)
 
     thirteen : isRate r ≡ false → readWith k e s ts vs ≡ refusedBy 13 rateAt ts vs
-    thirteen b = refuses 13 rateAt (λ z. omega arith) (rate-tests ∙ first-here _ _ (ap (λ (x : ℕ). not (isRate x)) rate-is ∙ ap not b))
+    thirteen b = refuses 13 rateAt (λ z. omega arith) (rate-tests ∙ firstOf-here _ _ (ap (λ (x : ℕ). not (isRate x)) rate-is ∙ ap not b))
 
     fourteen : isRate r ≡ true → (Expects e r → ⊥) → readWith k e s ts vs ≡ refusedBy 14 rateAt ts vs
     fourteen b d =
         refuses 14 rateAt (λ z. omega arith)
-        (rate-tests ∙ first-skip _ _ (ap (λ (x : ℕ). not (isRate x)) rate-is ∙ ap not b) ∙ first-here _ _ (ap (otherRate e) rate-is ∙ differs (otherRate e r) refl))
+        (rate-tests ∙ firstOf-skip _ _ (ap (λ (x : ℕ). not (isRate x)) rate-is ∙ ap not b) ∙ firstOf-here _ _ (ap (otherRate e) rate-is ∙ differs (otherRate e r) refl))
       where
         differs : (b : Bool) → otherRate e r ≡ b → otherRate e r ≡ true
         differs true q = q
@@ -154,8 +149,8 @@ module _ (k : ℕ → List ℕ → Option (List ℕ)) (e r : ℕ) (rest ts vs : 
     past-rate : firstOf tests ≡ firstOf from-side
     past-rate =
         rate-tests
-        ∙ first-skip _ _ (ap (λ (x : ℕ). not (isRate x)) (rate-is rate-small) ∙ ap not listed)
-        ∙ first-skip _ _ (ap (otherRate e) (rate-is rate-small) ∙ no-other e r o)
+        ∙ firstOf-skip _ _ (ap (λ (x : ℕ). not (isRate x)) (rate-is rate-small) ∙ ap not listed)
+        ∙ firstOf-skip _ _ (ap (otherRate e) (rate-is rate-small) ∙ no-other e r o)
 
     past-absent : hasSide s ≡ false → firstOf tests ≡ firstOf from-count
     past-absent a = past-rate ∙ ap (λ (l : List Test). firstOf (l ++ from-count)) (absent-tests s a)
@@ -285,7 +280,7 @@ module _ (k : ℕ → List ℕ → Option (List ℕ)) (e r d : ℕ) (rest ts vs 
   side-stands : FieldStands sided (sideAt sided) side-field
   side-stands =
       subst (λ (p : ℕ). FieldStands sided p side-field) (length-rate k e r (sideBytes d ++ rest) ts vs ∙ sym at-sided)
-      (stands (rateBytes r) side-field rest (omega (arith, length-digits 256 sideSize d)))
+      (field-stands (rateBytes r) side-field rest (omega (arith, length-digits 256 sideSize d)))
 
   present : hasSide sided ≡ true
   present = ap (λ (t : ℕ). eqb t sideTag) (side-stands .tagged)
@@ -307,10 +302,10 @@ module _ (k : ℕ → List ℕ → Option (List ℕ)) (e r d : ℕ) (rest ts vs 
       ∙ ap₂ (λ (n p : ℕ). firstOf (test (not (isSide n)) 20 p ∷ from-count k e r (sideBytes d ++ rest) ts vs)) stored-is at-sided
 
   twenty : isSide d ≡ false → readWith k e sided ts vs ≡ refusedBy 20 side-place ts vs
-  twenty b = refuses k e r (sideBytes d ++ rest) ts vs 20 side-place (λ z. omega arith) (side-decides ∙ first-here _ _ (ap not b))
+  twenty b = refuses k e r (sideBytes d ++ rest) ts vs 20 side-place (λ z. omega arith) (side-decides ∙ firstOf-here _ _ (ap not b))
 
   past-side : isSide d ≡ true → firstOf (tests k e r (sideBytes d ++ rest) ts vs) ≡ firstOf (from-count k e r (sideBytes d ++ rest) ts vs)
-  past-side b = side-decides ∙ first-skip _ _ (ap not b)
+  past-side b = side-decides ∙ firstOf-skip _ _ (ap not b)
 
 pub side-refused : SideRefused
 unfolding isSide
@@ -320,161 +315,8 @@ side-refused k e r d rest ts vs listed o (inr h) =
 
 -- ---- what a side's field shifts
 
--- a test as far further on as a side's field takes
-abbrev further : Test → Test
-further t = test (t .applies) (t .number) (t .place + side-takes)
-
--- gives the same number, and a place as far further on
-abbrev Further : Refusal → Refusal → Type 0
-Further f g = (g .number ≡ f .number) × ((f .number ≡ 0 → ⊥) → g ≡ refusal (f .number) (f .place + side-takes))
-
-first-further : (ts : List Test) → Further (firstOf ts) (firstOf (map further ts))
-unfolding firstOf
-first-further [] = (refl, λ d. absurd (d refl))
-first-further (t ∷ ts) = go (t .applies) (first-further ts)
-  where
-    go : (b : Bool) → Further (firstOf ts) (firstOf (map further ts))
-        → Further (cond b (refusal (t .number) (t .place)) (firstOf ts)) (cond b (refusal (t .number) (t .place + side-takes)) (firstOf (map further ts)))
-    go true h = (refl, λ d. refl)
-    go false h = h
-
--- two tests of order that hold together
-ltb-same : (a b c d : ℕ) → (a < b → c < d) → (b ≤ a → d ≤ c) → ltb c d ≡ ltb a b
-ltb-same a b c d f g = go (ltb a b) refl
-  where
-    go : (t : Bool) → ltb a b ≡ t → ltb c d ≡ t
-    go true e = lt-ltb c d (f (ltb-true a b e))
-    go false e = le-ltb c d (g (ltb-false a b e))
-
--- two lists of tests, one after the other
-both-shifted : {a b : List Test} (c d : List Test) → a ≡ map further c → b ≡ map further d → a ++ b ≡ map further (c ++ d)
-both-shifted c d e f = ap₂ (λ (x y : List Test). x ++ y) e f ∙ sym (map-append further c d)
-
--- the bytes t have past the rate, as far further on as a side's field takes, what s has
-module _ (s t : List ℕ) (long : length t ≡ length s + side-takes) (same : (p : ℕ) → side-place ≤ p → drop (p + side-takes) t ≡ drop p s) where
-  module _ (p : ℕ) (h : side-place ≤ p) where
-    tag-shifted : tagAt t (p + side-takes) ≡ tagAt s p
-    unfolding tagAt
-    tag-shifted =
-        ap (λ (n : ℕ). getD t n 0) (sym (add-zero (p + side-takes))) ∙ sym (getD-drop (p + side-takes) t 0 0)
-        ∙ ap (λ (l : List ℕ). getD l 0 0) (same p h) ∙ getD-drop p s 0 0 ∙ ap (λ (n : ℕ). getD s n 0) (add-zero p)
-
-    length-shifted : lengthAt t (p + side-takes) ≡ lengthAt s p
-    unfolding lengthAt
-    length-shifted =
-        let e : p + side-takes + tagSize ≡ p + tagSize + side-takes = omega arith in
-        ap (λ (l : List ℕ). numberOf 256 (take lengthSize l)) (ap (λ (n : ℕ). drop n t) e ∙ same (p + tagSize) (omega arith))
-
-    body-shifted : bodyAt t (p + side-takes) ≡ bodyAt s p
-    unfolding bodyAt
-    body-shifted =
-        let e : p + side-takes + headSize ≡ p + headSize + side-takes = omega arith in
-        ap₂ take length-shifted (ap (λ (n : ℕ). drop n t) e ∙ same (p + headSize) (omega arith))
-
-    next-shifted : nextAt t (p + side-takes) ≡ nextAt s p + side-takes
-    unfolding nextAt
-    next-shifted = omega (arith, length-shifted)
-
-    heads-shifted : (tags : List ℕ) → headTests t tags (p + side-takes) ≡ map further (headTests s tags p)
-    heads-shifted tags =
-        ap₂ (λ (b : Bool) (x : ℕ). test b 10 (p + side-takes) ∷ test (not (member x tags)) 11 (p + side-takes) ∷ [])
-        (ltb-same (length s) (p + headSize) (length t) (p + side-takes + headSize) (λ z. omega arith) (λ z. omega arith)) tag-shifted
-
-    lengths-shifted : (n : Option ℕ) → lengthTests t n (p + side-takes) ≡ map further (lengthTests s n p)
-    lengths-shifted none = refl
-    lengths-shifted (some j) = ap (λ (x : ℕ). test (not (eqb x j)) 12 (p + side-takes) ∷ []) length-shifted
-
-    bodies-shifted : bodyTests t (p + side-takes) ≡ map further (bodyTests s p)
-    bodies-shifted =
-        ap (λ (b : Bool). test b 10 (p + side-takes) ∷ [])
-        (ltb-same (length s) (nextAt s p) (length t) (nextAt t (p + side-takes)) (λ z. omega (arith, next-shifted)) (λ z. omega (arith, next-shifted)))
-
-    fields-shifted : (tags : List ℕ) (n : Option ℕ) → fieldTests t tags n (p + side-takes) ≡ map further (fieldTests s tags n p)
-    fields-shifted tags n =
-        both-shifted (headTests s tags p) (lengthTests s n p ++ bodyTests s p) (heads-shifted tags)
-        (both-shifted (lengthTests s n p) (bodyTests s p) (lengths-shifted n) bodies-shifted)
-
-    -- with a test of the contents
-    contents-shifted : (tags : List ℕ) (n : Option ℕ) (a b : Bool) (x : ℕ) → a ≡ b
-        → fieldTests t tags n (p + side-takes) ++ (test a x (p + side-takes) ∷ []) ≡ map further (fieldTests s tags n p ++ (test b x p ∷ []))
-    contents-shifted tags n a b x e =
-        both-shifted (fieldTests s tags n p) (test b x p ∷ []) (fields-shifted tags n) (ap (λ (c : Bool). test c x (p + side-takes) ∷ []) e)
-
-    -- the body of coded numbers, where the reading of it is the same
-    coded-shifted : (j k : List ℕ → Option (List ℕ)) (x : ℕ) → j ≡ k → contentsTests t j x (p + side-takes) ≡ map further (contentsTests s k x p)
-    coded-shifted j k x e =
-        both-shifted (bodyTests s p) (test (missing (k (bodyAt s p))) x p ∷ []) bodies-shifted
-        (ap (λ (o : Option (List ℕ)). test (missing o) x (p + side-takes) ∷ []) (ap₂ (λ (f : List ℕ → Option (List ℕ)) (b : List ℕ). f b) e body-shifted))
-
-  -- the fields from the count's on
-  module _ (k : ℕ → List ℕ → Option (List ℕ)) (m n : ℕ) (c : countAt s ≡ side-place) (at : countAt t ≡ countAt s + side-takes) where
-    next-late : (p : ℕ) → side-place ≤ p → side-place ≤ nextAt s p
-    unfolding nextAt
-    next-late p h = omega arith
-
-    at-positions : positionsAt t ≡ positionsAt s + side-takes
-    at-positions = ap (nextAt t) at ∙ next-shifted (countAt s) (omega arith)
-
-    at-ratios : ratiosAt t ≡ ratiosAt s + side-takes
-    at-ratios = ap (nextAt t) at-positions ∙ next-shifted (positionsAt s) (next-late (countAt s) (omega arith))
-
-    late-ratios : side-place ≤ ratiosAt s
-    late-ratios = next-late (positionsAt s) (next-late (countAt s) (omega arith))
-
-    at-end : endAt t ≡ endAt s + side-takes
-    at-end = ap (nextAt t) at-ratios ∙ next-shifted (ratiosAt s) late-ratios
-
-    count-same : countIn t ≡ countIn s
-    count-same = ap (numberOf 256) (ap (bodyAt t) at ∙ body-shifted (countAt s) (omega arith))
-
-    late-positions : side-place ≤ positionsAt s
-    late-positions = next-late (countAt s) (omega arith)
-
-    form-same : formIn t ≡ formIn s
-    form-same = ap formOf (ap (tagAt t) at-positions ∙ tag-shifted (positionsAt s) late-positions)
-
-    reading-same : readPositions (tableOf (formIn t)) (countIn t) ≡ readPositions (tableOf (formIn s)) (countIn s)
-    reading-same = ap₂ (λ (f : Form) (c : ℕ). readPositions (tableOf f) c) form-same count-same
-
-    positions-same : positionsIn t ≡ positionsIn s
-    positions-same = ap₂ (λ (f : List ℕ → Option (List ℕ)) (b : List ℕ). f b) reading-same (ap (bodyAt t) at-positions ∙ body-shifted (positionsAt s) late-positions)
-
-    ratios-same : ratiosIn k t ≡ ratiosIn k s
-    ratios-same = ap₂ k count-same (ap (bodyAt t) at-ratios ∙ body-shifted (ratiosAt s) late-ratios)
-
-    count-shifted : countTests t ≡ map further (countTests s)
-    count-shifted =
-        ap (λ (p : ℕ). fieldTests t (countTag ∷ []) (some countSize) p ++ (test (ltb maxPoints (numberOf 256 (bodyAt t p))) 15 p ∷ [])) at
-        ∙ contents-shifted (countAt s) (omega arith) (countTag ∷ []) (some countSize) _ _ 15 (ap (λ (b : List ℕ). ltb maxPoints (numberOf 256 b)) (body-shifted (countAt s) (omega arith)))
-
-    room-shifted : roomTests t m n ≡ map further (roomTests s m n)
-    room-shifted = ap₂ (λ (x p : ℕ). test (lacksRoom m n x) 16 p ∷ []) count-same at
-
-    many-shifted : manyTests t ≡ map further (manyTests s)
-    many-shifted =
-        ap₂ (λ (f : Form) (c : ℕ). test (ltb (pointsOf f) c) 15 (countAt t) ∷ []) form-same count-same
-        ∙ ap (λ (p : ℕ). test (ltb (pointsOf (formIn s)) (countIn s)) 15 p ∷ []) at
-
-    positions-shifted : positionsTests t ≡ map further (positionsTests s)
-    positions-shifted =
-        let read = readPositions (tableOf (formIn s)) (countIn s) in
-        both-shifted (headTests s positionsTags (positionsAt s)) (manyTests s ++ contentsTests s read 17 (positionsAt s)) (ap (headTests t positionsTags) at-positions ∙ heads-shifted (positionsAt s) late-positions positionsTags)
-        (both-shifted (manyTests s) (contentsTests s read 17 (positionsAt s)) many-shifted
-        (ap (contentsTests t (readPositions (tableOf (formIn t)) (countIn t)) 17) at-positions
-        ∙ coded-shifted (positionsAt s) late-positions (readPositions (tableOf (formIn t)) (countIn t)) read 17 reading-same))
-
-    ratios-shifted : ratiosTests k t ≡ map further (ratiosTests k s)
-    ratios-shifted =
-        both-shifted (headTests s (ratiosTag ∷ []) (ratiosAt s)) (contentsTests s (k (countIn s)) 18 (ratiosAt s)) (ap (headTests t (ratiosTag ∷ [])) at-ratios ∙ heads-shifted (ratiosAt s) late-ratios (ratiosTag ∷ []))
-        (ap (contentsTests t (k (countIn t)) 18) at-ratios ∙ coded-shifted (ratiosAt s) late-ratios (k (countIn t)) (k (countIn s)) 18 (ap k count-same))
-
-    all-shifted : countTests t ++ (roomTests t m n ++ (positionsTests t ++ ratiosTests k t)) ≡ map further (countTests s ++ (roomTests s m n ++ (positionsTests s ++ ratiosTests k s)))
-    all-shifted =
-        both-shifted (countTests s) (roomTests s m n ++ (positionsTests s ++ ratiosTests k s)) count-shifted
-        (both-shifted (roomTests s m n) (positionsTests s ++ ratiosTests k s) room-shifted (both-shifted (positionsTests s) (ratiosTests k s) positions-shifted ratios-shifted))
-
 -- an answer by its refusal, shifted
-answer-shifted : (d : ℕ) (f g : Refusal) → Further f g → (a b : Answer) → b ≡ shifted d a → (ts vs : List ℕ)
+answer-shifted : (d : ℕ) (f g : Refusal) → Further side-takes f g → (a b : Answer) → b ≡ shifted d a → (ts vs : List ℕ)
     → cond (refused g) (refusalAnswer g ts vs) b ≡ shifted d (cond (refused f) (refusalAnswer f ts vs) a)
 answer-shifted d f g h a b e ts vs = go (eqb (f .number) 0) refl
   where
@@ -482,7 +324,7 @@ answer-shifted d f g h a b e ts vs = go (eqb (f .number) 0) refl
     go true q = rw (h .0, q) e
     go false q = rw (h .1 (eqb-false (f .number) 0 q), q, q)
 
--- a side between the rate and what is no side's field
+-- a side between the rate and what follows
 module _ (k : ℕ → List ℕ → Option (List ℕ)) (e r d : ℕ) (rest ts vs : List ℕ) (listed : isRate r ≡ true) (o : Expects e r) (low : 1 ≤ d) (high : d ≤ maxSide) where
   abbrev with-side : List ℕ
   with-side = rateBytes r ++ (sideBytes d ++ rest)
@@ -493,11 +335,17 @@ module _ (k : ℕ → List ℕ → Option (List ℕ)) (e r d : ℕ) (rest ts vs 
   length-side : length (sideBytes d) ≡ side-takes
   length-side = length-field (fieldOf sideTag (bytesOf sideSize d)) ∙ ap (λ (n : ℕ). headSize + n) (length-digits 256 sideSize d)
 
-  past-both : (n : ℕ) → drop (side-place + side-takes + n) with-side ≡ drop n rest
-  past-both n =
-      let p : side-place + side-takes + n ≡ side-place + (side-takes + n) = omega arith in
-      ap (λ (m : ℕ). drop m with-side) p ∙ rest-from k e r (sideBytes d ++ rest) ts vs (side-takes + n)
-      ∙ ap (λ (m : ℕ). drop (m + n) (sideBytes d ++ rest)) (sym length-side) ∙ drop-append-add (sideBytes d) rest n
+  at-count : countAt with-side ≡ side-place + side-takes
+  at-count = count-past k e r d rest ts vs listed o small
+
+  length-both : length with-side ≡ side-place + side-takes + length rest
+  length-both = omega (arith, length-all k e r (sideBytes d ++ rest) ts vs, length-append (sideBytes d) rest, length-side)
+
+  -- what follows both
+  rest-past : drop (countAt with-side) with-side ≡ rest
+  rest-past =
+      ap (λ (p : ℕ). drop p with-side) at-count ∙ sym (drop-drop side-takes side-place with-side)
+      ∙ ap (drop side-takes) (rest-here k e r (sideBytes d ++ rest) ts vs) ∙ drop-at (sideBytes d) rest side-takes length-side
 
   from-here : firstOf (tests k e r (sideBytes d ++ rest) ts vs) ≡ firstOf (from-count k e r (sideBytes d ++ rest) ts vs)
   from-here = past-side k e r d rest ts vs listed o small (side-in d low high)
@@ -506,27 +354,22 @@ module _ (k : ℕ → List ℕ → Option (List ℕ)) (e r d : ℕ) (rest ts vs 
   eleven-past : headSize ≤ length rest → (tagAt rest 0 ≡ countTag → ⊥) → readWith k e with-side ts vs ≡ refusedBy 11 (side-place + side-takes) ts vs
   unfolding tagAt
   eleven-past h count =
-      let at : countAt with-side ≡ side-place + side-takes = count-past k e r d rest ts vs listed o small in
       let tag : tagAt with-side (countAt with-side) ≡ tagAt rest 0 =
-      ap (λ (p : ℕ). getD with-side p 0) at ∙ sym (getD-drop (side-place + side-takes) with-side 0 0) ∙ ap (λ (l : List ℕ). getD l 0 0) (past-both 0) in
-      let long = length-all k e r (sideBytes d ++ rest) ts vs in
+      ap (λ (p : ℕ). getD with-side p 0) (sym (add-zero (countAt with-side))) ∙ sym (getD-drop (countAt with-side) with-side 0 0) ∙ ap (λ (l : List ℕ). getD l 0 0) rest-past in
       refuses k e r (sideBytes d ++ rest) ts vs 11 (side-place + side-takes) (λ z. omega arith)
       (from-here
-      ∙ sym
-      (tag-other with-side (countTag ∷ []) (some countSize) (countAt with-side) _ (omega (arith, at, long, length-append (sideBytes d) rest, length-side))
-      (not-one _ _ (λ z. count (sym tag ∙ z))))
-      ∙ ap (refusal 11) at)
+      ∙ sym (tag-other with-side (countTag ∷ []) (some countSize) (countAt with-side) _ (omega (arith, at-count, length-both)) (not-one _ _ (λ z. count (sym tag ∙ z))))
+      ∙ ap (refusal 11) at-count)
 
   -- fewer bytes than a head
   ten-past : length rest < headSize → readWith k e with-side ts vs ≡ refusedBy 10 (side-place + side-takes) ts vs
   ten-past h =
-      let at : countAt with-side ≡ side-place + side-takes = count-past k e r d rest ts vs listed o small in
-      let long = length-all k e r (sideBytes d ++ rest) ts vs in
       refuses k e r (sideBytes d ++ rest) ts vs 10 (side-place + side-takes) (λ z. omega arith)
       (from-here
-      ∙ sym (head-short with-side (countTag ∷ []) (some countSize) (countAt with-side) _ (omega (arith, at, long, length-append (sideBytes d) rest, length-side)))
-      ∙ ap (refusal 10) at)
+      ∙ sym (head-short with-side (countTag ∷ []) (some countSize) (countAt with-side) _ (omega (arith, at-count, length-both)))
+      ∙ ap (refusal 10) at-count)
 
+  -- where what follows is no side's field, its fields are those of the record without the side, further on
   module _ (other : tagAt rest 0 ≡ sideTag → ⊥) where
     abbrev without : List ℕ
     without = rateBytes r ++ rest
@@ -537,39 +380,40 @@ module _ (k : ℕ → List ℕ → Option (List ℕ)) (e r d : ℕ) (rest ts vs 
     count-here : countAt without ≡ side-place
     count-here = absent-count without absent ∙ at-side k e r rest ts vs
 
-    longer : length with-side ≡ length without + side-takes
-    longer = omega (arith, length-all k e r (sideBytes d ++ rest) ts vs, length-all k e r rest ts vs, length-append (sideBytes d) rest, length-side)
+    points : FieldsMoved side-takes without (countAt without) with-side (countAt with-side) pointFieldCount
+    points =
+        later-fields side-takes without with-side (omega (arith, length-both, length-all k e r rest ts vs)) (countAt without) (countAt with-side) pointFieldCount (at-count ∙ omega (arith, count-here))
+        (rest-past ∙ sym (ap (λ (p : ℕ). drop p without) count-here ∙ rest-here k e r rest ts vs))
 
-    same-past : (p : ℕ) → side-place ≤ p → drop (p + side-takes) with-side ≡ drop p without
-    same-past p h =
-        let a : p + side-takes ≡ side-place + side-takes + (p - side-place) = omega arith in
-        let b : p ≡ side-place + (p - side-place) = omega arith in
-        ap (λ (n : ℕ). drop n with-side) a ∙ past-both (p - side-place) ∙ sym (ap (λ (n : ℕ). drop n without) b ∙ rest-from k e r rest ts vs (p - side-place))
+    tests-further : from-count k e r (sideBytes d ++ rest) ts vs ≡ map (further side-takes) (from-count k e r rest ts vs)
+    tests-further =
+        let room = roomTests without (length ts) (length vs) in
+        let later = positionsTests without ++ ratiosTests k without in
+        further-append side-takes (countTests without) (room ++ later) (count-tests-moved points)
+        (further-append side-takes room later (room-tests-moved points (length ts) (length vs))
+        (further-append side-takes (positionsTests without) (ratiosTests k without) (positions-tests-moved points positionsTags) (ratios-tests-moved points k)))
 
-    count-at : countAt with-side ≡ countAt without + side-takes
-    count-at = count-past k e r d rest ts vs listed o small ∙ omega (arith, count-here)
-
-    further-tests : Further (firstOf (tests k e r rest ts vs)) (firstOf (tests k e r (sideBytes d ++ rest) ts vs))
-    further-tests =
+    refusal-further : Further side-takes (firstOf (tests k e r rest ts vs)) (firstOf (tests k e r (sideBytes d ++ rest) ts vs))
+    refusal-further =
         let a = past-absent k e r rest ts vs listed o absent in
-        let b = from-here ∙ ap firstOf (all-shifted without with-side longer same-past k (length ts) (length vs) count-here count-at) in
-        rw (a, b) (first-further (from-count k e r rest ts vs))
+        let b = from-here ∙ ap firstOf tests-further in
+        rw (a, b) (firstOf-further side-takes (from-count k e r rest ts vs))
 
     record-shifted : recordAnswer k with-side ts vs ≡ shifted d (recordAnswer k without ts vs)
     record-shifted =
         let here = rate-small k e r rest ts vs listed o in
         let a : rateIn with-side ≡ rateIn without = rate-is k e r (sideBytes d ++ rest) ts vs here ∙ sym (rate-is k e r rest ts vs here) in
         let b : sideIn with-side ≡ d = present-side with-side (present k e r d rest ts vs listed o small) ∙ stored-is k e r d rest ts vs listed o small in
-        let c = count-same without with-side longer same-past k (length ts) (length vs) count-here count-at in
-        let u = at-end without with-side longer same-past k (length ts) (length vs) count-here count-at in
-        let p = positions-same without with-side longer same-past k (length ts) (length vs) count-here count-at in
-        let q = ratios-same without with-side longer same-past k (length ts) (length vs) count-here count-at in
-        let f = form-same without with-side longer same-past k (length ts) (length vs) count-here count-at in
+        let c = count-same points in
+        let u = end-moved points in
+        let p = positions-same points in
+        let q = ratios-same points k in
+        let f = form-same points in
         cc
 
     shifts : readWith k e with-side ts vs ≡ shifted d (readWith k e without ts vs)
     unfolding readWith
-    shifts = answer-shifted d _ _ further-tests (recordAnswer k without ts vs) (recordAnswer k with-side ts vs) record-shifted ts vs
+    shifts = answer-shifted d _ _ refusal-further (recordAnswer k without ts vs) (recordAnswer k with-side ts vs) record-shifted ts vs
 
 pub side-shifts : SideShifts
 side-shifts k e r d rest ts vs listed o low high other = shifts k e r d rest ts vs listed o low high other

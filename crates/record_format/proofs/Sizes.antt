@@ -19,17 +19,19 @@ use Rattle.position_format.proofs.Positions.Valid.{valid-none}
 use Rattle.ratio_format.specs.Bodies.{codedFrom}
 use Rattle.record_format.specs.Runs.{run, sideLength, recordOf}
 use Rattle.record_format.specs.Claims.{Accepted}
-use Rattle.record_format.specs.Sizes.{minRecord, longestOn, maxRecord, Within, NoPoints, longest, Reached}
+use Rattle.record_format.specs.Sizes.{minRecord, maxPositionsBody, maxRatiosBody, longestOn, Within, NoPoints, longest, Reached}
 use Rattle.record_format.proofs.Writing.{accepted-fits, fitting-accepted}
 use Rattle.record_format.proofs.Runs.{positions-size, ratios-size, length-record}
 use Rattle.record_format.proofs.Sizes.Longest.{longest-positions, longest-ratios, longest-accepted}
 
--- the longest in either form, on a side and on none
-form-longest : (f : Form) (d : ℕ) → longestOn f d ≤ maxRecord
-form-longest Old zero = lit≤ tt
-form-longest Old (suc d) = lit≤ tt
-form-longest Wide zero = lit≤ tt
-form-longest Wide (suc d) = lit≤ tt
+-- the longest in either form, on any side
+side-longest : (d : ℕ) → sideLength d ≤ sideLength maxSide
+side-longest zero = lit≤ tt
+side-longest (suc d) = lit≤ tt
+
+form-longest : (f : Form) → maxPositionsBody f + maxRatiosBody f ≤ maxPositionsBody Wide + maxRatiosBody Wide
+form-longest Old = lit≤ tt
+form-longest Wide = lit≤ tt
 
 pub within : Within
 within r a =
@@ -37,7 +39,8 @@ within r a =
     let n = length-record r in
     let p = positions-size r f in
     let v = ratios-size r f in
-    let m = form-longest (r .form) (r .side) in
+    let m = form-longest (r .form) in
+    let d = side-longest (r .side) in
     (omega arith, omega arith, omega arith, p, v)
 
 no-bytes : (rate side : ℕ) (form : Form) → length (recordOf (run rate side form [] [])) ≡ minRecord + sideLength side

@@ -7,8 +7,8 @@ use mathlib.Core.Option.{Option, none, some}
 use Prim.Native.Nat.{ℕ, zero, suc, _+_, _^_, _≤_, _<_}
 use native.Mathlib.Nat.{add-zero}
 use native.Mathlib.Omega.{arith}
-use borrow.Author.Tests.{ne-eqb, le-ltb, lt-ltb, leb-true, leb-false}
-use lib.Dec.{ltb, leb, eqb·suc-zero}
+use borrow.Author.Tests.{ne-eqb, le-ltb, lt-ltb}
+use lib.Dec.{ltb, eqb·suc-zero}
 use lib.ListN.{length, getD, drop, length-append}
 use lib.Seq.{getD-append-add}
 use Rattle.lists.specs.Lists.{member}
@@ -18,8 +18,8 @@ use Rattle.limits.specs.Points.{maxPoints}
 use Rattle.limits.specs.Rates.{isRate}
 use Rattle.limits.specs.Sides.{maxSide}
 use Rattle.limits.proofs.Points.{none-high}
-use Rattle.refusals.specs.Tests.{Test, test, firstOf}
-use Rattle.refusals.proofs.Tests.{first-here, first-skip}
+use Rattle.refusals.specs.Tests.{Test, test, refusal, firstOf}
+use Rattle.refusals.proofs.Tests.{firstOf-here, firstOf-skip}
 use Rattle.position_format.specs.declared.Form.{Form}
 use Rattle.position_format.specs.declared.Form.the-variants.{Old, Wide}
 use Rattle.position_format.specs.Positions.{validPositions, readPositions}
@@ -28,16 +28,15 @@ use Rattle.position_format.proofs.Positions.Sizes.{points-few}
 use Rattle.position_format.proofs.Tables.WideRows.{wide-valid}
 use Rattle.record_format.specs.Fields.{Field, fieldOf, lengthSize, headSize, fieldBytes, laid, tagAt, lengthAt, bodyAt, nextAt, fieldTests}
 use Rattle.record_format.specs.Runs.{Run, run, positionsTag, positionsTags, formOf, ratiosTag, countSize, positionsField, frontFields, recordOf}
-use Rattle.record_format.specs.Writing.{runTests}
 use Rattle.record_format.specs.Reading.{recordAnswer, readTests, readWith, rateAt, countAt, positionsAt, ratiosAt, endAt, countIn, formIn, positionsIn, ratiosIn, missing, listOf, lacksRoom, positionsTests, ratiosTests}
 use Rattle.record_format.specs.SideClaims.{Expects, refusedBy}
 use Rattle.record_format.specs.Claims.{countPlace, positionsPlace}
-use Rattle.record_format.specs.WideClaims.{FormNumbers, RecordFields, wideTests, RefusesWide, AcceptsWide, FormsApart, frontBytes, CountFirst, TagFirst, BodyByForm, RatiosByReading}
-use Rattle.record_format.proofs.Fields.{FieldStands, StandAll, length-field, stands, laid-stand, pastAll, stand-past, small-append, stand-append, past-append, head-stands}
+use Rattle.record_format.specs.WideClaims.{FormNumbers, RecordFields, RefusesWide, AcceptsWide, FormsApart, frontBytes, CountFirst, TagFirst, BodyByForm, RatiosByReading}
+use Rattle.record_format.proofs.Fields.{FieldStands, StandAll, length-field, field-stands, laid-stand, pastAll, stand-past, small-append, stand-append, past-append, head-stands}
 use Rattle.record_format.proofs.Reading.Fronts.{count-at, positions-at, front-past, rate-is, side-is, count-is, front-tests, input, front-all, front-length, input-length, tag-there, form-is, positions-are, positions-pass}
-use Rattle.record_format.proofs.Reading.{refusal, body-short, field-good, positions-few, positions-many, answer-refused, answer-good}
+use Rattle.record_format.proofs.Reading.{body-short, field-good, positions-few, positions-many, answer-good, read-refused}
 use Rattle.record_format.proofs.Runs.{form-of, tag-good, front-small, coded-size, form-bodies}
-use Rattle.record_format.proofs.Writing.{fitting-accepted}
+use Rattle.record_format.proofs.Writing.{refuses-by-form, fitting-accepted}
 use Rattle.record_format.proofs.Claims.{no-other, prefix-free}
 
 -- ---- the forms' numbers
@@ -52,16 +51,8 @@ unfolding recordOf
 record-fields r zero ts vs = (refl, refl)
 record-fields r (suc d) ts vs = (rw (eqb·suc-zero d), rw (eqb·suc-zero d))
 
--- the tests of a run by its rate and its side
 pub refuses-wide : RefusesWide
-unfolding firstOf
-refuses-wide r d ts vs = go (isRate r) refl (leb d maxSide) refl
-  where
-    go : (b : Bool) → isRate r ≡ b → (c : Bool) → leb d maxSide ≡ c
-        → firstOf (runTests (run r d Wide ts vs)) ≡ cond (isRate r) (cond (leb d maxSide) (firstOf (wideTests r ts vs)) (refusal 21 0)) (refusal 1 0)
-    go false e c q = rw e
-    go true e true q = rw (e, q, le-ltb maxSide d (leb-true d maxSide q))
-    go true e false q = rw (e, q, lt-ltb maxSide d (leb-false d maxSide q))
+refuses-wide r d ts vs = refuses-by-form Wide r d ts vs
 
 pub accepts-wide : AcceptsWide
 accepts-wide r d ts vs listed sided paired few low words = record {
@@ -89,15 +80,14 @@ module _ (k : ℕ → List ℕ → Option (List ℕ)) (e r d n : ℕ) (s ts vs :
   counted : countIn s ≡ n
   counted = count-is s r d n listed sided counts all
 
-  refuses : (x p : ℕ) → (x ≡ 0 → ⊥) → firstOf tests ≡ refusal x p → readWith k e s ts vs ≡ refusedBy x p ts vs
-  unfolding readWith
-  refuses x p z q = answer-refused (recordAnswer k s ts vs) ts vs tests (refusal x p) (sym q) z
+  abbrev refuses : (x p : ℕ) → (x ≡ 0 → ⊥) → firstOf tests ≡ refusal x p → readWith k e s ts vs ≡ refusedBy x p ts vs
+  refuses x p z q = read-refused k e s ts vs x p z q
 
   past-rate : firstOf tests ≡ firstOf (test (ltb maxPoints n) 15 (countAt s) ∷ test (lacksRoom (length ts) (length vs) n) 16 (countAt s) ∷ (positionsTests s ++ ratiosTests k s))
-  past-rate = front-tests s r d n listed sided counts all k e (length ts) (length vs) ∙ first-skip _ _ (no-other e r o)
+  past-rate = front-tests s r d n listed sided counts all k e (length ts) (length vs) ∙ firstOf-skip _ _ (no-other e r o)
 
   fifteen : maxPoints < n → readWith k e s ts vs ≡ refusedBy 15 (countPlace d) ts vs
-  fifteen h = refuses 15 (countPlace d) (λ z. omega arith) (past-rate ∙ first-here _ _ (lt-ltb _ _ h) ∙ ap (refusal 15) at-count)
+  fifteen h = refuses 15 (countPlace d) (λ z. omega arith) (past-rate ∙ firstOf-here _ _ (lt-ltb _ _ h) ∙ ap (refusal 15) at-count)
 
   lacking : (length ts < n) ⊎ (length vs < n) → lacksRoom (length ts) (length vs) n ≡ true
   lacking (inl h) = rw (lt-ltb (length ts) n h)
@@ -110,15 +100,15 @@ module _ (k : ℕ → List ℕ → Option (List ℕ)) (e r d n : ℕ) (s ts vs :
   module _ (few : n ≤ maxPoints) where
     sixteen : (length ts < n) ⊎ (length vs < n) → readWith k e s ts vs ≡ refusedBy 16 (countPlace d) ts vs
     sixteen h =
-        refuses 16 (countPlace d) (λ z. omega arith) (past-rate ∙ first-skip _ _ (le-ltb _ _ few) ∙ first-here _ _ (lacking h) ∙ ap (refusal 16) at-count)
+        refuses 16 (countPlace d) (λ z. omega arith) (past-rate ∙ firstOf-skip _ _ (le-ltb _ _ few) ∙ firstOf-here _ _ (lacking h) ∙ ap (refusal 16) at-count)
 
     module _ (first : n ≤ length ts) (second : n ≤ length vs) where
       past-room : firstOf tests ≡ firstOf (positionsTests s ++ ratiosTests k s)
-      past-room = past-rate ∙ first-skip _ _ (le-ltb _ _ few) ∙ first-skip _ _ (ap₂ (λ (a b : Bool). cond a true b) (le-ltb _ _ first) (le-ltb _ _ second))
+      past-room = past-rate ∙ firstOf-skip _ _ (le-ltb _ _ few) ∙ firstOf-skip _ _ (ap₂ (λ (a b : Bool). cond a true b) (le-ltb _ _ first) (le-ltb _ _ second))
 
       -- the head of the positions' field is cut
       ten-head : length s < positionsAt s + headSize → readWith k e s ts vs ≡ refusedBy 10 (positionsPlace d) ts vs
-      ten-head h = refuses 10 (positionsPlace d) (λ z. omega arith) (past-room ∙ first-here _ _ (lt-ltb _ _ h) ∙ ap (refusal 10) at-positions)
+      ten-head h = refuses 10 (positionsPlace d) (λ z. omega arith) (past-room ∙ firstOf-here _ _ (lt-ltb _ _ h) ∙ ap (refusal 10) at-positions)
 
       -- or it is whole, with a tag
       module _ (head : positionsAt s + headSize ≤ length s) (tag : ℕ) (tagged : tagAt s (positionsAt s) ≡ tag) where
@@ -126,8 +116,8 @@ module _ (k : ℕ → List ℕ → Option (List ℕ)) (e r d n : ℕ) (s ts vs :
         unfolding member
         eleven old wide =
             refuses 11 (positionsPlace d) (λ z. omega arith)
-            (past-room ∙ first-skip _ _ (le-ltb _ _ head)
-            ∙ first-here _ _ (ap (λ (t : ℕ). not (member t positionsTags)) tagged ∙ rw (ne-eqb tag (positionsTag Old) old, ne-eqb tag (positionsTag Wide) wide))
+            (past-room ∙ firstOf-skip _ _ (le-ltb _ _ head)
+            ∙ firstOf-here _ _ (ap (λ (t : ℕ). not (member t positionsTags)) tagged ∙ rw (ne-eqb tag (positionsTag Old) old, ne-eqb tag (positionsTag Wide) wide))
             ∙ ap (refusal 11) at-positions)
 
         fifteen-wide : tag ≡ positionsTag Wide → pointsOf Wide < n → readWith k e s ts vs ≡ refusedBy 15 (countPlace d) ts vs
@@ -161,7 +151,7 @@ module _ (k : ℕ → List ℕ → Option (List ℕ)) (e r d n : ℕ) (s ts vs :
               refuses 17 (positionsPlace d) (λ z. omega arith)
               (past-many
               ∙ field-good s positionsTags none (positionsAt s) _ head is-good tt h
-              ∙ first-here _ _ (ap₂ (λ (x : Form) (c : ℕ). missing (readPositions (tableOf x) c (bodyAt s (positionsAt s)))) formed counted ∙ ap missing unread)
+              ∙ firstOf-here _ _ (ap₂ (λ (x : Form) (c : ℕ). missing (readPositions (tableOf x) c (bodyAt s (positionsAt s)))) formed counted ∙ ap missing unread)
               ∙ ap (refusal 17) at-positions)
 
       -- positions that are read: the ratios' field is left
@@ -173,14 +163,14 @@ module _ (k : ℕ → List ℕ → Option (List ℕ)) (e r d n : ℕ) (s ts vs :
         past-positions = past-room ∙ positions-pass s f ps points valid as-counted there (ratiosTests k s)
 
         ten-ratios : length s < ratiosAt s + headSize → readWith k e s ts vs ≡ refusedBy 10 (ratiosAt s) ts vs
-        ten-ratios h = refuses 10 (ratiosAt s) (λ z. omega arith) (past-positions ∙ first-here _ _ (lt-ltb _ _ h))
+        ten-ratios h = refuses 10 (ratiosAt s) (λ z. omega arith) (past-positions ∙ firstOf-here _ _ (lt-ltb _ _ h))
 
         module _ (head : ratiosAt s + headSize ≤ length s) (tag : ℕ) (tagged : tagAt s (ratiosAt s) ≡ tag) where
           eleven-ratios : (tag ≡ ratiosTag → ⊥) → readWith k e s ts vs ≡ refusedBy 11 (ratiosAt s) ts vs
           unfolding member
           eleven-ratios other =
               refuses 11 (ratiosAt s) (λ z. omega arith)
-              (past-positions ∙ first-skip _ _ (le-ltb _ _ head) ∙ first-here _ _ (ap (λ (t : ℕ). not (member t (ratiosTag ∷ []))) tagged ∙ rw (ne-eqb tag ratiosTag other)))
+              (past-positions ∙ firstOf-skip _ _ (le-ltb _ _ head) ∙ firstOf-here _ _ (ap (λ (t : ℕ). not (member t (ratiosTag ∷ []))) tagged ∙ rw (ne-eqb tag ratiosTag other)))
 
           module _ (named : tag ≡ ratiosTag) where
             ratios-good : member (tagAt s (ratiosAt s)) (ratiosTag ∷ []) ≡ true
@@ -197,7 +187,7 @@ module _ (k : ℕ → List ℕ → Option (List ℕ)) (e r d n : ℕ) (s ts vs :
 
               eighteen : k n (bodyAt s (ratiosAt s)) ≡ none → readWith k e s ts vs ≡ refusedBy 18 (ratiosAt s) ts vs
               eighteen unread =
-                  refuses 18 (ratiosAt s) (λ z. omega arith) (past-ratios ∙ first-here _ _ (ap (λ (c : ℕ). missing (k c (bodyAt s (ratiosAt s)))) counted ∙ ap missing unread))
+                  refuses 18 (ratiosAt s) (λ z. omega arith) (past-ratios ∙ firstOf-here _ _ (ap (λ (c : ℕ). missing (k c (bodyAt s (ratiosAt s)))) counted ∙ ap missing unread))
 
               found : (qs : List ℕ) → k n (bodyAt s (ratiosAt s)) ≡ some qs → readWith k e s ts vs ≡ record {
                 answer = record { number = 0; place = 0; rate = r; side = d; count = n; form = positionsTag f; used = endAt s };
@@ -213,7 +203,7 @@ module _ (k : ℕ → List ℕ → Option (List ℕ)) (e r d n : ℕ) (s ts vs :
                   let g : positionsTag (formIn s) ≡ positionsTag f = ap positionsTag (form-is s f ps points valid as-counted there) in
                   let x : listOf (positionsIn s) ≡ ps = ap listOf (positions-are s f ps points valid as-counted there) in
                   let y : listOf (ratiosIn k s) ≡ qs = ap listOf v in
-                  answer-good (recordAnswer k s ts vs) ts vs tests (past-ratios ∙ first-skip _ _ (ap missing v)) ∙ cc
+                  answer-good (recordAnswer k s ts vs) ts vs tests (past-ratios ∙ firstOf-skip _ _ (ap missing v)) ∙ cc
 
 -- ---- the statements
 
@@ -254,8 +244,8 @@ body-by-form k e r d n f rest ts vs listed o sided points first second =
           let s = input r d n x listed sided counts in
           let all = front-all r d n x listed sided counts in
           let at = front-length r d n x listed sided counts in
-          let h = subst (λ (p : ℕ). FieldStands s p (fieldOf (positionsTag f) body)) at (stands (frontBytes r d n) (fieldOf (positionsTag f) body) rest (omega arith)) in
-          seventeen k e r d n s ts vs listed o sided counts all few first second (h .head) (positionsTag f) (h .tagged) f refl points (h .whole)
+          let h = subst (λ (p : ℕ). FieldStands s p (fieldOf (positionsTag f) body)) at (field-stands (frontBytes r d n) (fieldOf (positionsTag f) body) rest (omega arith)) in
+          seventeen k e r d n s ts vs listed o sided counts all few first second (h .head-whole) (positionsTag f) (h .tagged) f refl points (h .whole)
           (ap (readPositions (tableOf f) n) (h .within) ∙ unread),
     )
 
@@ -284,16 +274,16 @@ module _ (r d : ℕ) (f : Form) (ps rest : List ℕ) (listed : isRate r ≡ true
   parts : StandAll whole rateAt front × StandAll whole (pastAll whole rateAt front) (positionsField f ps ∷ [])
   parts = stand-append whole rateAt front (positionsField f ps ∷ []) stood
 
-  past : pastAll whole rateAt front ≡ positionsAt whole
-  past = front-past whole r d (length ps) listed sided counts-points (parts .0)
+  past-front : pastAll whole rateAt front ≡ positionsAt whole
+  past-front = front-past whole r d (length ps) listed sided counts-points (parts .0)
 
   points-stand : FieldStands whole (positionsAt whole) (positionsField f ps)
-  points-stand = subst (λ (p : ℕ). FieldStands whole p (positionsField f ps)) past (parts .1 .0)
+  points-stand = subst (λ (p : ℕ). FieldStands whole p (positionsField f ps)) past-front (parts .1 .0)
 
   -- the ratios' field begins where these end
   before-length : length before ≡ ratiosAt whole
   before-length =
-      omega (arith, stand-past whole rateAt (front ++ (positionsField f ps ∷ [])) stood) ∙ past-append whole rateAt front (positionsField f ps ∷ []) ∙ ap (nextAt whole) past
+      omega (arith, stand-past whole rateAt (front ++ (positionsField f ps ∷ [])) stood) ∙ past-append whole rateAt front (positionsField f ps ∷ []) ∙ ap (nextAt whole) past-front
 
   whole-length : length whole ≡ ratiosAt whole + length rest
   whole-length = length-append before rest ∙ ap (λ (m : ℕ). m + length rest) before-length
@@ -336,15 +326,15 @@ ratios-by-reading k e r d f ps rest ts vs listed o sided points valid first seco
           let x = fieldBytes (fieldOf ratiosTag body) ++ rest in
           let s = b ++ x in
           let at = before-length r d f ps x listed sided points valid in
-          let h = subst (λ (p : ℕ). FieldStands s p (fieldOf ratiosTag body)) at (stands b (fieldOf ratiosTag body) rest (omega arith)) in
+          let h = subst (λ (p : ℕ). FieldStands s p (fieldOf ratiosTag body)) at (field-stands b (fieldOf ratiosTag body) rest (omega arith)) in
           let p = parts r d f ps x listed sided points valid .0 in
           let q = points-stand r d f ps x listed sided points valid in (
             λ unread.
-                eighteen k e r d n s ts vs listed o sided counts p few first second f ps refl points valid q (h .head) ratiosTag (h .tagged) refl (h .whole) (ap (k n) (h .within) ∙ unread)
+                eighteen k e r d n s ts vs listed o sided counts p few first second f ps refl points valid q (h .head-whole) ratiosTag (h .tagged) refl (h .whole) (ap (k n) (h .within) ∙ unread)
                 ∙ ap (λ (y : ℕ). refusedBy 18 y ts vs) (sym at),
             λ qs read.
                 let used : endAt s ≡ length b + headSize + length body = h .next ∙ omega (arith, at, length-field (fieldOf ratiosTag body)) in
-                found k e r d n s ts vs listed o sided counts p few first second f ps refl points valid q (h .head) ratiosTag (h .tagged) refl (h .whole) qs (ap (k n) (h .within) ∙ read)
+                found k e r d n s ts vs listed o sided counts p few first second f ps refl points valid q (h .head-whole) ratiosTag (h .tagged) refl (h .whole) qs (ap (k n) (h .within) ∙ read)
                 ∙ ap
                 (λ (u : ℕ).
                 record {

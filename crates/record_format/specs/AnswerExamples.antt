@@ -1,8 +1,7 @@
 -- Answers by example: what an example of reading and of writing is, and that every one of a table is as it is given.
---   rate, side d, count n  bytes of fields: the rate 96,000, a side that stores d, a count
+--   givenRate, givenSide d, givenCount n   bytes of fields: the rate 96,000, a side that stores d, a count
 --   twoOpen t              the fields of two points at 0, the positions' with the tag t, whose ratios are the exceptions 0 and 1: no coding, but an open form
---   refusedRead n p        the answer of a refused reading
---   read d n f u           that of a record at 96,000 on side d, with n points, the form's tag f and u bytes
+--   read d n f u           the answer of a record at 96,000 on side d, with n points, the form's tag f and u bytes
 --   ReadExample, ReadsSo   the expected rate, the room for numbers, the input, and the answers of strict and of open reading
 --   alike, openOnly        such examples in which both readings answer alike, and in which only open reading accepts
 --   WriteExample, WritesSo a run, the room for bytes, and the answer; wrote: such an example
@@ -18,24 +17,20 @@ use Rattle.record_format.specs.Writing.{writeAnswer}
 use Rattle.record_format.specs.Reading.{readStrict, readOpen}
 
 -- a rate's field
-abbrev pub rate : List ℕ
-rate = 0x01 ∷ 0x00 ∷ 0x04 ∷ 0x00 ∷ 0x01 ∷ 0x77 ∷ 0x00 ∷ []
+abbrev pub givenRate : List ℕ
+givenRate = 0x01 ∷ 0x00 ∷ 0x04 ∷ 0x00 ∷ 0x01 ∷ 0x77 ∷ 0x00 ∷ []
 
 -- a side's
-abbrev pub side : ℕ → List ℕ
-side d = 0x06 ∷ 0x00 ∷ 0x01 ∷ d ∷ []
+abbrev pub givenSide : ℕ → List ℕ
+givenSide d = 0x06 ∷ 0x00 ∷ 0x01 ∷ d ∷ []
 
 -- a count's
-abbrev pub count : ℕ → List ℕ
-count n = 0x02 ∷ 0x00 ∷ 0x02 ∷ bytesOf 2 n
+abbrev pub givenCount : ℕ → List ℕ
+givenCount n = 0x02 ∷ 0x00 ∷ 0x02 ∷ bytesOf 2 n
 
 -- the positions' and the ratios' of two points, openly
 abbrev pub twoOpen : ℕ → List ℕ
 twoOpen t = t ∷ 0x00 ∷ 0x10 ∷ (replicate 16 0 ++ (0x04 ∷ 0x00 ∷ 0x12 ∷ 0xFF ∷ (replicate 8 0 ++ (0xFF ∷ (replicate 7 0 ++ (0x01 ∷ []))))))
-
--- every other returned number is 0
-abbrev pub refusedRead : ℕ → ℕ → ReadAnswer
-refusedRead n p = record { number = n; place = p; rate = 0; side = 0; count = 0; form = 0; used = 0 }
 
 -- a success
 abbrev pub read : ℕ → ℕ → ℕ → ℕ → ReadAnswer

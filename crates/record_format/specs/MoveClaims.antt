@@ -6,7 +6,7 @@
 --   ByRoom f r q ..   the move of the record of r to the form f writes that of q, or is refused by 6, exactly where there is no room for it
 --   ToWide            an accepted run in the old form: 3 above 3,500 points; else the same run is accepted in the wide form, and the move is refused by 6 alone,
 --                     exactly where there is no room for that record
---   Held ts i         document 01's table holds the step at the point of index i
+--   StepHeld ts i     document 01's table holds the step at the point of index i
 --   ToOld             an accepted run in the wide form: 5 at the first point whose step document 01's table does not hold; else the same of the old form
 --   FormThere f s     the bytes s begin with the fields of a rate, a side unless it is 0 and a count of at most 4,096, and past them stands a whole head with
 --                     the tag of the form f
@@ -59,15 +59,15 @@ ToWide = (r : Run) → Accepted r → r .form ≡ Old → (rest o : List ℕ)
     × (length (r .positions) ≤ 3500 → Accepted (inForm Wide r) × ByRoom Wide r (inForm Wide r) rest o)
 
 -- from the third point on
-abbrev pub Held : List ℕ → ℕ → Type 0
-Held ts i = inTable rows (stepHere ts i) ≡ true
+abbrev pub StepHeld : List ℕ → ℕ → Type 0
+StepHeld ts i = inTable rows (stepHere ts i) ≡ true
 
 -- never refused where every step is in the old table, given room
 abbrev pub ToOld : Type 0
 ToOld = (r : Run) → Accepted r → r .form ≡ Wide → (rest o : List ℕ)
     → let ts = r .positions in
-    ((p : ℕ) → 2 ≤ p → p < length ts → (Held ts p → ⊥) → ((i : ℕ) → 2 ≤ i → i < p → Held ts i) → moveOf Old (recordOf r ++ rest) o ≡ notMoved 5 p o)
-    × (((i : ℕ) → 2 ≤ i → i < length ts → Held ts i) → Accepted (inForm Old r) × ByRoom Old r (inForm Old r) rest o)
+    ((p : ℕ) → 2 ≤ p → p < length ts → (StepHeld ts p → ⊥) → ((i : ℕ) → 2 ≤ i → i < p → StepHeld ts i) → moveOf Old (recordOf r ++ rest) o ≡ notMoved 5 p o)
+    × (((i : ℕ) → 2 ≤ i → i < length ts → StepHeld ts i) → Accepted (inForm Old r) × ByRoom Old r (inForm Old r) rest o)
 
 -- a sound front, and past it the head of positions in the form f
 abbrev pub FormThere : Form → List ℕ → Type 0

@@ -34,7 +34,7 @@ use Rattle.record_format.specs.Examples.{listedBytes, sidedBytes, paused
 use Rattle.record_format.specs.Runs.{Run, run, recordOf}
 use Rattle.record_format.specs.Reading.{countAt, sideIn}
 use Rattle.record_format.specs.Moves.{Move, moveOf}
-use Rattle.record_format.specs.AnswerExamples.{rate, side, count, twoOpen}
+use Rattle.record_format.specs.AnswerExamples.{givenRate, givenSide, givenCount, twoOpen}
 
 -- what is moved, and what comes of it
 pub record MoveExample : Type 0 where
@@ -64,7 +64,7 @@ moves f s m u ws = record {
 -- positions 0, 0, 2049 and 9098, whose steps take 36 bits each in the old form and 37 in the wide one
 abbrev stepped : ℕ → List ℕ → List ℕ
 stepped t ps =
-    rate ++ (count 4 ++ (t ∷ 0x00 ∷ length ps ∷ (ps ++ (0x04 ∷ 0x00 ∷ 0x0C ∷ 0xFF ∷ (replicate 8 0 ++ replicate 3 0)))))
+    givenRate ++ (givenCount 4 ++ (t ∷ 0x00 ∷ length ps ∷ (ps ++ (0x04 ∷ 0x00 ∷ 0x0C ∷ 0xFF ∷ (replicate 8 0 ++ replicate 3 0)))))
 
 -- in the old form
 abbrev steppedOld : List ℕ
@@ -100,40 +100,40 @@ moveRows =
     ∷ moves Wide (sidedBytes ++ (0x03 ∷ 0xFF ∷ [])) 60 50 (take 16 sidedBytes ++ (0x05 ∷ drop 17 sidedBytes))
     ∷ moves Wide steppedOld 56 55 steppedWide
     ∷ moves Old steppedWide 55 56 steppedOld
-    ∷ moves Old (rate ++ (count 0 ++ noPoints 5)) 18 18 (rate ++ (count 0 ++ noPoints 3))
-    ∷ moves Wide (rate ++ (side 4 ++ (count 0 ++ noPoints 3))) 22 22 (rate ++ (side 4 ++ (count 0 ++ noPoints 5)))
+    ∷ moves Old (givenRate ++ (givenCount 0 ++ noPoints 5)) 18 18 (givenRate ++ (givenCount 0 ++ noPoints 3))
+    ∷ moves Wide (givenRate ++ (givenSide 4 ++ (givenCount 0 ++ noPoints 3))) 22 22 (givenRate ++ (givenSide 4 ++ (givenCount 0 ++ noPoints 5)))
     ∷ moves Wide (recordOf (oddRun Old)) 80 65 (recordOf (oddRun Wide))
     ∷ moves Old (recordOf (oddRun Wide)) 80 65 (recordOf (oddRun Old))
     ∷ moves Old (wide (0 ∷ 0 ∷ (2 ^ 31) ∷ [])) 60 50 (old (0 ∷ 0 ∷ (2 ^ 31) ∷ []))
     ∷ moves Old (wide ((2 ^ 31 - 1) ∷ (2 ^ 31 - 1) ∷ 0 ∷ [])) 60 50 (old ((2 ^ 31 - 1) ∷ (2 ^ 31 - 1) ∷ 0 ∷ []))
     ∷ refuses Wide steppedOld 55 6 0
     ∷ refuses Old steppedWide 54 6 0
-    ∷ refuses Wide (rate ++ (count 0 ++ noPoints 3)) 17 6 0
-    ∷ refuses Wide (rate ++ (count 0 ++ noPoints 3)) 0 6 0
-    ∷ refuses Wide (rate ++ (count 0 ++ noPoints 5)) 20 11 12
-    ∷ refuses Old (rate ++ (side 4 ++ (count 0 ++ noPoints 3))) 22 11 16
+    ∷ refuses Wide (givenRate ++ (givenCount 0 ++ noPoints 3)) 17 6 0
+    ∷ refuses Wide (givenRate ++ (givenCount 0 ++ noPoints 3)) 0 6 0
+    ∷ refuses Wide (givenRate ++ (givenCount 0 ++ noPoints 5)) 20 11 12
+    ∷ refuses Old (givenRate ++ (givenSide 4 ++ (givenCount 0 ++ noPoints 3))) 22 11 16
     ∷ refuses Wide pausedBytes 60 11 12
-    ∷ refuses Wide (rate ++ (count 3 ++ (0x05 ∷ 0xFF ∷ 0xFF ∷ []))) 60 11 12
-    ∷ refuses Wide (rate ++ (count 2 ++ twoOpen 5)) 60 11 12
-    ∷ refuses Old (rate ++ (count 2 ++ twoOpen 3)) 60 11 12
-    ∷ refuses Wide (rate ++ (count 3501 ++ (0x05 ∷ 0xFF ∷ 0xFF ∷ []))) 60 11 12
-    ∷ refuses Wide (rate ++ (count 3 ++ (0x05 ∷ 0x00 ∷ []))) 60 10 12
+    ∷ refuses Wide (givenRate ++ (givenCount 3 ++ (0x05 ∷ 0xFF ∷ 0xFF ∷ []))) 60 11 12
+    ∷ refuses Wide (givenRate ++ (givenCount 2 ++ twoOpen 5)) 60 11 12
+    ∷ refuses Old (givenRate ++ (givenCount 2 ++ twoOpen 3)) 60 11 12
+    ∷ refuses Wide (givenRate ++ (givenCount 3501 ++ (0x05 ∷ 0xFF ∷ 0xFF ∷ []))) 60 11 12
+    ∷ refuses Wide (givenRate ++ (givenCount 3 ++ (0x05 ∷ 0x00 ∷ []))) 60 10 12
     ∷ refuses Wide [] 60 10 0
-    ∷ refuses Wide (rate ++ (count 3501 ++ (0x03 ∷ 0xFF ∷ 0xFF ∷ []))) 60 10 12
-    ∷ refuses Wide (rate ++ (count 0 ++ (0x03 ∷ 0x00 ∷ 0x00 ∷ []))) 60 10 15
-    ∷ refuses Old (rate ++ (count 0 ++ noPoints 9)) 60 11 12
-    ∷ refuses Wide (rate ++ (count 0 ++ (0x03 ∷ 0x00 ∷ 0x00 ∷ 0x07 ∷ 0x00 ∷ 0x00 ∷ []))) 60 11 15
-    ∷ refuses Wide (rate ++ (0x02 ∷ 0x00 ∷ 0x03 ∷ 0x00 ∷ 0x00 ∷ 0x00 ∷ noPoints 3)) 60 12 7
-    ∷ refuses Wide (0x01 ∷ 0x00 ∷ 0x04 ∷ 0x00 ∷ 0x00 ∷ 0x00 ∷ 0x01 ∷ (count 0 ++ noPoints 5)) 60 13 0
-    ∷ refuses Old (rate ++ (count 3501 ++ (0x05 ∷ 0xFF ∷ 0xFF ∷ []))) 60 15 7
-    ∷ refuses Old (rate ++ (side 4 ++ (count 3501 ++ (0x05 ∷ 0xFF ∷ 0xFF ∷ [])))) 60 15 11
-    ∷ refuses Wide (rate ++ (count 4097 ++ (0x05 ∷ 0x00 ∷ 0x00 ∷ []))) 60 15 7
+    ∷ refuses Wide (givenRate ++ (givenCount 3501 ++ (0x03 ∷ 0xFF ∷ 0xFF ∷ []))) 60 10 12
+    ∷ refuses Wide (givenRate ++ (givenCount 0 ++ (0x03 ∷ 0x00 ∷ 0x00 ∷ []))) 60 10 15
+    ∷ refuses Old (givenRate ++ (givenCount 0 ++ noPoints 9)) 60 11 12
+    ∷ refuses Wide (givenRate ++ (givenCount 0 ++ (0x03 ∷ 0x00 ∷ 0x00 ∷ 0x07 ∷ 0x00 ∷ 0x00 ∷ []))) 60 11 15
+    ∷ refuses Wide (givenRate ++ (0x02 ∷ 0x00 ∷ 0x03 ∷ 0x00 ∷ 0x00 ∷ 0x00 ∷ noPoints 3)) 60 12 7
+    ∷ refuses Wide (0x01 ∷ 0x00 ∷ 0x04 ∷ 0x00 ∷ 0x00 ∷ 0x00 ∷ 0x01 ∷ (givenCount 0 ++ noPoints 5)) 60 13 0
+    ∷ refuses Old (givenRate ++ (givenCount 3501 ++ (0x05 ∷ 0xFF ∷ 0xFF ∷ []))) 60 15 7
+    ∷ refuses Old (givenRate ++ (givenSide 4 ++ (givenCount 3501 ++ (0x05 ∷ 0xFF ∷ 0xFF ∷ [])))) 60 15 11
+    ∷ refuses Wide (givenRate ++ (givenCount 4097 ++ (0x05 ∷ 0x00 ∷ 0x00 ∷ []))) 60 15 7
     ∷ refuses Old (take 12 steppedOld ++ (0x05 ∷ drop 13 steppedOld)) 60 17 12
     ∷ refuses Wide (take 12 steppedWide ++ (0x03 ∷ drop 13 steppedWide)) 60 17 12
-    ∷ refuses Old (rate ++ (count 2 ++ twoOpen 5)) 60 18 31
-    ∷ refuses Wide (rate ++ (count 2 ++ twoOpen 3)) 60 18 31
+    ∷ refuses Old (givenRate ++ (givenCount 2 ++ twoOpen 5)) 60 18 31
+    ∷ refuses Wide (givenRate ++ (givenCount 2 ++ twoOpen 3)) 60 18 31
     ∷ refuses Old (take 53 pausedBytes ++ (0x01 ∷ [])) 60 18 40
-    ∷ refuses Wide (rate ++ (side 27 ++ (count 0 ++ noPoints 5))) 60 20 7
+    ∷ refuses Wide (givenRate ++ (givenSide 27 ++ (givenCount 0 ++ noPoints 5))) 60 20 7
     ∷ refuses Old pausedBytes 60 5 2
     ∷ refuses Old pausedBytes 0 5 2
     ∷ refuses Old (wide (0 ∷ 0 ∷ (2 ^ 31 + 1) ∷ [])) 60 5 2

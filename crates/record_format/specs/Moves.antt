@@ -25,8 +25,8 @@ use Rattle.position_format.specs.Tables.{pointsOf}
 use Rattle.ratio_format.specs.Bodies.{strictRatios}
 use Rattle.record_format.specs.declared.MoveAnswer.{MoveAnswer}
 use Rattle.record_format.specs.Runs.{Run, run, positionsTag, recordOf}
-use Rattle.record_format.specs.Writing.{stepTests}
-use Rattle.record_format.specs.Reading.{rateIn, sideIn, formIn, positionsIn, ratiosIn, listOf, endAt, frontTests, positionsTestsBy, ratiosTests}
+use Rattle.record_format.specs.Writing.{outsideTests}
+use Rattle.record_format.specs.Reading.{rateIn, sideIn, formIn, positionsIn, ratiosIn, listOf, endAt, recordTestsBy}
 
 -- ---- forms
 
@@ -47,12 +47,12 @@ runIn s = run (rateIn s) (sideIn s) (formIn s) (listOf (positionsIn s)) (listOf 
 
 -- strict reading's, with 11 at the positions' tag when it is the form moved to
 abbrev pub sourceTests : Form → List ℕ → List Test
-sourceTests f s = frontTests 0 s ++ (positionsTestsBy (positionsTag (otherForm f) ∷ []) s ++ ratiosTests strictRatios s)
+sourceTests f s = recordTestsBy (positionsTag (otherForm f) ∷ []) strictRatios 0 s
 
 -- toward wide above 3,500 points, toward old at the first step outside the old table
 abbrev pub targetTests : Form → List ℕ → List Test
 targetTests Wide ts = test (ltb (pointsOf Wide) (length ts)) 3 0 ∷ []
-targetTests Old ts = stepTests Old ts
+targetTests Old ts = outsideTests Old ts
 
 -- and then the room
 abbrev pub moveTests : Form → List ℕ → List ℕ → List Test

@@ -11,16 +11,18 @@
 --   otherRate e r          another rate is expected than r
 --   rateTests, sideTests, countTests   the tests of their fields; frontTests e s: of all three, with the expected rate e (0 for none)
 --   lacksRoom m n c        an output lacks room for c numbers, in the standard term capacity; roomTests s m n: the test of it
---   contentsTests s k x p   the tests of the body of coded numbers in the field at p: whole, and taken by the reading k, or else the number x
 --   manyTests s            the test of the count by the form
 --   positionsTestsBy tags s   those of the positions' field, whose tag must be one of the list; positionsTests: of either form's
 --   ratiosTests            those of the ratios' field
 --   readTests k e s m n    the tests of reading in their order, with the reading k of the ratios' field
+--   recordTestsBy tags k e s   those of the record alone, without that of the room, where the tag of the positions' field must be one of the list;
+--                          recordTests: of either form's
 --   Answer                 what a reading returns, and both outputs, the caller's buffers, afterwards
 --   refusalAnswer, recordAnswer, answerBy   that of a refusal, of a record, and by a list of tests
 --   readWith k e s ts vs   the whole answer, with outputs ts and vs: number, place, rate, side, count, the form's tag, bytes used, and both outputs
 --                          afterwards
 --   readStrict, readOpen   the two readings of a record
+--   blank                  an output with room for every run, all 0
 -- Strict and open reading, in standard terms canonical and lenient decoding, differ in the reading of the ratios' field only: strictRatios
 -- or openRatios.
 use mathlib.Core.Bool.{Bool, true, false, not, cond}
@@ -28,7 +30,7 @@ use mathlib.Core.List.{List, [], _∷_, _++_}
 use mathlib.Core.Option.{Option, none, some}
 use Prim.Native.Nat.{ℕ}
 use lib.Dec.{ltb, eqb}
-use lib.ListN.{length}
+use lib.ListN.{length, replicate}
 use Rattle.lists.specs.Compare.{both}
 use Rattle.bits.specs.Digits.{numberOf}
 use Rattle.refusals.specs.declared.Refusal.{Refusal}
@@ -144,19 +146,15 @@ lacksRoom m n c = cond (ltb m c) true (ltb n c)
 abbrev pub roomTests : List ℕ → ℕ → ℕ → List Test
 roomTests s m n = test (lacksRoom m n (countIn s)) 16 (countAt s) ∷ []
 
--- the body of coded numbers in the field at p, which the reading k takes: the number x where it takes nothing
-abbrev pub contentsTests : List ℕ → (List ℕ → Option (List ℕ)) → ℕ → ℕ → List Test
-contentsTests s k x p = bodyTests s p ++ (test (missing (k (bodyAt s p))) x p ∷ [])
-
 -- more points than a run in the form has: 15, at the count's field. In the old form it never applies, since the count's own test stands before it
 abbrev pub manyTests : List ℕ → List Test
 manyTests s = test (ltb (pointsOf (formIn s)) (countIn s)) 15 (countAt s) ∷ []
 
--- the positions' field, where some tags are good: straight after its tag 15, then 10 for its body, and then 17
+-- the positions' field, where some tags are good: 17. 15 stands between its head and its body, so that they are not those of fieldTests in a row
 abbrev pub positionsTestsBy : List ℕ → List ℕ → List Test
 positionsTestsBy tags s =
     headTests s tags (positionsAt s)
-    ++ (manyTests s ++ contentsTests s (readPositions (tableOf (formIn s)) (countIn s)) 17 (positionsAt s))
+    ++ (manyTests s ++ (bodyTests s (positionsAt s) ++ (test (missing (positionsIn s)) 17 (positionsAt s) ∷ [])))
 
 -- in either form
 abbrev pub positionsTests : List ℕ → List Test
@@ -164,11 +162,19 @@ positionsTests s = positionsTestsBy positionsTags s
 
 -- the ratios': 18
 abbrev pub ratiosTests : (ℕ → List ℕ → Option (List ℕ)) → List ℕ → List Test
-ratiosTests k s = headTests s (ratiosTag ∷ []) (ratiosAt s) ++ contentsTests s (k (countIn s)) 18 (ratiosAt s)
+ratiosTests k s = fieldTests s (ratiosTag ∷ []) none (ratiosAt s) ++ (test (missing (ratiosIn k s)) 18 (ratiosAt s) ∷ [])
 
 -- the tests of reading: the fields in order
 abbrev pub readTests : (ℕ → List ℕ → Option (List ℕ)) → ℕ → List ℕ → ℕ → ℕ → List Test
 readTests k e s m n = frontTests e s ++ (roomTests s m n ++ (positionsTests s ++ ratiosTests k s))
+
+-- the tests of the record alone, where some tags of the positions' field are good
+abbrev pub recordTestsBy : List ℕ → (ℕ → List ℕ → Option (List ℕ)) → ℕ → List ℕ → List Test
+recordTestsBy tags k e s = frontTests e s ++ (positionsTestsBy tags s ++ ratiosTests k s)
+
+-- in either form
+abbrev pub recordTests : (ℕ → List ℕ → Option (List ℕ)) → ℕ → List ℕ → List Test
+recordTests k e s = recordTestsBy positionsTags k e s
 
 -- ---- the answer
 
@@ -211,3 +217,7 @@ readStrict e s ts vs = readWith strictRatios e s ts vs
 -- open reading: the ratios' field is read by the open rule
 abbrev pub readOpen : ℕ → List ℕ → List ℕ → List ℕ → Answer
 readOpen e s ts vs = readWith openRatios e s ts vs
+
+-- 4,096 numbers, all 0
+unfoldable pub blank : List ℕ
+blank = replicate maxPoints 0

@@ -2,7 +2,7 @@
 -- strict and of open reading, and of all bytes that follow. Each is proved in proofs/SideClaims.
 --   rateBytes r, sideBytes d   the field of the rate r, and the field of a side that stores d
 --   Expects e r     the expected rate e is r, or none is
---   refusedBy n p   the answer of the refusal n at the place p
+--   refusedRead n p what the refusal n at the place p returns; refusedBy n p ts vs: its whole answer
 --   RateRefused     the rate's field: 10 at 0 for a cut head, 11 for another tag than 1, 12 for another length than 4, 10 for fewer bytes
 --   RateFirst       13 and 14 stand before all that follows the rate
 --   HeadCut         past the rate fewer bytes than a head: 10 at 7; past a side: 10 at 11
@@ -23,6 +23,7 @@ use lib.Dec.{eqb}
 use lib.ListN.{length, replicate}
 use Rattle.bits.specs.Digits.{bytesOf}
 use Rattle.limits.specs.Rates.{isRate}
+use Rattle.record_format.specs.declared.ReadAnswer.{ReadAnswer}
 use Rattle.record_format.specs.Fields.{fieldOf, fieldBytes, tagAt}
 use Rattle.record_format.specs.Reading.{Answer, readWith}
 
@@ -38,13 +39,13 @@ sideBytes d = fieldBytes (fieldOf 6 (bytesOf 1 d))
 abbrev pub Expects : ℕ → ℕ → Type 0
 Expects e r = (e ≡ 0) ⊎ (e ≡ r)
 
--- with zeros beside it, and both outputs 0 from end to end
+-- what a refusal returns: zeros beside its number and place. It is written out here, so that the statements do not rest on the definition of reading
+abbrev pub refusedRead : ℕ → ℕ → ReadAnswer
+refusedRead n p = record { number = n; place = p; rate = 0; side = 0; count = 0; form = 0; used = 0 }
+
+-- and both outputs 0 from end to end
 abbrev pub refusedBy : ℕ → ℕ → List ℕ → List ℕ → Answer
-refusedBy n p ts vs = record {
-  answer = record { number = n; place = p; rate = 0; side = 0; count = 0; form = 0; used = 0 };
-  positions = replicate (length ts) 0;
-  ratios = replicate (length vs) 0;
-}
+refusedBy n p ts vs = record { answer = refusedRead n p; positions = replicate (length ts) 0; ratios = replicate (length vs) 0 }
 
 -- fewer bytes than a head, another tag, another length, fewer bytes than that
 abbrev pub RateRefused : Type 0

@@ -25,7 +25,8 @@ use Rattle.record_format.specs.declared.ReadAnswer.{ReadAnswer}
 use Rattle.record_format.specs.Fields.{fieldBytes, laid, tagAt, lengthAt, bodyAt, nextAt}
 use Rattle.record_format.specs.Runs.{run, recordOf}
 use Rattle.record_format.specs.Writing.{writeRefusal, writeAnswer}
-use Rattle.record_format.specs.AnswerExamples.{rate, side, count, twoOpen, refusedRead, read, ReadExample, alike, openOnly, ReadsSo, WriteExample, wrote, WritesSo}
+use Rattle.record_format.specs.SideClaims.{refusedRead}
+use Rattle.record_format.specs.AnswerExamples.{givenRate, givenSide, givenCount, twoOpen, read, ReadExample, alike, openOnly, ReadsSo, WriteExample, wrote, WritesSo}
 use Rattle.record_format.specs.Reading.{countAt, sideIn, readWith}
 
 -- ---- reading
@@ -41,32 +42,32 @@ row e s a = alike e 2 s a
 -- the field past the rate and what follows it: cut, with another tag, of another length, with each kind of number, twice, out of its place
 pub reads : List ReadExample
 reads =
-    row 0 rate (refusedRead 10 7)
-    ∷ row 0 (rate ++ (0x06 ∷ [])) (refusedRead 10 7)
-    ∷ row 0 (rate ++ (0x09 ∷ [])) (refusedRead 10 7)
-    ∷ row 0 (rate ++ (0x09 ∷ 0x00 ∷ 0x01 ∷ 0x04 ∷ [])) (refusedRead 11 7)
-    ∷ row 0 (rate ++ (0x06 ∷ 0x00 ∷ 0x02 ∷ [])) (refusedRead 12 7)
-    ∷ row 0 (rate ++ (0x06 ∷ 0x00 ∷ 0x00 ∷ [])) (refusedRead 12 7)
-    ∷ row 0 (rate ++ (0x06 ∷ 0x00 ∷ 0x01 ∷ [])) (refusedRead 10 7)
-    ∷ row 0 (rate ++ side 0) (refusedRead 20 7)
-    ∷ row 0 (rate ++ side 27) (refusedRead 20 7)
-    ∷ row 0 (rate ++ side 255) (refusedRead 20 7)
-    ∷ row 0 (rate ++ side 26) (refusedRead 10 11)
-    ∷ row 0 (rate ++ (side 4 ++ (0x06 ∷ []))) (refusedRead 10 11)
-    ∷ row 0 (rate ++ (side 4 ++ side 4)) (refusedRead 11 11)
-    ∷ row 0 (rate ++ (count 0 ++ side 4)) (refusedRead 11 12)
-    ∷ row 0 (side 4 ++ rate) (refusedRead 11 0)
-    ∷ row 0 (0x01 ∷ 0x00 ∷ 0x04 ∷ 0x00 ∷ 0x00 ∷ 0x00 ∷ 0x01 ∷ side 0) (refusedRead 13 0)
-    ∷ row 48000 (rate ++ side 0) (refusedRead 14 0)
-    ∷ row 0 (rate ++ (side 4 ++ (0x02 ∷ 0x00 ∷ 0x02 ∷ 0x10 ∷ 0x01 ∷ []))) (refusedRead 15 11)
-    ∷ row 0 (rate ++ (side 4 ++ count 3)) (refusedRead 16 11)
-    ∷ row 0 (rate ++ count 3) (refusedRead 16 7)
-    ∷ row 0 (rate ++ (side 4 ++ (count 0 ++ (0x03 ∷ 0x00 ∷ 0x01 ∷ 0x00 ∷ [])))) (refusedRead 17 16)
-    ∷ row 0 (rate ++ (count 0 ++ noPoints)) (read 0 0 3 18)
-    ∷ row 0 (rate ++ (side 1 ++ (count 0 ++ noPoints))) (read 1 0 3 22)
-    ∷ row 96000 (rate ++ (side 26 ++ (count 0 ++ noPoints))) (read 26 0 3 22)
-    ∷ openOnly 2 (rate ++ (count 2 ++ twoOpen 3)) (refusedRead 18 31) (read 0 2 3 52)
-    ∷ openOnly 2 (rate ++ (side 4 ++ (count 2 ++ twoOpen 3))) (refusedRead 18 35) (read 4 2 3 56)
+    row 0 givenRate (refusedRead 10 7)
+    ∷ row 0 (givenRate ++ (0x06 ∷ [])) (refusedRead 10 7)
+    ∷ row 0 (givenRate ++ (0x09 ∷ [])) (refusedRead 10 7)
+    ∷ row 0 (givenRate ++ (0x09 ∷ 0x00 ∷ 0x01 ∷ 0x04 ∷ [])) (refusedRead 11 7)
+    ∷ row 0 (givenRate ++ (0x06 ∷ 0x00 ∷ 0x02 ∷ [])) (refusedRead 12 7)
+    ∷ row 0 (givenRate ++ (0x06 ∷ 0x00 ∷ 0x00 ∷ [])) (refusedRead 12 7)
+    ∷ row 0 (givenRate ++ (0x06 ∷ 0x00 ∷ 0x01 ∷ [])) (refusedRead 10 7)
+    ∷ row 0 (givenRate ++ givenSide 0) (refusedRead 20 7)
+    ∷ row 0 (givenRate ++ givenSide 27) (refusedRead 20 7)
+    ∷ row 0 (givenRate ++ givenSide 255) (refusedRead 20 7)
+    ∷ row 0 (givenRate ++ givenSide 26) (refusedRead 10 11)
+    ∷ row 0 (givenRate ++ (givenSide 4 ++ (0x06 ∷ []))) (refusedRead 10 11)
+    ∷ row 0 (givenRate ++ (givenSide 4 ++ givenSide 4)) (refusedRead 11 11)
+    ∷ row 0 (givenRate ++ (givenCount 0 ++ givenSide 4)) (refusedRead 11 12)
+    ∷ row 0 (givenSide 4 ++ givenRate) (refusedRead 11 0)
+    ∷ row 0 (0x01 ∷ 0x00 ∷ 0x04 ∷ 0x00 ∷ 0x00 ∷ 0x00 ∷ 0x01 ∷ givenSide 0) (refusedRead 13 0)
+    ∷ row 48000 (givenRate ++ givenSide 0) (refusedRead 14 0)
+    ∷ row 0 (givenRate ++ (givenSide 4 ++ (0x02 ∷ 0x00 ∷ 0x02 ∷ 0x10 ∷ 0x01 ∷ []))) (refusedRead 15 11)
+    ∷ row 0 (givenRate ++ (givenSide 4 ++ givenCount 3)) (refusedRead 16 11)
+    ∷ row 0 (givenRate ++ givenCount 3) (refusedRead 16 7)
+    ∷ row 0 (givenRate ++ (givenSide 4 ++ (givenCount 0 ++ (0x03 ∷ 0x00 ∷ 0x01 ∷ 0x00 ∷ [])))) (refusedRead 17 16)
+    ∷ row 0 (givenRate ++ (givenCount 0 ++ noPoints)) (read 0 0 3 18)
+    ∷ row 0 (givenRate ++ (givenSide 1 ++ (givenCount 0 ++ noPoints))) (read 1 0 3 22)
+    ∷ row 96000 (givenRate ++ (givenSide 26 ++ (givenCount 0 ++ noPoints))) (read 26 0 3 22)
+    ∷ openOnly 2 (givenRate ++ (givenCount 2 ++ twoOpen 3)) (refusedRead 18 31) (read 0 2 3 52)
+    ∷ openOnly 2 (givenRate ++ (givenSide 4 ++ (givenCount 2 ++ twoOpen 3))) (refusedRead 18 35) (read 4 2 3 56)
     ∷ []
 
 -- each answer, computed from the definitions, is the one that is given

@@ -32,7 +32,8 @@ use Rattle.record_format.specs.Fields.{fieldBytes, laid, tagAt, lengthAt
 use Rattle.record_format.specs.Examples.{pausedBytes}
 use Rattle.record_format.specs.Runs.{run, recordOf}
 use Rattle.record_format.specs.Writing.{writeRefusal, writeAnswer}
-use Rattle.record_format.specs.AnswerExamples.{rate, side, count, twoOpen, refusedRead, read, ReadExample, alike, openOnly, ReadsSo, WriteExample, wrote, WritesSo}
+use Rattle.record_format.specs.SideClaims.{refusedRead}
+use Rattle.record_format.specs.AnswerExamples.{givenRate, givenSide, givenCount, twoOpen, read, ReadExample, alike, openOnly, ReadsSo, WriteExample, wrote, WritesSo}
 use Rattle.record_format.specs.Reading.{countAt, sideIn, readWith, readOpen}
 
 -- ---- steps
@@ -87,11 +88,11 @@ bodies-hold = refl
 
 -- a rate's field and a count's
 abbrev front : ℕ → List ℕ
-front n = rate ++ count n
+front n = givenRate ++ givenCount n
 
 -- a side's between them
 abbrev sided : ℕ → List ℕ
-sided n = rate ++ (side 4 ++ count n)
+sided n = givenRate ++ (givenSide 4 ++ givenCount n)
 
 -- without a rate expected, both readings answer alike
 abbrev row : ℕ → List ℕ → ReadAnswer → ReadExample

@@ -1,5 +1,5 @@
 -- Document 01, "Numbers that come back", with 21 of document 02, No. 2, and the form of No. 3: writing a run.
---   stepTests f ts   the test of the steps of the positions ts: 5, only in the old form
+--   outsideTests f ts   the test of the steps of the positions ts: 5, only in the old form
 --   runTests r       the tests of writing on the run alone, in their order: 1, 21, 2 to 5, each over the whole run; 3 and 5 by the form
 --   accepts r        none of them applies: the writer accepts the run
 --   writeTests r o   all tests, with 6, which asks for room for the whole record
@@ -26,9 +26,9 @@ use Rattle.record_format.specs.declared.WriteAnswer.{WriteAnswer}
 use Rattle.record_format.specs.Runs.{Run, recordOf}
 
 -- the wide form has a code for every step between positions in range
-abbrev pub stepTests : Form → List ℕ → List Test
-stepTests Old ts = test (ltb (firstOutside rows ts) (length ts)) 5 (firstOutside rows ts) ∷ []
-stepTests Wide ts = []
+abbrev pub outsideTests : Form → List ℕ → List Test
+outsideTests Old ts = test (ltb (firstOutside rows ts) (length ts)) 5 (firstOutside rows ts) ∷ []
+outsideTests Wide ts = []
 
 -- the tests that speak of the run
 abbrev pub runTests : Run → List Test
@@ -38,7 +38,7 @@ runTests r =
     ∷ test (not (eqb (length (r .ratios)) (length (r .positions)))) 2 0
     ∷ test (ltb (pointsOf (r .form)) (length (r .positions))) 3 0
     ∷ test (ltb (firstHigh (r .positions)) (length (r .positions))) 4 (firstHigh (r .positions))
-    ∷ stepTests (r .form) (r .positions)
+    ∷ outsideTests (r .form) (r .positions)
 
 -- "What demand 3 compares": "The writer accepts a run when no test of writing but 6 applies to it."
 unfoldable pub accepts : Run → Bool

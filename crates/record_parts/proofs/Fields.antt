@@ -11,11 +11,11 @@ use Rattle.lists.specs.Below.{Below}
 use Rattle.lists.specs.Lists.{member}
 use Rattle.bits.specs.Digits.{numberOf}
 use Rattle.refusals.specs.declared.Refusal.{Refusal}
-use Rattle.refusals.specs.Tests.{Test, firstOf, noRefusal}
-use Rattle.refusals.proofs.Tests.{numbered, first-end, first-none, first-append-none, first-append-some}
+use Rattle.refusals.specs.Tests.{Test, refusal, firstOf, noRefusal}
+use Rattle.refusals.proofs.Tests.{numbered, firstOf-end, firstOf-none, firstOf-append-none, firstOf-append-some}
 use Rattle.record_format.specs.Fields.{headSize, tagAt, lengthAt, bodyAt, nextAt, fieldTests}
 use Rattle.record_format.proofs.Fields.{next-most}
-use Rattle.record_format.proofs.Reading.{refusal, Stated, field-clear, head-short, tag-other, length-other, body-short, field-good}
+use Rattle.record_format.proofs.Reading.{Stated, field-clear, head-short, tag-other, length-other, body-short, field-good}
 use Rattle.record_parts.specs.declared.field.Field.{Field}
 use Rattle.record_parts.specs.Fields.{lengthGood, PartRead, FieldRead}
 
@@ -87,7 +87,7 @@ module _ (s tags : List ℕ) (n : Option ℕ) (p : ℕ) where
             let whole : nextAt s p ≤ length s = omega (arith, next-is) in
             record {
               part = record {
-                refuses = sym (sym alone ∙ field-good s tags n p [] whole-head tag-good length-good whole ∙ first-end);
+                refuses = sym (sym alone ∙ field-good s tags n p [] whole-head tag-good length-good whole ∙ firstOf-end);
                 next = λ z. sym next-is;
                 inside = λ z. whole;
                 near = λ z. omega (arith, next-most s p bytes whole-head);
@@ -106,18 +106,18 @@ module _ (fs ts : List Test) (s : List ℕ) (p : ℕ) (f : Refusal) (end : ℕ) 
   pub part-first : (f .number ≡ 0 → ⊥) → PartRead (fs ++ ts) s p f end
   part-first d =
       part-refused (fs ++ ts) s p f end d
-      (h .refuses ∙ sym (first-append-some fs ts (λ z. d (ap (λ (g : Refusal). g .number) (h .refuses) ∙ z))))
+      (h .refuses ∙ sym (firstOf-append-some fs ts (λ z. d (ap (λ (g : Refusal). g .number) (h .refuses) ∙ z))))
 
   module _ (clear : f .number ≡ 0) where
     part-past : firstOf (fs ++ ts) ≡ firstOf ts
-    part-past = first-append-none fs ts num (sym (ap (λ (g : Refusal). g .number) (h .refuses)) ∙ clear)
+    part-past = firstOf-append-none fs ts num (sym (ap (λ (g : Refusal). g .number) (h .refuses)) ∙ clear)
 
     pub part-then : (g : Refusal) (e : ℕ) → g ≡ firstOf ts → (g .number ≡ 0 → ⊥) → PartRead (fs ++ ts) s p g e
     part-then g e q d = part-refused (fs ++ ts) s p g e d (q ∙ sym part-past)
 
     pub part-both : firstOf ts ≡ noRefusal → PartRead (fs ++ ts) s p f end
     part-both q = record {
-      refuses = h .refuses ∙ first-none fs num (sym (ap (λ (g : Refusal). g .number) (h .refuses)) ∙ clear) ∙ sym (part-past ∙ q);
+      refuses = h .refuses ∙ firstOf-none fs num (sym (ap (λ (g : Refusal). g .number) (h .refuses)) ∙ clear) ∙ sym (part-past ∙ q);
       next = h .next;
       inside = h .inside;
       near = h .near;

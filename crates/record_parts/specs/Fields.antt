@@ -7,10 +7,13 @@
 --   FieldRead ..        the same of one field, with the start of its body
 --   NumberRead ..       the same of a field that holds a number, with the number
 --   SideRead s f        the same of the side's field, which may be missing: then the side is 0, and the count's stands in its place
---   CountFound s c q p  the count c, its place q, and the offset p past it; FrontFound s f: these, rate and side; FrontRead e s f: or their refusal
+--   noFront g           a front with the refusal g, and zeros
+--   FrontFound s f      the front f of the bytes s: rate, side and count, the place of the count's field, and the offset past it
+--   FrontRead e s f     the same, or its refusal
 --   tagOf, codedBy      of a coding: its field's tag, and the body of numbers
 --   Codable c ns        the numbers ns can be coded so
 --   ratiosBy openly     the ratios of a body, openly or strictly
+--   RatiosDue ..        the ratios' field stands at the offset p, and the output o has room for the count c
 --   CodedRead ..        a field of coded numbers, which the reading k takes: its refusal, or the offset past it, and its numbers at the front of the
 --                       output
 --   PointsRead ..       positions and ratios: their refusal, or where they stand, and both at the front of the outputs
@@ -93,20 +96,20 @@ pub record SideRead (s : List ℕ) (f : Number) : Type 0 where
   pub inside : f .refusal .number ≡ 0 → countAt s ≤ length s
   pub near : f .refusal .number ≡ 0 → countAt s ≤ sideAt s + longestField
 
--- the count, where its field stands, and where the positions' does
-pub record CountFound (s : List ℕ) (count place at : ℕ) : Type 0 where
-  pub counted : count ≡ countIn s
-  pub few : countIn s ≤ maxPoints
-  pub stands : place ≡ countAt s
-  pub next : at ≡ positionsAt s
-  pub inside : positionsAt s ≤ length s
-  pub near : positionsAt s ≤ farthest 3
+-- of a refused front nothing is left but the refusal
+abbrev pub noFront : Refusal → Front
+noFront g = record { refusal = g; rate = 0; side = 0; count = 0; place = 0; end = 0 }
 
--- with rate and side
+-- rate, side and count, where the count's field stands, and where the positions' does
 pub record FrontFound (s : List ℕ) (f : Front) : Type 0 where
   pub rate : f .rate ≡ rateIn s
   pub side : f .side ≡ sideIn s
-  pub count : CountFound s (f .count) (f .place) (f .end)
+  pub counted : f .count ≡ countIn s
+  pub few : countIn s ≤ maxPoints
+  pub stands : f .place ≡ countAt s
+  pub next : f .end ≡ positionsAt s
+  pub inside : positionsAt s ≤ length s
+  pub near : positionsAt s ≤ farthest 3
 
 -- or their refusal
 pub record FrontRead (e : ℕ) (s : List ℕ) (f : Front) : Type 0 where
@@ -134,6 +137,15 @@ Codable Ratios ns = length ns ≤ maxPoints
 abbrev pub ratiosBy : Bool → ℕ → List ℕ → Option (List ℕ)
 ratiosBy true = openRatios
 ratiosBy false = strictRatios
+
+-- where ratios are to be read, and how many
+pub record RatiosDue (s : List ℕ) (p c : ℕ) (o : List ℕ) : Type 0 where
+  pub here : p ≡ ratiosAt s
+  pub inside : p ≤ length s
+  pub near : p ≤ maxPlace
+  pub counted : c ≡ countIn s
+  pub few : c ≤ maxPoints
+  pub room : c ≤ length o
 
 -- what reading it leaves in the output o, which is now q
 pub record CodedRead (tests : List Test) (k : List ℕ → Option (List ℕ)) (s : List ℕ) (p : ℕ) (f : Part) (o q : List ℕ) : Type 0 where

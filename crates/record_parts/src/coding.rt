@@ -4,18 +4,18 @@ ghost use Prim.Native.Nat.{_+_, _≤_};
 ghost use lib.Dec.{leb, ltb, eqb};
 ghost use lib.ListN.{length};
 ghost use Rattle.lists.specs.Compare.{both};
-ghost use Rattle.limits.specs.Points.{maxPoints};
 ghost use Rattle.outputs.specs.Outputs.{Placed, Filled};
 ghost use Rattle.position_format.specs.Positions.{readPositions};
 ghost use Rattle.position_format.specs.Tables.{tableOf, pointsOf};
 ghost use Rattle.record_format.specs.Fields.{headSize, tagAt};
 ghost use Rattle.record_format.specs.Runs.{positionsTag, formOf};
-ghost use Rattle.record_format.specs.Reading.{countAt, positionsAt, ratiosAt, countIn, formIn, positionsTests, ratiosTests};
-ghost use Rattle.record_parts.specs.Fields.{maxPlace, ratiosBy, tagOf, codedBy, Codable, CodedRead};
+ghost use Rattle.record_format.specs.Reading.{formIn, positionsTests, ratiosTests};
+ghost use Rattle.record_parts.specs.Fields.{FrontFound, ratiosBy, tagOf, codedBy, Codable, RatiosDue, CodedRead};
 use super::field::Length;
 use super::field::has_head;
 use super::field::has_tag;
 use super::field::read_field;
+use super::front::Front;
 use limits::MAX_POINTS;
 use limits::MAX_WIDE_POINTS;
 use outputs::Wrote;
@@ -58,7 +58,7 @@ pub fn points_of(form: Form) -> usize
 }
 
 // The form that the tag of the field at an offset names.
-pub(crate) fn form_at(input: &[u8], at: usize) -> Form
+pub fn form_at(input: &[u8], at: usize) -> Form
     ensures { λ r. ⌜ r ≡ formOf (tagAt (now (input .entry)) at) ⌝ }
 {
     if has_tag(input, at, WIDE_TAG) {
@@ -118,25 +118,19 @@ fn has_many(form: Form, input: &[u8], at: usize, count: usize) -> bool
     has_head(input, at) && points_of(form) < count
 }
 
-// The positions' field, in the form that its tag names, at its offset: its tests, and its positions at the front of the output. The count's field
-// stands at `place`, and a run in the form may have fewer points than that says: 15, before the body is looked at.
-pub(crate) fn read_positions(
-    form: Form,
-    input: &[u8],
-    at: usize,
-    place: usize,
-    count: usize,
-    out: &mut [u64],
-) -> Part
-    requires { ⌜ (form ≡ formIn (now input)) × (at ≡ positionsAt (now input)) × (place ≡ countAt (now input)) × (count ≡ countIn (now input))
-        × (at ≤ length (now input)) × (at ≤ maxPlace) × (count ≤ length (now out)) × (count ≤ maxPoints) ⌝ }
-    ensures { λ r. ⌜ CodedRead (positionsTests (now (input .entry))) (readPositions (tableOf form) count) (now (input .entry)) at r (now (out .entry)) (now (out .exit)) ⌝ }
+// The positions' field past a front, in the form that its tag names: its tests, and its positions at the front of the output, which has room for
+// them. A run in the form may have fewer points than the count says: 15 at the count's field, before the body is looked at.
+pub fn read_positions(form: Form, input: &[u8], front: Front, out: &mut [u64]) -> Part
+    requires { ⌜ (form ≡ formIn (now input)) × FrontFound (now input) front × (front .count ≤ length (now out)) ⌝ }
+    ensures { λ r. ⌜ CodedRead (positionsTests (now (input .entry))) (readPositions (tableOf form) (front .count)) (now (input .entry)) (front .end) r (now (out .entry)) (now (out .exit)) ⌝ }
 {
+    let at = front.end;
+    let count = front.count;
     if has_many(form, input, at, count) {
         return Part {
             refusal: Refusal {
                 number: 15,
-                place: place as u32,
+                place: front.place as u32,
             },
             end: 0,
         };
@@ -162,7 +156,7 @@ pub(crate) fn read_positions(
     Part { refusal, end: to }
 }
 
-// The ratios' field, by the open rule or strictly, at its offset.
+// The ratios' field, by the open rule or strictly, at its offset: its tests, and its ratios at the front of the output.
 pub(crate) fn read_ratios(
     openly: bool,
     input: &[u8],
@@ -170,8 +164,7 @@ pub(crate) fn read_ratios(
     count: usize,
     out: &mut [u64],
 ) -> Part
-    requires { ⌜ (at ≡ ratiosAt (now input)) × (count ≡ countIn (now input))
-        × (at ≤ length (now input)) × (at ≤ maxPlace) × (count ≤ length (now out)) × (count ≤ maxPoints) ⌝ }
+    requires { ⌜ RatiosDue (now input) at count (now out) ⌝ }
     ensures { λ r. ⌜ CodedRead (ratiosTests (ratiosBy openly) (now (input .entry))) (ratiosBy openly count) (now (input .entry)) at r (now (out .entry)) (now (out .exit)) ⌝ }
 {
     let tags = [RATIOS_TAG];

@@ -8,7 +8,7 @@ ghost use lib.ListN.{length};
 ghost use Rattle.record_format.specs.Fields.{fieldTests};
 ghost use Rattle.record_format.specs.Runs.{rateSize, countSize};
 ghost use Rattle.record_format.specs.Reading.{otherRate, rateAt, sideAt, rateTests, countTests, countAt};
-ghost use Rattle.record_parts.specs.Fields.{maxPlace, NumberRead, SideRead, FrontRead};
+ghost use Rattle.record_parts.specs.Fields.{maxPlace, NumberRead, SideRead, noFront, FrontRead};
 use super::field::Length;
 use super::field::has_tag;
 use super::field::read_field;
@@ -150,7 +150,7 @@ fn read_count(input: &[u8], at: usize) -> Number
 
 // No front: a refusal, and zeros.
 pub fn no_front(refusal: Refusal) -> Front
-    ensures { λ r. ⌜ r ≡ record { refusal = refusal; rate = 0; side = 0; count = 0; place = 0; end = 0 } ⌝ }
+    ensures { λ r. ⌜ r ≡ noFront refusal ⌝ }
 {
     Front {
         refusal,

@@ -2,10 +2,11 @@
 ghost use mathlib.Core.Path.{_≡_};
 ghost use Prim.Native.Nat.{_≤_};
 ghost use lib.ListN.{length};
-ghost use Rattle.record_parts.specs.Fields.{ratiosBy, CountFound, PointsRead};
+ghost use Rattle.record_parts.specs.Fields.{ratiosBy, FrontFound, PointsRead};
 use super::coding::form_at;
 use super::coding::read_positions;
 use super::coding::read_ratios;
+use super::front::Front;
 use position_format::Form;
 use refusals::Refusal;
 
@@ -29,28 +30,25 @@ fn no_points(refusal: Refusal) -> Points
     }
 }
 
-// The points past a front, at the front of the outputs, which have room for the count; the ratios by the open rule or strictly. The count's field
-// stands at `place`, the positions' at `at`.
+// The points past a front, at the front of the outputs, which have room for the count; the ratios by the open rule or strictly.
 pub fn read_points(
     openly: bool,
     input: &[u8],
-    count: usize,
-    place: usize,
-    at: usize,
+    front: Front,
     positions: &mut [u64],
     ratios: &mut [u64],
 ) -> Points
-    requires { ⌜ CountFound (now input) count place at × (count ≤ length (now positions)) × (count ≤ length (now ratios)) ⌝ }
+    requires { ⌜ FrontFound (now input) front × (front .count ≤ length (now positions)) × (front .count ≤ length (now ratios)) ⌝ }
     ensures { λ r. ⌜ PointsRead (ratiosBy openly) (now (input .entry)) (now (positions .entry)) (now (ratios .entry)) r (now (positions .exit)) (now (ratios .exit)) ⌝ }
 {
-    let form = form_at(input, at);
-    let points = read_positions(form, input, at, place, count, positions);
+    let form = form_at(input, front.end);
+    let points = read_positions(form, input, front, positions);
     let positions_refused = points.refusal;
     let positions_number = positions_refused.number;
     if positions_number != 0 {
         return no_points(positions_refused);
     }
-    let values = read_ratios(openly, input, points.end, count, ratios);
+    let values = read_ratios(openly, input, points.end, front.count, ratios);
     let ratios_refused = values.refusal;
     let ratios_number = ratios_refused.number;
     if ratios_number != 0 {

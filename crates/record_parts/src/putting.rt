@@ -51,8 +51,9 @@ fn put_number(out: &mut [u8], tag: u8, n: usize, x: u64) -> Wrote
     Wrote::Done(n + HEAD_SIZE)
 }
 
-// A field of coded numbers, at the front of the output: the body past the head, and then the head.
-fn put_coded(coding: Coding, numbers: &[u64], out: &mut [u8]) -> Wrote
+// A field of coded numbers, at the front of the output: the body past the head, and then the head. It is called from two places, so that it is not made
+// part of a caller, where it would be slower.
+pub fn put_coded(coding: Coding, numbers: &[u64], out: &mut [u8]) -> Wrote
     requires { ⌜ Codable coding (now numbers) ⌝ }
     ensures { λ r. ⌜ Placed (laid (fieldOf (tagOf coding) (codedBy coding (now (numbers .entry))) ∷ [])) r (now (out .entry)) (now (out .exit)) ⌝ }
 {
@@ -88,17 +89,6 @@ fn put_side_next(wrote: Wrote, side: u32, out: &mut [u8]) -> Wrote
     put_number_next(wrote, out, SIDE_TAG, SIDE_SIZE, side as u64)
 }
 
-// A field of coded numbers.
-pub fn put_coded_next(wrote: Wrote, coding: Coding, numbers: &[u64], out: &mut [u8]) -> Wrote
-    requires { ⌜ Left wrote (now out) × Codable coding (now numbers) ⌝ }
-    ensures { λ r. ⌜ Next (laid (fieldOf (tagOf coding) (codedBy coding (now (numbers .entry))) ∷ [])) wrote r (now (out .entry)) (now (out .exit)) ⌝ }
-{
-    let Wrote::Done(at) = wrote else {
-        return Wrote::NoRoom;
-    };
-    sum_of(at, put_coded(coding, numbers, &mut out[at..]))
-}
-
 // The fields of the rate, of the side, of the count and of the positions in a form, at the front of the output: all but the ratios'.
 pub fn put_lead(rate: u32, side: u32, form: Form, positions: &[u64], out: &mut [u8]) -> Wrote
     requires { ⌜ (validPositions (tableOf form) (now positions) ≡ true) × (length (now positions) ≤ maxPoints) ⌝ }
@@ -107,6 +97,11 @@ pub fn put_lead(rate: u32, side: u32, form: Form, positions: &[u64], out: &mut [
     let rate_end = put_number(out, RATE_TAG, RATE_SIZE, rate as u64);
     let side_end = put_side_next(rate_end, side, out);
     let count = positions.len() as u64;
-    let count_end = put_number_next(side_end, out, COUNT_TAG, COUNT_SIZE, count);
-    put_coded_next(count_end, Coding::Positions(form), positions, out)
+    let Wrote::Done(front_end) = put_number_next(side_end, out, COUNT_TAG, COUNT_SIZE, count) else {
+        return Wrote::NoRoom;
+    };
+    sum_of(
+        front_end,
+        put_coded(Coding::Positions(form), positions, &mut out[front_end..]),
+    )
 }

@@ -1,13 +1,14 @@
 -- Laws of a call's tests: the refusal that the first of them gives, by one test and by two lists of tests.
 use mathlib.Core.Bool.{Bool, true, false, not, cond, false≢true}
-use mathlib.Core.List.{List, [], _∷_, _++_}
+use mathlib.Core.List.{List, [], _∷_, _++_, map, map-append}
 use mathlib.Core.Path.{_≡_, refl, sym, ap, ap₂, _∙_}
-use Prim.Native.Nat.{ℕ, _<_}
+use Prim.Native.Nat.{ℕ, zero, suc, _+_, _<_}
+use native.Mathlib.Nat.{add-zero}
 use native.Mathlib.Omega.{arith}
 use borrow.Author.Tests.{ltb-true, eq-eqb}
 use lib.Dec.{ltb, eqb}
 use Rattle.refusals.specs.declared.Refusal.{Refusal}
-use Rattle.refusals.specs.Tests.{Test, noRefusal, firstOf}
+use Rattle.refusals.specs.Tests.{Test, test, refusal, noRefusal, firstOf}
 use Rattle.lists.proofs.Lists.{every, every-cons}
 
 -- no test has the number of a success: of tests with literal numbers, by refl
@@ -16,25 +17,30 @@ numbered ts = every (λ t. ltb 0 (t .number)) ts
 
 -- ---- one test
 
-pub first-end : firstOf [] ≡ noRefusal
+pub firstOf-end : firstOf [] ≡ noRefusal
 unfolding firstOf
-first-end = refl
+firstOf-end = refl
 
-pub first-skip : (t : Test) (ts : List Test) → t .applies ≡ false → firstOf (t ∷ ts) ≡ firstOf ts
+pub firstOf-skip : (t : Test) (ts : List Test) → t .applies ≡ false → firstOf (t ∷ ts) ≡ firstOf ts
 unfolding firstOf
-first-skip t ts e = rw e refl
+firstOf-skip t ts e = rw e refl
 
-pub first-here : (t : Test) (ts : List Test) → t .applies ≡ true → firstOf (t ∷ ts) ≡ record { number = t .number; place = t .place }
+pub firstOf-here : (t : Test) (ts : List Test) → t .applies ≡ true → firstOf (t ∷ ts) ≡ refusal (t .number) (t .place)
 unfolding firstOf
-first-here t ts e = rw e refl
+firstOf-here t ts e = rw e refl
+
+-- before tests that give the same
+pub firstOf-cong : (t : Test) (ss ts : List Test) → firstOf ss ≡ firstOf ts → firstOf (t ∷ ss) ≡ firstOf (t ∷ ts)
+unfolding firstOf
+firstOf-cong t ss ts e = ap (cond (t .applies) (refusal (t .number) (t .place))) e
 
 -- where nothing is refused, the first test does not apply, and the others refuse nothing
-pub first-clear : (t : Test) (ts : List Test) → 0 < t .number → firstOf (t ∷ ts) .number ≡ 0 → (t .applies ≡ false) × (firstOf ts .number ≡ 0)
-first-clear t ts n e = go (t .applies) refl
+pub firstOf-clear : (t : Test) (ts : List Test) → 0 < t .number → firstOf (t ∷ ts) .number ≡ 0 → (t .applies ≡ false) × (firstOf ts .number ≡ 0)
+firstOf-clear t ts n e = go (t .applies) refl
   where
     go : (b : Bool) → t .applies ≡ b → (t .applies ≡ false) × (firstOf ts .number ≡ 0)
-    go true q = let r : firstOf (t ∷ ts) .number ≡ t .number = rw (first-here t ts q) refl in absurd (omega arith)
-    go false q = (q, rw (first-skip t ts q) at e)
+    go true q = let r : firstOf (t ∷ ts) .number ≡ t .number = rw (firstOf-here t ts q) refl in absurd (omega arith)
+    go false q = (q, rw (firstOf-skip t ts q) at e)
 
 -- ---- a list of tests
 
@@ -42,39 +48,49 @@ parts : (t : Test) (ts : List Test) → numbered (t ∷ ts) ≡ true → (0 < t 
 parts t ts e = let h = every-cons (λ (t : Test). ltb 0 (t .number)) t ts e in (ltb-true 0 (t .number) (h .0), h .1)
 
 -- number 0 has place 0
-pub first-none : (ts : List Test) → numbered ts ≡ true → firstOf ts .number ≡ 0 → firstOf ts ≡ noRefusal
-first-none [] n e = first-end
-first-none (t ∷ ts) n e =
+pub firstOf-none : (ts : List Test) → numbered ts ≡ true → firstOf ts .number ≡ 0 → firstOf ts ≡ noRefusal
+firstOf-none [] n e = firstOf-end
+firstOf-none (t ∷ ts) n e =
     let p = parts t ts n in
-    let h = first-clear t ts (p .0) e in
-    first-skip t ts (h .0) ∙ first-none ts (p .1) (h .1)
+    let h = firstOf-clear t ts (p .0) e in
+    firstOf-skip t ts (h .0) ∙ firstOf-none ts (p .1) (h .1)
 
 -- the second list decides where the first refuses nothing
-pub first-append-none : (ss ts : List Test) → numbered ss ≡ true → firstOf ss .number ≡ 0 → firstOf (ss ++ ts) ≡ firstOf ts
-first-append-none [] ts n e = refl
-first-append-none (s ∷ ss) ts n e =
+pub firstOf-append-none : (ss ts : List Test) → numbered ss ≡ true → firstOf ss .number ≡ 0 → firstOf (ss ++ ts) ≡ firstOf ts
+firstOf-append-none [] ts n e = refl
+firstOf-append-none (s ∷ ss) ts n e =
     let p = parts s ss n in
-    let h = first-clear s ss (p .0) e in
-    first-skip s (ss ++ ts) (h .0) ∙ first-append-none ss ts (p .1) (h .1)
+    let h = firstOf-clear s ss (p .0) e in
+    firstOf-skip s (ss ++ ts) (h .0) ∙ firstOf-append-none ss ts (p .1) (h .1)
 
 -- the first list decides where it refuses
-pub first-append-some : (ss ts : List Test) → (firstOf ss .number ≡ 0 → ⊥) → firstOf (ss ++ ts) ≡ firstOf ss
+pub firstOf-append-some : (ss ts : List Test) → (firstOf ss .number ≡ 0 → ⊥) → firstOf (ss ++ ts) ≡ firstOf ss
 unfolding firstOf
-first-append-some [] ts e = absurd (e refl)
-first-append-some (s ∷ ss) ts e = go (s .applies) refl (first-append-some ss ts)
+firstOf-append-some [] ts e = absurd (e refl)
+firstOf-append-some (s ∷ ss) ts e = go (s .applies) refl (firstOf-append-some ss ts)
   where
     go : (b : Bool) → s .applies ≡ b → ((firstOf ss .number ≡ 0 → ⊥) → firstOf (ss ++ ts) ≡ firstOf ss) → firstOf (s ∷ (ss ++ ts)) ≡ firstOf (s ∷ ss)
-    go true q f = first-here s (ss ++ ts) q ∙ sym (first-here s ss q)
-    go false q f = first-skip s (ss ++ ts) q ∙ f (λ z. e (rw (first-skip s ss q) z)) ∙ sym (first-skip s ss q)
+    go true q f = firstOf-here s (ss ++ ts) q ∙ sym (firstOf-here s ss q)
+    go false q f = firstOf-skip s (ss ++ ts) q ∙ f (λ z. e (rw (firstOf-skip s ss q) z)) ∙ sym (firstOf-skip s ss q)
+
+-- two second lists that give the same where the first refuses nothing
+pub firstOf-append-cong : (ss ts us : List Test) → numbered ss ≡ true → (firstOf ss .number ≡ 0 → firstOf ts ≡ firstOf us) → firstOf (ss ++ ts) ≡ firstOf (ss ++ us)
+firstOf-append-cong ss ts us n same = go (firstOf ss .number) refl
+  where
+    go : (x : ℕ) → firstOf ss .number ≡ x → firstOf (ss ++ ts) ≡ firstOf (ss ++ us)
+    go zero q = firstOf-append-none ss ts n q ∙ same q ∙ sym (firstOf-append-none ss us n q)
+    go (suc x) q =
+        let d : (firstOf ss .number ≡ 0 → ⊥) = λ z. omega arith in
+        firstOf-append-some ss ts d ∙ sym (firstOf-append-some ss us d)
 
 -- both lists refuse nothing where together they refuse nothing
-pub first-append-clear : (ss ts : List Test) → numbered ss ≡ true → firstOf (ss ++ ts) .number ≡ 0 → (firstOf ss .number ≡ 0) × (firstOf ts .number ≡ 0)
-first-append-clear [] ts n e = (ap (λ (r : Refusal). r .number) first-end, e)
-first-append-clear (s ∷ ss) ts n e =
+pub firstOf-append-clear : (ss ts : List Test) → numbered ss ≡ true → firstOf (ss ++ ts) .number ≡ 0 → (firstOf ss .number ≡ 0) × (firstOf ts .number ≡ 0)
+firstOf-append-clear [] ts n e = (ap (λ (r : Refusal). r .number) firstOf-end, e)
+firstOf-append-clear (s ∷ ss) ts n e =
     let p = parts s ss n in
-    let h = first-clear s (ss ++ ts) (p .0) e in
-    let i = first-append-clear ss ts (p .1) (h .1) in
-    (ap (λ (r : Refusal). r .number) (first-skip s ss (h .0)) ∙ i .0, i .1)
+    let h = firstOf-clear s (ss ++ ts) (p .0) e in
+    let i = firstOf-append-clear ss ts (p .1) (h .1) in
+    (ap (λ (r : Refusal). r .number) (firstOf-skip s ss (h .0)) ∙ i .0, i .1)
 
 -- and no test of both has the number of a success where none of either has
 pub numbered-append : (ss ts : List Test) → numbered ss ≡ true → numbered ts ≡ true → numbered (ss ++ ts) ≡ true
@@ -83,24 +99,53 @@ numbered-append (s ∷ ss) ts m n =
     let h = every-cons (λ (t : Test). ltb 0 (t .number)) s ss m in
     ap₂ (λ (a b : Bool). cond a b false) (h .0) (numbered-append ss ts (h .1) n)
 
--- ---- numbers that no test has
+-- ---- numbers that no test gives
 
--- no test has the number n: of tests with literal numbers, by refl
-abbrev pub without : ℕ → List Test → Bool
-without n ts = every (λ t. not (eqb (t .number) n)) ts
+-- no test with the number n applies: of tests with literal numbers, by refl
+abbrev pub never : ℕ → List Test → Bool
+never n ts = every (λ t. cond (eqb (t .number) n) (not (t .applies)) true) ts
 
-pub first-without : (n : ℕ) → 0 < n → (ts : List Test) → without n ts ≡ true → firstOf ts .number ≡ n → ⊥
-first-without n some [] w e = let z : firstOf [] .number ≡ 0 = ap (λ (r : Refusal). r .number) first-end in omega arith
-first-without n some (t ∷ ts) w e =
-    let h = every-cons (λ (t : Test). not (eqb (t .number) n)) t ts w in
-    go (t .applies) refl (h .0) (first-without n some ts (h .1))
+pub firstOf-never : (n : ℕ) → 0 < n → (ts : List Test) → never n ts ≡ true → firstOf ts .number ≡ n → ⊥
+firstOf-never n some [] w e = let z : firstOf [] .number ≡ 0 = ap (λ (r : Refusal). r .number) firstOf-end in omega arith
+firstOf-never n some (t ∷ ts) w e =
+    let h = every-cons (λ (t : Test). cond (eqb (t .number) n) (not (t .applies)) true) t ts w in
+    go (t .applies) refl (h .0) (firstOf-never n some ts (h .1))
   where
-    go : (b : Bool) → t .applies ≡ b → not (eqb (t .number) n) ≡ true → (firstOf ts .number ≡ n → ⊥) → ⊥
-    go true q h f = false≢true (sym (ap not (eq-eqb (t .number) n (sym (ap (λ (r : Refusal). r .number) (first-here t ts q)) ∙ e))) ∙ h)
-    go false q h f = f (sym (ap (λ (r : Refusal). r .number) (first-skip t ts q)) ∙ e)
+    go : (b : Bool) → t .applies ≡ b → cond (eqb (t .number) n) (not (t .applies)) true ≡ true → (firstOf ts .number ≡ n → ⊥) → ⊥
+    go true q h f =
+        let own : t .number ≡ n = sym (ap (λ (r : Refusal). r .number) (firstOf-here t ts q)) ∙ e in
+        false≢true (sym (ap₂ (λ (a b : Bool). cond a (not b) true) (eq-eqb (t .number) n own) q) ∙ h)
+    go false q h f = f (sym (ap (λ (r : Refusal). r .number) (firstOf-skip t ts q)) ∙ e)
 
-pub without-append : (n : ℕ) (ss ts : List Test) → without n ss ≡ true → without n ts ≡ true → without n (ss ++ ts) ≡ true
-without-append n [] ts a b = b
-without-append n (s ∷ ss) ts a b =
-    let h = every-cons (λ (t : Test). not (eqb (t .number) n)) s ss a in
-    ap₂ (λ (x y : Bool). cond x y false) (h .0) (without-append n ss ts (h .1) b)
+pub never-append : (n : ℕ) (ss ts : List Test) → never n ss ≡ true → never n ts ≡ true → never n (ss ++ ts) ≡ true
+never-append n [] ts a b = b
+never-append n (s ∷ ss) ts a b =
+    let h = every-cons (λ (t : Test). cond (eqb (t .number) n) (not (t .applies)) true) s ss a in
+    ap₂ (λ (x y : Bool). cond x y false) (h .0) (never-append n ss ts (h .1) b)
+
+-- ---- places
+
+-- a test whose place is d further on
+abbrev pub further : ℕ → Test → Test
+further d t = test (t .applies) (t .number) (t .place + d)
+
+pub further-append : (d : ℕ) {xs ys : List Test} (ss ts : List Test) → xs ≡ map (further d) ss → ys ≡ map (further d) ts → xs ++ ys ≡ map (further d) (ss ++ ts)
+further-append d ss ts e f = ap₂ (λ (x y : List Test). x ++ y) e f ∙ sym (map-append (further d) ss ts)
+
+pub further-none : (ts : List Test) → map (further 0) ts ≡ ts
+further-none [] = refl
+further-none (t ∷ ts) = ap₂ (λ (p : ℕ) (l : List Test). test (t .applies) (t .number) p ∷ l) (add-zero (t .place)) (further-none ts)
+
+-- the same number, and of a refusal a place d further on
+abbrev pub Further : ℕ → Refusal → Refusal → Type 0
+Further d f g = (g .number ≡ f .number) × ((f .number ≡ 0 → ⊥) → g ≡ refusal (f .number) (f .place + d))
+
+pub firstOf-further : (d : ℕ) (ts : List Test) → Further d (firstOf ts) (firstOf (map (further d) ts))
+unfolding firstOf
+firstOf-further d [] = (refl, λ z. absurd (z refl))
+firstOf-further d (t ∷ ts) = go (t .applies) (firstOf-further d ts)
+  where
+    go : (b : Bool) → Further d (firstOf ts) (firstOf (map (further d) ts))
+        → Further d (cond b (refusal (t .number) (t .place)) (firstOf ts)) (cond b (refusal (t .number) (t .place + d)) (firstOf (map (further d) ts)))
+    go true h = (refl, λ z. refl)
+    go false h = h

@@ -19,7 +19,7 @@ use Rattle.limits.proofs.Rates.{rate-low}
 use Rattle.limits.proofs.Points.{none-high, high-below}
 use Rattle.refusals.specs.declared.Refusal.{Refusal}
 use Rattle.refusals.specs.Tests.{firstOf}
-use Rattle.refusals.proofs.Tests.{first-here}
+use Rattle.refusals.proofs.Tests.{firstOf-here}
 use Rattle.span.specs.declared.SpanAnswer.{SpanAnswer}
 use Rattle.span.specs.Spans.{roundedDown, firstPosition, lastPosition, dividend, milliseconds, spanTests, spanAnswer, spanned}
 use Rattle.span.specs.Claims.{SpanAccepted, AcceptsOnly, spanOf, IsFloor, RoundsDown, ZeroShort, towardZero, answerWith, Exact, SameSpan, OneLess, SpanFits}
@@ -116,7 +116,7 @@ unfolding spanned
 same-answer r ts z h = go (isRate r) refl
   where
     refusal : isRate r ≡ false → firstOf (spanTests r ts) ≡ record { number = 1; place = 0 }
-    refusal e = first-here _ _ (ap not e)
+    refusal e = firstOf-here _ _ (ap not e)
 
     go : (b : Bool) → isRate r ≡ b → answerWith r ts (milliseconds r ts) ≡ answerWith r ts z
     go true e = ap (answerWith r ts) (h (omega (arith, rate-low r e)))

@@ -17,7 +17,7 @@ use Rattle.refusals.specs.declared.Refusal.{Refusal}
 use Rattle.limits.specs.Points.{maxPoints, firstHigh}
 use Rattle.limits.specs.Rates.{isRate}
 use Rattle.refusals.specs.Tests.{firstOf}
-use Rattle.refusals.proofs.Tests.{first-end, first-skip, first-here}
+use Rattle.refusals.proofs.Tests.{firstOf-end, firstOf-skip, firstOf-here}
 
 -- ---- milliseconds
 
@@ -50,15 +50,15 @@ module _ (r : ℕ) (ts : List ℕ) where
   answered e = ap (λ (f : Refusal). spanAnswer f (milliseconds r ts)) e
 
   pub spanned-no-rate : isRate r ≡ false → spanned r ts ≡ record { number = 1; place = 0; milliseconds = pos 0 }
-  spanned-no-rate e = answered (first-here _ _ (ap not e))
+  spanned-no-rate e = answered (firstOf-here _ _ (ap not e))
 
   module _ (rate : isRate r ≡ true) where
     pub spanned-many : maxPoints < length ts → spanned r ts ≡ record { number = 3; place = 0; milliseconds = pos 0 }
-    spanned-many h = answered (first-skip _ _ (ap not rate) ∙ first-here _ _ (lt-ltb _ _ h))
+    spanned-many h = answered (firstOf-skip _ _ (ap not rate) ∙ firstOf-here _ _ (lt-ltb _ _ h))
 
     module _ (few : length ts ≤ maxPoints) where
       pub spanned-high : firstHigh ts < length ts → spanned r ts ≡ record { number = 4; place = firstHigh ts; milliseconds = pos 0 }
-      spanned-high h = answered (first-skip _ _ (ap not rate) ∙ first-skip _ _ (le-ltb _ _ few) ∙ first-here _ _ (lt-ltb _ _ h))
+      spanned-high h = answered (firstOf-skip _ _ (ap not rate) ∙ firstOf-skip _ _ (le-ltb _ _ few) ∙ firstOf-here _ _ (lt-ltb _ _ h))
 
       pub spanned-accepted : length ts ≤ firstHigh ts → spanned r ts ≡ record { number = 0; place = 0; milliseconds = milliseconds r ts }
-      spanned-accepted h = answered (first-skip _ _ (ap not rate) ∙ first-skip _ _ (le-ltb _ _ few) ∙ first-skip _ _ (le-ltb _ _ h) ∙ first-end)
+      spanned-accepted h = answered (firstOf-skip _ _ (ap not rate) ∙ firstOf-skip _ _ (le-ltb _ _ few) ∙ firstOf-skip _ _ (le-ltb _ _ h) ∙ firstOf-end)

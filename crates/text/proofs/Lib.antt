@@ -1,3 +1,2 @@
 pub mod PlacedAt
 pub mod Numbers
-pub mod Lines

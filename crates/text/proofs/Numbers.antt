@@ -16,11 +16,11 @@ use Rattle.io.specs.Digits.{digits, Fewest}
 use Rattle.text.specs.Numbers.{glyph, trimmed, decimal, hex16}
 
 -- digits from the last to the first
-pub spelled : (b k n : ℕ) → digits b k n ≡ map glyph (digitsOf b k n)
+pub digits-glyphs : (b k n : ℕ) → digits b k n ≡ map glyph (digitsOf b k n)
 unfolding digitsOf
-spelled b zero n = refl
-spelled b (suc k) n =
-    ap (λ (l : List ℕ). l ++ (glyph (n % b) ∷ [])) (spelled b k (n / b))
+digits-glyphs b zero n = refl
+digits-glyphs b (suc k) n =
+    ap (λ (l : List ℕ). l ++ (glyph (n % b) ∷ [])) (digits-glyphs b k (n / b))
     ∙ sym (ap (λ (j : ℕ). map glyph (digitsOf b j n)) (sym (add-one k))
     ∙ ap (map glyph) (digits-append b k 1 n)
     ∙ map-append glyph (digitsOf b k (n / b ^ 1)) (digitsOf b 1 n)
@@ -76,7 +76,7 @@ pub decimal-fewest : {n k : ℕ} → n < 2 ^ 64 → Fewest 10 1 n k → digits 1
 unfolding decimal
 decimal-fewest {n} {k} n< h =
     let k≤ : k ≤ 20 = fewest-le 20 (omega arith) (omega arith) (omega arith) h in
-    spelled 10 k n ∙ ap (map glyph) (sym (trimmed-fewest 10 (omega arith) n 20 k k≤ h))
+    digits-glyphs 10 k n ∙ ap (map glyph) (sym (trimmed-fewest 10 (omega arith) n 20 k k≤ h))
 
 -- 64 bits by 16 hex digits
 pub hex-fewest : {v k : ℕ} → v < 2 ^ 64 → Fewest 16 16 v k → digits 16 k v ≡ hex16 v
@@ -84,4 +84,4 @@ unfolding hex16
 hex-fewest {v} {k} v< h =
     let k≤ : k ≤ 16 = fewest-le 16 (omega arith) (omega arith) (omega arith) h in
     let e : k ≡ 16 = omega arith in
-    spelled 16 k v ∙ ap (λ (i : ℕ). map glyph (digitsOf 16 i v)) e
+    digits-glyphs 16 k v ∙ ap (λ (i : ℕ). map glyph (digitsOf 16 i v)) e

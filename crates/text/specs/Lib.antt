@@ -1,4 +1,3 @@
 pub mod Numbers
 pub mod Lines
 pub mod PlacedAt
-pub mod Examples

@@ -1,17 +1,10 @@
--- Document 01, "Bytes to compare", the listing, with the side of document 02, No. 2: its lines and its whole text. Single spaces; each line
--- ends in one newline.
---   newline, space, rateWord .. atWord    the fixed parts of a line
---   rateLine r, countLine n, spanLine z   `rate 96000`, `count 3`, `span 20`
---   sideLine d                            `side 4`, and nothing for side 0
---   pointLine t v                         `960 3fe0000000000000`: a position and the bits of its ratio
+-- Document 01, "Bytes to compare", the listing, with the side of document 02, No. 2: what the lines of several programs share. Single spaces; each
+-- line ends in one newline.
+--   newline, space, rateWord .. atWord    fixed parts of a line
 --   refusedLine n p                       `refused 10 at 0`: a refusal's number and place
---   pointLines ts vs                      the lines of the points
---   listing r d z ts vs                   the text of a run of rate r, side d and span z, with positions ts and ratios vs
 use mathlib.Core.List.{List, [], _∷_, _++_}
-use Prim.Native.Nat.{ℕ, zero, suc}
-use lib.IntN.{ℤ}
-use lib.ListN.{length}
-use Rattle.text.specs.Numbers.{decimal, hex16, signed}
+use Prim.Native.Nat.{ℕ}
+use Rattle.text.specs.Numbers.{decimal}
 
 -- a line's end
 abbrev pub newline : List ℕ
@@ -33,10 +26,6 @@ sideWord = 115 ∷ 105 ∷ 100 ∷ 101 ∷ 32 ∷ []
 abbrev pub countWord : List ℕ
 countWord = 99 ∷ 111 ∷ 117 ∷ 110 ∷ 116 ∷ 32 ∷ []
 
--- "span "
-abbrev pub spanWord : List ℕ
-spanWord = 115 ∷ 112 ∷ 97 ∷ 110 ∷ 32 ∷ []
-
 -- "refused "
 abbrev pub refusedWord : List ℕ
 refusedWord = 114 ∷ 101 ∷ 102 ∷ 117 ∷ 115 ∷ 101 ∷ 100 ∷ 32 ∷ []
@@ -45,37 +34,6 @@ refusedWord = 114 ∷ 101 ∷ 102 ∷ 117 ∷ 115 ∷ 101 ∷ 100 ∷ 32 ∷ []
 abbrev pub atWord : List ℕ
 atWord = 32 ∷ 97 ∷ 116 ∷ 32 ∷ []
 
--- the line of the rate
-unfoldable pub rateLine : ℕ → List ℕ
-rateLine r = rateWord ++ (decimal r ++ newline)
-
--- the line of the side, if there is one
-unfoldable pub sideLine : ℕ → List ℕ
-sideLine zero = []
-sideLine (suc n) = sideWord ++ (decimal (suc n) ++ newline)
-
--- the line of the number of points
-unfoldable pub countLine : ℕ → List ℕ
-countLine n = countWord ++ (decimal n ++ newline)
-
--- the line of the span in milliseconds
-unfoldable pub spanLine : ℤ → List ℕ
-spanLine z = spanWord ++ (signed z ++ newline)
-
--- the line of a point
-unfoldable pub pointLine : ℕ → ℕ → List ℕ
-pointLine t v = decimal t ++ (space ++ (hex16 v ++ newline))
-
 -- the only line of a refusal
 unfoldable pub refusedLine : ℕ → ℕ → List ℕ
 refusedLine n p = refusedWord ++ (decimal n ++ (atWord ++ (decimal p ++ newline)))
-
--- one line for each point, as long as both lists last
-unfoldable pub pointLines : List ℕ → List ℕ → List ℕ
-pointLines [] vs = []
-pointLines (t ∷ ts) [] = []
-pointLines (t ∷ ts) (v ∷ vs) = pointLine t v ++ pointLines ts vs
-
--- rate, side, count, span, and the points
-unfoldable pub listing : ℕ → ℕ → ℤ → List ℕ → List ℕ → List ℕ
-listing r d z ts vs = rateLine r ++ (sideLine d ++ (countLine (length ts) ++ (spanLine z ++ pointLines ts vs)))

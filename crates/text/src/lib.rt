@@ -1,11 +1,11 @@
-// The text of the listing: numbers and lines put into a lent output at an index.
+// Numbers and lines of text put into a lent output at an index, for the programs that print.
 // Internal: callers meet each `requires`. Each function returns the index after its text.
 ghost use mathlib.Core.Path.{_≡_};
 ghost use mathlib.Core.List.{_++_};
-ghost use Prim.Native.Nat.{_+_, _*_, _≤_};
+ghost use Prim.Native.Nat.{_+_, _≤_};
 ghost use lib.IntN.{natAbs};
 ghost use lib.ListN.{length};
-ghost use Rattle.text.specs.Lines.{newline, space, rateLine, sideLine, countLine, spanLine, pointLine, refusedLine, pointLines, listing};
+ghost use Rattle.text.specs.Lines.{newline, space, refusedLine};
 ghost use Rattle.text.specs.Numbers.{decimal, hex16, signed};
 ghost use Rattle.text.specs.PlacedAt.{PlacedAt};
 
@@ -70,7 +70,7 @@ fn magnitude(z: i64) -> u64
 }
 
 // A signed number in base 10.
-fn put_signed(out: &mut [u8], at: usize, z: i64) -> usize
+pub fn put_signed(out: &mut [u8], at: usize, z: i64) -> usize
     requires { ⌜ at + 21 ≤ length (now out) ⌝ }
     ensures { λ r. ⌜ PlacedAt 21 (signed z) at r (now (out .entry)) (now (out .exit)) ⌝ }
 {
@@ -130,90 +130,10 @@ pub fn put_three(
     put_two(out, rest, second, m, third, n)
 }
 
-// The line of the rate.
-fn put_rate(out: &mut [u8], at: usize, rate: u32) -> usize
-    requires { ⌜ at + 26 ≤ length (now out) ⌝ }
-    ensures { λ r. ⌜ PlacedAt 26 (rateLine rate) at r (now (out .entry)) (now (out .exit)) ⌝ }
-{
-    put_one(out, at, b"rate ", rate as u64)
-}
-
-// The line of the side, if there is one.
-fn put_side(out: &mut [u8], at: usize, side: u32) -> usize
-    requires { ⌜ at + 26 ≤ length (now out) ⌝ }
-    ensures { λ r. ⌜ PlacedAt 26 (sideLine side) at r (now (out .entry)) (now (out .exit)) ⌝ }
-{
-    if side == 0 {
-        return at;
-    }
-    put_one(out, at, b"side ", side as u64)
-}
-
-// The line of the count.
-fn put_count(out: &mut [u8], at: usize, count: u64) -> usize
-    requires { ⌜ at + 27 ≤ length (now out) ⌝ }
-    ensures { λ r. ⌜ PlacedAt 27 (countLine count) at r (now (out .entry)) (now (out .exit)) ⌝ }
-{
-    put_one(out, at, b"count ", count)
-}
-
-// The line of the span.
-fn put_span(out: &mut [u8], at: usize, span: i64) -> usize
-    requires { ⌜ at + 27 ≤ length (now out) ⌝ }
-    ensures { λ r. ⌜ PlacedAt 27 (spanLine span) at r (now (out .entry)) (now (out .exit)) ⌝ }
-{
-    let number = put_text(out, at, b"span ");
-    let end = put_signed(out, number, span);
-    put_newline(out, end)
-}
-
-// The line of a point.
-fn put_point(out: &mut [u8], at: usize, position: u64, ratio: u64) -> usize
-    requires { ⌜ at + 38 ≤ length (now out) ⌝ }
-    ensures { λ r. ⌜ PlacedAt 38 (pointLine position ratio) at r (now (out .entry)) (now (out .exit)) ⌝ }
-{
-    let gap = put_decimal(out, at, position);
-    let end = put_bits(out, gap, ratio);
-    put_newline(out, end)
-}
-
 // The line of a refusal.
 pub fn put_refused(out: &mut [u8], at: usize, number: u32, place: u32) -> usize
     requires { ⌜ at + 53 ≤ length (now out) ⌝ }
     ensures { λ r. ⌜ PlacedAt 53 (refusedLine number place) at r (now (out .entry)) (now (out .exit)) ⌝ }
 {
     put_two(out, at, b"refused ", number as u64, b" at ", place as u64)
-}
-
-// The lines of the points.
-fn put_points(out: &mut [u8], at: usize, positions: &[u64], ratios: &[u64]) -> usize
-    requires { ⌜ (length (now positions) ≡ length (now ratios)) × (at + 38 * length (now positions) ≤ length (now out)) ⌝ }
-    ensures { λ r. ⌜ PlacedAt (38 * length (now (positions .entry))) (pointLines (now (positions .entry)) (now (ratios .entry))) at r (now (out .entry)) (now (out .exit)) ⌝ }
-{
-    let mut end = at;
-    let mut i = 0;
-    while i < positions.len() {
-        end = put_point(out, end, positions[i], ratios[i]);
-        i += 1;
-    }
-    end
-}
-
-// The text of a run.
-pub fn put_listing(
-    out: &mut [u8],
-    rate: u32,
-    side: u32,
-    span: i64,
-    positions: &[u64],
-    ratios: &[u64],
-) -> usize
-    requires { ⌜ (length (now positions) ≡ length (now ratios)) × (106 + 38 * length (now positions) ≤ length (now out)) ⌝ }
-    ensures { λ r. ⌜ PlacedAt (106 + 38 * length (now (positions .entry))) (listing rate side span (now (positions .entry)) (now (ratios .entry))) 0 r (now (out .entry)) (now (out .exit)) ⌝ }
-{
-    let side_at = put_rate(out, 0, rate);
-    let count_at = put_side(out, side_at, side);
-    let span_at = put_count(out, count_at, positions.len() as u64);
-    let points_at = put_span(out, span_at, span);
-    put_points(out, points_at, positions, ratios)
 }

@@ -1,6 +1,8 @@
 -- What each walk of a function's MIR begins and ends with, as rules of the logic's calculus (types.Kit): a script names only what it is about.
 --   meets                 a walk at every choice of lifetimes, shares and arguments is the function's theorem
 --   leaves                the function's locals are let go, all at once
+--   answers               the end, where the answer is a plain struct and only it is left to be had
+--   hands-back            at the end, a struct that was lent by `&mut`: the tokens of both lifetimes, and its borrow at its last value; tokenOf: one token
 --   with-owned, with-uint, with-struct    what a plain value owns is had for nothing, and stands before what the values after it own
 --   holds                 room for a struct takes its machine value
 --   local-at, field-at    an operand that is a local, or a field of one
@@ -19,7 +21,7 @@ use mir.Syntax.{Width, Ty, Lifetime, Fn, Name, Place, place, field, Body, seq, a
 use mir.Val.{Val, bits, vint, vptr}
 use base.Logic.{SProp, ent, sep, emp, via, comm∗, assoc∗, assoc′, monoL, monoR, fst∗, emp∗, id⊢}
 use base.Stored.{Gv}
-use base.Fml.{Lft, Share, GName, Fml, ftrue, fsep, fat, froom, fdies, flft, fdead, fobs, fauth, fres, fbor, fobor, flent}
+use base.Fml.{Lft, Share, GName, Fml, ftrue, fsep, fat, froom, fdies, flft, fdead, feq, fobs, fauth, fres, fbor, fobor, flent}
 use prog.Memory.{fieldOf}
 use prog.Wp.{Heap, Env, Calls, Loops, WpFn, Closed, release, spotOf}
 use prog.Model.{Model}
@@ -29,7 +31,7 @@ use sound.WpLaws.{FmC, fmOf, WpFn-mono}
 use contract.Monad.{fact}
 use contract.Running.{Running, GhostRules, givenOf, tables, tablesOf}
 use contract.Lifetimes.{Lfts, Shares, AllOutlive}
-use types.Kit.{Given, Item, ‵, raw, some, later, _⊛_, mean, ⋆, ⊢++, ++⊢, pop, nth, put, Post, Goal, runs, lands, frees, aim, Soaks, Seq, Step, step, _$_, move, drop, use1, use2, use3, split, join, pick, fsplit, fjoin, fpick, fpack, await}
+use types.Kit.{Given, Item, ‵, raw, some, later, _⊛_, mean, ⋆, ⊢++, ++⊢, pop, nth, put, Post, Goal, prop, runs, lands, frees, aim, Soaks, Seq, Step, step, _$_, move, drop, use1, use2, use3, split, join, pick, fsplit, fjoin, fjoin3, feqI, fpick, fpack, frame, done, await}
 use types.Run.{Opd, Opds, Rv, Writes, look, init, stop, fld, from, load, assigns, land}
 use types.Part.{Part, look-in}
 use types.SemTy.{Body as Borrowed}
@@ -141,11 +143,25 @@ module _ {M : Type 1} (𝓤 : URA M) (H : Heap 𝓤) (A : Atoms 𝓤) where
         (one-freed (e .0) (e .1) (‵ (fat fullShare (e .0) (e .1) zero v)) Δ P (W .laws .at-room (e .0) (e .1) zero v) h))
         (release-swap E L P)
 
+-- the token of a function with one lifetime
+abbrev pub tokenOf : {M : Type 1} {𝓤 : URA M} → Lft → Share → Item 𝓤
+tokenOf κ q = ‵ (flft κ q) ⊛ ‵ ftrue
+
 -- the tokens of a callee with two lifetimes: that of a loan within κ, and κ
 abbrev pub lentFor : {M : Type 1} {𝓤 : URA M} → Lft → Share → ℕ → Item 𝓤
 lentFor κ q α = ‵ (flft (α ∷ κ) (PosShare·left q)) ⊛ ‵ (flft κ (PosShare·right q)) ⊛ ‵ ftrue
 
+module _ {M : Type 1} {𝓤 : URA M} {H : Heap 𝓤} {A : Atoms 𝓤} {K : Type 0} {W : Given 𝓤 H A} where
+  -- P is what the parameters leave
+  pub answers : K → (D : Declared) → Plains (fields D) → (x : D .D) (vs : List Val) {P : Fml} → Is (row D) x vs → Seq K W (‵ P ∷ []) (prop (⋆ 𝓤 H A (‵ P ∷ ‵ (row D .own x vs) ∷ [])))
+  answers t D plain x vs is = owned t (row D) (Is (row D)) (LL.makes D plain 𝓤 H A) x vs is $ move t (1 ∷ 0 ∷ []) $ done t
+
 module _ {M : Type 1} {𝓤 : URA M} {H : Heap 𝓤} {A : Atoms 𝓤} {K : Type 0} {W : Given 𝓤 H A} {Γ : List (Item 𝓤)} where
+  -- the reference is vs; O, B and F are the last value, the borrow and the token of its lifetime, and T the other token
+  pub hands-back : K → (vs : List Val) {O B F : Fml} {T : Item 𝓤} {P : SProp 𝓤}
+      → Step K W (‵ (fsep (feq (List Val) vs vs) (fsep O B)) ∷ Γ) (prop P) (‵ O ∷ ‵ B ∷ ‵ F ∷ T ∷ Γ) (prop (sep 𝓤 (mean 𝓤 H A (‵ F ⊛ T)) P))
+  hands-back t vs = step (λ s. move t (2 ∷ 3 ∷ []) $ join t $ frame t $ feqI t (List Val) vs vs refl $ fjoin3 t $ s)
+
   -- n entries stand before the locals, which hold the values vs: `_` for each of them
   pub leaves : K → (n : ℕ) (vs : List Val) {E : Env 𝓤 H} {g : Goal 𝓤 H} → Γ ≡ take n Γ ++ heldOnto 𝓤 H A E vs [] → Step K W (take n Γ) g Γ (frees E g)
   leaves t n vs {E} {g} e = step (λ s. record {

@@ -10,11 +10,11 @@ use Rattle.bits.specs.Digits.{bitsOf}
 use Rattle.bits.proofs.Digits.{two⁺, digits-join}
 
 -- a mask's modulus
-pub mask : (k : ℕ) → k < 64 → 1 * 2 ^ k % 2 ^ 64 ≡ 2 ^ k
-mask k h = shl-exact {a = 1} 1 k 64 (omega arith) (omega arith) ∙ one-mul (2 ^ k)
+pub mask-pow : (k : ℕ) → k < 64 → 1 * 2 ^ k % 2 ^ 64 ≡ 2 ^ k
+mask-pow k h = shl-exact {a = 1} 1 k 64 (omega arith) (omega arith) ∙ one-mul (2 ^ k)
 
 pub mask-pos : (k : ℕ) → k < 64 → 0 < 1 * 2 ^ k % 2 ^ 64
-mask-pos k h = rw (mask k h) (pow-pos k)
+mask-pos k h = rw (mask-pow k h) (pow-pos k)
 
 -- a number of j bits above one of k bits is one of j + k bits, and fits the word
 module _ (j k : ℕ) {h l : ℕ} (h< : h < 2 ^ j) (l< : l < 2 ^ k) (fits : j + k ≤ 64) where

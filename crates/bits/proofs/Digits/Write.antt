@@ -29,12 +29,12 @@ module _ (o : List ℕ) (at n x i : ℕ) (i< : i < n) (room : at + n ≤ length 
   shift-step = rw (more, pow-suc) (div-div-eq-div-mul x _ 256)
 
 -- before the first turn
-pub write-start : (x n : ℕ) → x / 256 ^ (n - n) ≡ x
-write-start x n = rw sub-self (div-one x)
+pub shift-start : (x n : ℕ) → x / 256 ^ (n - n) ≡ x
+shift-start x n = rw sub-self (div-one x)
 
-pub write-none : (o : List ℕ) (at n x : ℕ) → written o at n x n ≡ o
+pub write-start : (o : List ℕ) (at n x : ℕ) → written o at n x n ≡ o
 unfolding digitsOf
-write-none o at n x = rw sub-self (take-append-drop (at + n) o)
+write-start o at n x = rw sub-self (take-append-drop (at + n) o)
 
 -- what a turn keeps
 pub write-again : (o p : List ℕ) (at n x i y : ℕ) → 0 < i → i ≤ n → at + n ≤ length o → length p ≡ length o → y ≡ x / 256 ^ (n - i) → p ≡ written o at n x i

@@ -13,7 +13,7 @@ use lib.Seq.{drop-drop, take-nil, take-take, take-all, take-append-le, take-appe
 use Rattle.lists.specs.Below.{Below}
 use Rattle.bits.specs.Digits.{bitsOf, numberOf}
 use Rattle.bits.specs.Packing.{bits, ahead}
-use Rattle.bits.proofs.Digits.{two⁺, digits-zero, digits-append, take-digits, drop-digits, digits-low, digits-mod, number-digits}
+use Rattle.bits.proofs.Digits.{two⁺, digits-zero, digits-append, take-digits, drop-digits, digits-low, digits-of-mod, number-digits}
 use Rattle.bits.proofs.Packing.{bits-eight, length-left}
 
 drop-take : (p k : ℕ) (l : List ℕ) → drop p (take (p + k) l) ≡ take k (drop p l)
@@ -97,7 +97,7 @@ module _ (xs : List ℕ) (bytes : Below 256 xs) (from s x : ℕ) (room : from + 
   moved-bits =
       let e : (64 - s) + s ≡ 64 = omega arith in
       let z : x * 2 ^ s ≡ x * 2 ^ s + 0 = omega arith in
-      digits-mod two⁺ 64 (x * 2 ^ s) ∙ ap (λ (m : ℕ). bitsOf m (x * 2 ^ s)) (sym e) ∙ digits-append 2 (64 - s) s (x * 2 ^ s)
+      digits-of-mod two⁺ 64 (x * 2 ^ s) ∙ ap (λ (m : ℕ). bitsOf m (x * 2 ^ s)) (sym e) ∙ digits-append 2 (64 - s) s (x * 2 ^ s)
       ∙ ap₂ (λ (a b : List ℕ). a ++ b) (ap (bitsOf (64 - s)) (shl-shr x s) ∙ rest) (ap (bitsOf s) z ∙ digits-low two⁺ s x 0 ∙ digits-zero 2 s)
 
   left : length ds ≡ 8 * length xs - (8 * from + s)

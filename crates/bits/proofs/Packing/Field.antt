@@ -13,7 +13,7 @@ use Rattle.bits.specs.Packing.{bits}
 use Rattle.lists.proofs.Below.{below-take, below-drop}
 use Rattle.bits.proofs.Digits.{two⁺, length-digits, digits-append, number-append, number-digits, digits-number}
 use Rattle.bits.proofs.Packing.{bits-append, length-bits, bits-bytes, length-left}
-use Rattle.bits.proofs.Digits.Word.{mask, shl-is, two-lt}
+use Rattle.bits.proofs.Digits.Word.{mask-pow, shl-is, two-lt}
 
 -- the field of k bits from 8 * b + r on is read by way of the e bytes from b on
 module _ (s : List ℕ) (b r k pad e : ℕ) (whole : r + k + pad ≡ 8 * e) (room : b + e ≤ length s) (bytes : Below 256 s) where
@@ -66,7 +66,7 @@ pub field-one : (s : List ℕ) (at k x : ℕ) → k ≤ 57 → at + k ≤ 8 * le
     → (x / 2 ^ padAfter at k % (1 * 2 ^ k % 2 ^ 64) ≡ numberOf 2 (take k (drop at (bits s)))) × (x / 2 ^ padAfter at k % (1 * 2 ^ k % 2 ^ 64) < 2 ^ k)
 field-one s at k x k≤ room bytes ex =
     let place : 8 * (at / 8) + at % 8 ≡ at = omega arith in
-    rw (mask k (omega arith)) (
+    rw (mask-pow k (omega arith)) (
       ap (λ (y : ℕ). y / 2 ^ padAfter at k % 2 ^ k) ex
           ∙ sym (number-field s (at / 8) (at % 8) k (padAfter at k) (bytesFor at k) (omega arith) (omega arith) bytes)
           ∙ ap (λ (m : ℕ). numberOf 2 (take k (drop m (bits s)))) place,

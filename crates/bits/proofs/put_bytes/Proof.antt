@@ -4,7 +4,7 @@ use Prim.Native.Nat.{_-_, _/_, _^_, _≤_}
 use native.Mathlib.Omega.{arith}
 use borrow.Author.Needs.{needs}
 use lib.ListN.{length}
-use Rattle.bits.proofs.Digits.Write.{written, write-start, write-none, write-again, write-done}
+use Rattle.bits.proofs.Digits.Write.{written, shift-start, write-start, write-again, write-done}
 use Rattle.bits.proofs.put_bytes.Statement.{statement}
 use Rattle.bits.proofs.put_bytes.Tie as tie
 
@@ -17,7 +17,7 @@ abbrev μ-loop : tie.MeasureT-loop
 loop-holds : tie.Need-loop-holds Inv-loop μ-loop
 loop-holds c =
     let a = c .args in
-    (omega arith, refl, sym (write-start (a .x) (a .n)), sym (write-none (a .out .now) (a .at) (a .n) (a .x)))
+    (omega arith, refl, sym (shift-start (a .x) (a .n)), sym (write-start (a .out .now) (a .at) (a .n) (a .x)))
 
 sub-i : tie.Need-sub-i Inv-loop μ-loop
 sub-i c = omega arith

@@ -1,10 +1,29 @@
 -- `put_difference` meets its contract: the line of each case.
 use native.Mathlib.Omega.{arith}
-use Rattle.text.proofs.PlacedAt.{put-none, put-known}
+use Rattle.text.proofs.PlacedAt.{placed-none, placed-known}
 use Rattle.compare.specs.Lines.{positionLine, moreLine, lineOf}
 use borrow.Author.Needs.{needs}
 use Rattle.compare.proofs.put_difference.Statement.{statement}
 use Rattle.compare.proofs.put_difference.Tie as tie
+
+-- ---- places: which difference it is, as its line sees it
+
+abbrev property : tie.After-put-property → tie.After-difference
+property k = k .before .before .before
+
+abbrev words : tie.After-put-three → tie.After-put-three-arg
+words k = k .before .before .before .before
+
+abbrev position : tie.After-put-three → tie.After-difference2
+position k = words k .before .before
+
+abbrev ratio : tie.After-put-ratio → tie.After-difference3
+ratio k = k .before .before .before
+
+abbrev more : tie.After-put-one → tie.After-difference4
+more k = k .before .before .before .before
+
+-- ---- the needs
 
 enum-told : tie.Need-enum-told
 enum-told c = search needs
@@ -51,7 +70,7 @@ put-one-requires c κs = search needs
 returns : tie.Need-returns
 returns c =
     let a = c .before .before .before .args in
-    put-known lineOf (omega arith) (c .enum-told .given .1) (put-none (a .at) (a .out .now))
+    placed-known lineOf (omega arith) (c .enum-told .given .1) (placed-none (a .at) (a .out .now))
 
 same-length : tie.Need-same-length
 same-length c = search needs
@@ -59,8 +78,7 @@ same-length c = search needs
 returns-2 : tie.Need-returns-2
 returns-2 c =
     let put = c .before .before in
-    let told = put .before .before .before in
-    put-known lineOf (omega arith) (told .difference .given .1) (put .put-property .ensures)
+    placed-known lineOf (omega arith) (property put .difference .given .1) (put .put-property .ensures)
 
 same-length-2 : tie.Need-same-length-2
 same-length-2 c = search needs
@@ -69,9 +87,7 @@ returns-3 : tie.Need-returns-3
 unfolding positionLine
 returns-3 c =
     let put = c .before .before in
-    let lent = put .before .before .before .before in
-    let told = lent .before .before in
-    put-known lineOf (omega arith) (told .difference2 .given .1) (put .put-three .ensures)
+    placed-known lineOf (omega arith) (position put .difference2 .given .1) (put .put-three .ensures)
 
 same-length-3 : tie.Need-same-length-3
 same-length-3 c = search needs
@@ -79,8 +95,7 @@ same-length-3 c = search needs
 returns-4 : tie.Need-returns-4
 returns-4 c =
     let put = c .before .before in
-    let told = put .before .before .before in
-    put-known lineOf (omega arith) (told .difference3 .given .1) (put .put-ratio .ensures)
+    placed-known lineOf (omega arith) (ratio put .difference3 .given .1) (put .put-ratio .ensures)
 
 same-length-4 : tie.Need-same-length-4
 same-length-4 c = search needs
@@ -89,8 +104,7 @@ returns-5 : tie.Need-returns-5
 unfolding moreLine
 returns-5 c =
     let put = c .before .before in
-    let told = put .before .before .before .before in
-    put-known lineOf (omega arith) (told .difference4 .given .1) (put .put-one .ensures)
+    placed-known lineOf (omega arith) (more put .difference4 .given .1) (put .put-one .ensures)
 
 pub put-difference-spec : {M : Type 1} → statement M
 put-difference-spec =

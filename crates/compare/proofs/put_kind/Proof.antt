@@ -1,81 +1,27 @@
--- `put_kind` meets its contract: the word of each case.
-use native.Mathlib.Omega.{arith}
-use Rattle.text.proofs.PlacedAt.{put-known}
-use Rattle.compare.specs.Lines.{kindWord}
+-- `put_kind` meets its contract, by the kind's word.
+use Rattle.text.proofs.PlacedAt.{placed-same}
 use borrow.Author.Needs.{needs}
 use Rattle.compare.proofs.put_kind.Statement.{statement}
 use Rattle.compare.proofs.put_kind.Tie as tie
 
-enum-told : tie.Need-enum-told
-enum-told c = search needs
+-- ---- places
 
-slice-aggregate-put-text : tie.Need-slice-aggregate-put-text
-slice-aggregate-put-text c = search needs
+abbrev word : tie.After-put-word → tie.After-kind-word
+word k = k .before .before
 
-put-text-requires : tie.Need-put-text-requires
-put-text-requires c κs = search needs
+-- ---- the needs
 
-enum-told-2 : tie.Need-enum-told-2
-enum-told-2 c = search needs
+kind-word-requires : tie.Need-kind-word-requires
+kind-word-requires c κs = search needs
 
-slice-aggregate-put-text-2 : tie.Need-slice-aggregate-put-text-2
-slice-aggregate-put-text-2 c = search needs
-
-put-text-requires-2 : tie.Need-put-text-requires-2
-put-text-requires-2 c κs = search needs
-
-enum-told-3 : tie.Need-enum-told-3
-enum-told-3 c = search needs
-
-slice-aggregate-put-text-3 : tie.Need-slice-aggregate-put-text-3
-slice-aggregate-put-text-3 c = search needs
-
-put-text-requires-3 : tie.Need-put-text-requires-3
-put-text-requires-3 c κs = search needs
+put-word-requires : tie.Need-put-word-requires
+put-word-requires c κs = search needs
 
 same-length : tie.Need-same-length
 same-length c = search needs
 
 returns : tie.Need-returns
-returns c =
-    let put = c .before .before in
-    let told = put .before .before .before in
-    put-known kindWord (omega arith) (told .enum-told .given .1) (put .put-text .ensures)
-
-same-length-2 : tie.Need-same-length-2
-same-length-2 c = search needs
-
-returns-2 : tie.Need-returns-2
-returns-2 c =
-    let put = c .before .before in
-    let told = put .before .before .before in
-    put-known kindWord (omega arith) (told .enum-told2 .given .1) (put .put-text2 .ensures)
-
-same-length-3 : tie.Need-same-length-3
-same-length-3 c = search needs
-
-returns-3 : tie.Need-returns-3
-returns-3 c =
-    let put = c .before .before in
-    let told = put .before .before .before in
-    put-known kindWord (omega arith) (told .enum-told3 .given .1) (put .put-text3 .ensures)
+returns c = let put = c .before .before in placed-same (word put .kind-word .ensures .1) (put .put-word .ensures)
 
 pub put-kind-spec : {M : Type 1} → statement M
-put-kind-spec =
-    tie.close
-    (tie.spec
-    enum-told
-    slice-aggregate-put-text
-    put-text-requires
-    enum-told-2
-    slice-aggregate-put-text-2
-    put-text-requires-2
-    enum-told-3
-    slice-aggregate-put-text-3
-    put-text-requires-3
-    same-length
-    returns
-    same-length-2
-    returns-2
-    same-length-3
-    returns-3)
+put-kind-spec = tie.close (tie.spec kind-word-requires put-word-requires same-length returns)

@@ -1,11 +1,30 @@
 -- `put_point` meets its contract: the position's line, and then the ratio's.
 use mathlib.Core.Path.{ap}
 use native.Mathlib.Omega.{arith}
-use Rattle.text.proofs.PlacedAt.{put-same, put-put}
+use Rattle.text.proofs.PlacedAt.{placed-same, placed-then}
 use Rattle.compare.specs.Lines.{lineOf}
 use borrow.Author.Needs.{needs}
 use Rattle.compare.proofs.put_point.Statement.{statement}
 use Rattle.compare.proofs.put_point.Tie as tie
+
+-- ---- places: each line, and what it is of
+
+abbrev ratio-found : tie.After-put-difference2 → tie.After-ratio-at
+ratio-found k = k .before .before
+
+abbrev position-put : tie.After-ratio-at → tie.After-put-difference
+position-put k = k .before .before .before
+
+abbrev position-found : tie.After-put-difference → tie.After-position-at
+position-found k = k .before .before
+
+abbrev entry : tie.After-position-at → tie.After-shared-slice-known
+entry k = k .before .before .before .before
+
+abbrev start : tie.After-position-at → tie.Start
+start k = entry k .before .before
+
+-- ---- the needs
 
 position-at-requires : tie.Need-position-at-requires
 position-at-requires c κs = search needs
@@ -24,13 +43,12 @@ same-length c = search needs
 
 returns : tie.Need-returns
 returns c =
-    let ratio = c .before .before in
-    let ratio-found = ratio .before .before in
-    let position = ratio-found .before .before .before in
-    let found = position .before .before in
-    let entry = let known = found .before .before .before in known .before .before .before in
-    put-put (omega (arith, entry .pre)) (put-same (ap lineOf (found .position-at .ensures)) (position .put-difference .ensures))
-    (put-same (ap lineOf (ratio-found .ratio-at .ensures)) (ratio .put-difference2 .ensures))
+    let second = c .before .before in
+    let ratio = ratio-found second in
+    let first = position-put ratio in
+    let position = position-found first in
+    placed-then (omega (arith, start position .pre)) (placed-same (ap lineOf (position .position-at .ensures)) (first .put-difference .ensures))
+    (placed-same (ap lineOf (ratio .ratio-at .ensures)) (second .put-difference2 .ensures))
 
 pub put-point-spec : {M : Type 1} → statement M
 put-point-spec =

@@ -13,9 +13,22 @@ Inv-loop out₀ at ts vs us ws n end₀ i₀ out end i = (i ≤ n) × (length ou
 abbrev μ-loop : tie.MeasureT-loop
 μ-loop out₀ at ts vs us ws n end₀ i₀ out end i = n - i
 
+-- ---- places
+
+abbrev entry : tie.After-shared-slice-known4 Inv-loop μ-loop → tie.After-slice-known Inv-loop μ-loop
+entry k = k .before .before .before .before
+
+abbrev start : tie.At-loop Inv-loop μ-loop → tie.Start Inv-loop μ-loop
+start k = entry (k .before) .before
+
+abbrev head : tie.After-put-point Inv-loop μ-loop → tie.At-loop Inv-loop μ-loop
+head k = k .before .before .before
+
+-- ---- the needs
+
 loop-holds : tie.Need-loop-holds Inv-loop μ-loop
 loop-holds c =
-    let a = c .before .before .before .before .before .args in
+    let a = entry c .before .args in
     (omega arith, refl, points-none (a .ts .now) (a .vs .now) (a .us .now) (a .ws .now) (a .at) (a .out .now))
 
 put-point-requires : tie.Need-put-point-requires Inv-loop μ-loop
@@ -30,8 +43,8 @@ loop-less c = omega arith
 loop-again : tie.Need-loop-again Inv-loop μ-loop
 loop-again c =
     let point = c .before .before in
-    let turn = point .before .before .before in
-    let a = let known = turn .before .before .before in known .before .before .before .args in (
+    let turn = head point in
+    let a = start turn .args in (
       omega arith,
       omega (arith, point .put-point .kept .0),
       points-more (a .ts .now) (a .vs .now) (a .us .now) (a .ws .now) (turn .loop .i) (omega arith) (turn .loop .inv .2) (point .put-point .ensures),
@@ -43,7 +56,7 @@ same-length c = c .before .loop .inv .1
 returns : tie.Need-returns Inv-loop μ-loop
 returns c =
     let turn = c .before in
-    let a = let known = turn .before .before .before in known .before .before .before .args in
+    let a = start turn .args in
     let all : turn .loop .i ≡ a .n = omega arith in
     subst (λ (k : ℕ). Points (a .ts .now) (a .vs .now) (a .us .now) (a .ws .now) k (a .at) (turn .loop .end) (a .out .now) (turn .loop .out)) all (turn .loop .inv .2)
 

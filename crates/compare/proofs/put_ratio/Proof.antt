@@ -1,6 +1,6 @@
 -- `put_ratio` meets its contract: the index, kind and bits of each ratio, and the line's end.
 use native.Mathlib.Omega.{arith}
-use Rattle.text.proofs.PlacedAt.{put-put}
+use Rattle.text.proofs.PlacedAt.{placed-then}
 use Rattle.compare.specs.Lines.{ratioLine}
 use borrow.Author.Needs.{needs}
 use Rattle.compare.proofs.put_ratio.Statement.{statement}
@@ -58,10 +58,10 @@ returns c =
     let v = first-bits l in
     let k = first-kind v in
     let i = index k in
-    put-put (omega arith) (i .put-numbered .ensures)
-    (put-put (omega arith) (k .put-kind .ensures)
-    (put-put (omega arith) (v .put-hex .ensures)
-    (put-put (omega arith) (l .put-kind2 .ensures) (put-put (omega arith) (w .put-hex2 .ensures) (end .put-newline .ensures)))))
+    placed-then (omega arith) (i .put-numbered .ensures)
+    (placed-then (omega arith) (k .put-kind .ensures)
+    (placed-then (omega arith) (v .put-hex .ensures)
+    (placed-then (omega arith) (l .put-kind2 .ensures) (placed-then (omega arith) (w .put-hex2 .ensures) (end .put-newline .ensures)))))
 
 pub put-ratio-spec : {M : Type 1} → statement M
 put-ratio-spec =

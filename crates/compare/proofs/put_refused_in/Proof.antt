@@ -1,6 +1,6 @@
 -- `put_refused_in` meets its contract: three words and three numbers.
 use native.Mathlib.Omega.{arith}
-use Rattle.text.proofs.PlacedAt.{put-more}
+use Rattle.text.proofs.PlacedAt.{placed-within}
 use Rattle.compare.specs.Lines.{refusedInLine}
 use borrow.Author.Needs.{needs}
 use Rattle.compare.proofs.put_refused_in.Statement.{statement}
@@ -23,7 +23,7 @@ same-length c = search needs
 
 returns : tie.Need-returns
 unfolding refusedInLine
-returns c = put-more (omega arith) (c .before .before .put-three .ensures)
+returns c = placed-within (omega arith) (c .before .before .put-three .ensures)
 
 pub put-refused-in-spec : {M : Type 1} → statement M
 put-refused-in-spec =

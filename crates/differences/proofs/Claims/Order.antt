@@ -13,7 +13,7 @@ use Rattle.differences.specs.declared.Property.the-variants.{Rate, Side,
 use Rattle.differences.specs.declared.Difference.{Difference}
 use Rattle.differences.specs.declared.Difference.the-variants.{Equal, InProperty, More}
 use Rattle.differences.specs.declared.Values.{Values}
-use Rattle.differences.specs.declared.Values.the-variants.{Same, Other}
+use Rattle.differences.specs.declared.Values.the-variants.{Nothing, Other}
 use Rattle.differences.specs.Differences.{propertyDifference, moreDifference, valuesAt, positionBy, ratioBy, positionAt, ratioAt, listed, pointsTo, differences}
 use Rattle.differences.specs.Claims.{rank, Rising, InOrder}
 
@@ -64,12 +64,12 @@ spread-more m n lo h = go (eqb m n)
 
 spread-position : (i : ℕ) (z : Values) → Spread (4 + 2 * i) (5 + 2 * i) (listed (positionBy i z))
 unfolding Spread
-spread-position i Same = omega arith
+spread-position i Nothing = omega arith
 spread-position i (Other t u) = (le-refl _, omega arith)
 
 spread-ratio : (i : ℕ) (z : Values) → Spread (5 + 2 * i) (6 + 2 * i) (listed (ratioBy i z))
 unfolding Spread
-spread-ratio i Same = omega arith
+spread-ratio i Nothing = omega arith
 spread-ratio i (Other t u) = (le-refl _, omega arith)
 
 module _ (r q : Run) where

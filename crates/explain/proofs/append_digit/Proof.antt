@@ -8,27 +8,21 @@ use Rattle.explain.proofs.append_digit.Tie as tie
 use Rattle.explain.proofs.append_digit.Reads as reads
 use Rattle.explain.proofs.append_digit.Lts as lts
 
--- src/main.rt:42:16
 mul-next : tie.Need-mul-next
 mul-next c = search needs
 
--- src/main.rt:42:26
 sub-next : tie.Need-sub-next
 sub-next c = leb-true 48 (c .args .c) (both-true (leb 48 (c .args .c)) _ (c .pre .1) .0)
 
--- src/main.rt:42:25
 cast-next : tie.Need-cast-next
 cast-next c = search needs
 
--- src/main.rt:42:16
 add-next : tie.Need-add-next
 add-next c = search needs
 
--- src/main.rt:44:9
 returns : tie.Need-returns
 returns c = search needs
 
--- src/main.rt:38:1
 returns-2 : tie.Need-returns-2
 returns-2 c = search needs
 

@@ -14,6 +14,16 @@ use borrow.Author.Needs.{needs}
 use Rattle.explain.proofs.body_size.Statement.{statement}
 use Rattle.explain.proofs.body_size.Tie as tie
 
+-- ---- places: the room and what was put into it, as the outcomes see them
+
+abbrev room : tie.After-put-ratios → tie.After-body-room
+room k = k .before .before
+
+abbrev start : tie.After-put-ratios → tie.Start
+start k = room k .before .before
+
+-- ---- the needs
+
 body-room-requires : tie.Need-body-room-requires
 body-room-requires c κs = search needs
 
@@ -40,15 +50,13 @@ returns : tie.Need-returns
 returns c =
     let told = c .before in
     let put = told .before .before .before in
-    let lent = put .before .before in
-    placed-done (codedRatios (lent .before .before .args .ratios .now)) (lent .body-room .result) (put .put-ratios .last .1 .0) (told .wrote .given .1) (put .put-ratios .ensures)
+    placed-done (codedRatios (start put .args .ratios .now)) (room put .body-room .result) (put .put-ratios .last .1 .0) (told .wrote .given .1) (put .put-ratios .ensures)
 
 returns-2 : tie.Need-returns-2
 returns-2 c =
     let put = c .before .before .before in
-    let lent = put .before .before in
-    let start = lent .before .before in
-    absurd (omega (arith, lent .body-room .ensures, placed-none (codedRatios (start .args .ratios .now)) (lent .body-room .result) (put .put-ratios .last .1 .0) (c .enum-told .given .1) (put .put-ratios .ensures), nine-bytes windowSize [] (start .args .ratios .now), start .pre))
+    let s = start put in
+    absurd (omega (arith, room put .body-room .ensures, placed-none (codedRatios (s .args .ratios .now)) (room put .body-room .result) (put .put-ratios .last .1 .0) (c .enum-told .given .1) (put .put-ratios .ensures), nine-bytes windowSize [] (s .args .ratios .now), s .pre))
 
 pub body-size-spec : {M : Type 1} → statement M
 body-size-spec =

@@ -1,8 +1,9 @@
 -- `index_in` meets its contract. The loop's invariant: the bytes passed are digits, and n is the number that they make, cut at the largest number
 -- of points. The measure is what is left of the length.
 use mathlib.Core.Bool.{true, false, not}
+use mathlib.Core.List.{List}
 use mathlib.Core.Path.{_≡_, sym, ap, _∙_}
-use Prim.Native.Nat.{_-_, _≤_, min}
+use Prim.Native.Nat.{ℕ, _-_, _≤_, min}
 use native.Mathlib.Omega.{arith}
 use borrow.Author.Needs.{needs}
 use borrow.Author.Tests.{not-false}
@@ -21,11 +22,30 @@ Inv-loop text n₀ i₀ n i = (i ≤ firstIndex notDigit text) × (n ≡ min max
 abbrev μ-loop : tie.MeasureT-loop
 μ-loop text n₀ i₀ n i = length text - i
 
+-- ---- places: the text, the loop's head, and the test of a byte, as later places see them
+
+abbrev text : tie.Start Inv-loop μ-loop → List ℕ
+text k = k .args .text .now
+
+abbrev start : tie.At-loop Inv-loop μ-loop → tie.Start Inv-loop μ-loop
+start k = k .before .before .before
+
+abbrev other-byte : tie.Then2 Inv-loop μ-loop → tie.In-loop Inv-loop μ-loop
+other-byte k = k .before .before .before
+
+abbrev digit : tie.Else2 Inv-loop μ-loop → tie.In-loop Inv-loop μ-loop
+digit k = k .before .before .before
+
+abbrev appended : tie.After-append-digit Inv-loop μ-loop → tie.In-loop Inv-loop μ-loop
+appended k = digit (k .before)
+
+-- ---- the needs
+
 returns : tie.Need-returns Inv-loop μ-loop
-returns c = index-none (c .before .before .args .text .now) (c .if1 .taken)
+returns c = index-none (text (c .before .before)) (c .if1 .taken)
 
 loop-holds : tie.Need-loop-holds Inv-loop μ-loop
-loop-holds c = (omega arith, value-none (c .before .before .args .text .now))
+loop-holds c = (omega arith, value-none (text (c .before .before)))
 
 shared-slice-read-c : tie.Need-shared-slice-read-c Inv-loop μ-loop
 shared-slice-read-c c = search needs
@@ -35,27 +55,27 @@ is-digit-requires c κs = search needs
 
 returns-2 : tie.Need-returns-2 Inv-loop μ-loop
 returns-2 c =
-    let test = c .before .before .before in
-    let t = let lent = test .before .before .before in lent .before .args .text .now in
+    let test = other-byte c in
+    let t = text (start (test .before)) in
     let l = test .before .loop in
-    let digit : notDigit (getD t (l .i) 0) ≡ true = ap not (sym (c .before .is-digit .ensures)) ∙ c .if2 .taken in
-    index-other t (omega (arith, first-found notDigit 0 t (l .i) (test .loop-test .taken) (l .inv .0) digit, test .loop-test .taken))
+    let other : notDigit (getD t (l .i) 0) ≡ true = ap not (sym (c .before .is-digit .ensures)) ∙ c .if2 .taken in
+    index-other t (omega (arith, first-found notDigit 0 t (l .i) (test .loop-test .taken) (l .inv .0) other, test .loop-test .taken))
 
 append-digit-requires : tie.Need-append-digit-requires Inv-loop μ-loop
 append-digit-requires c κs =
-    let l = let test = c .before .before .before in test .before .loop in
+    let l = digit c .before .loop in
     (omega (arith, l .inv .1), sym (c .before .is-digit .ensures) ∙ not-false _ (c .if2 .left))
 
 add-i : tie.Need-add-i Inv-loop μ-loop
 add-i c = search needs
 
 loop-less : tie.Need-loop-less Inv-loop μ-loop
-loop-less c = let test = c .before .before .before .before in omega (arith, test .loop-test .taken)
+loop-less c = omega (arith, appended c .loop-test .taken)
 
 loop-again : tie.Need-loop-again Inv-loop μ-loop
 loop-again c =
-    let test = c .before .before .before .before in
-    let t = let lent = test .before .before .before in lent .before .args .text .now in
+    let test = appended c in
+    let t = text (start (test .before)) in
     let l = test .before .loop in
     let other : notDigit (getD t (l .i) 0) ≡ false = ap not (sym (c .before .before .is-digit .ensures)) ∙ c .before .if2 .left in (
       omega (arith, first-next notDigit 0 t (l .i) (test .loop-test .taken) (l .inv .0) other),
@@ -64,7 +84,7 @@ loop-again c =
 
 returns-3 : tie.Need-returns-3 Inv-loop μ-loop
 returns-3 c =
-    let t = let lent = c .before .before .before in lent .before .args .text .now in
+    let t = text (start (c .before)) in
     let l = c .before .loop in
     l .inv .1 ∙ index-digits t (c .before .before .if1 .left) (omega (arith, l .inv .0, c .loop-test .left, first-le notDigit t)) (l .i) (c .loop-test .left)
 

@@ -1,4 +1,4 @@
--- `print` meets its contract: what is put into the output is the text for what strict reading answers, and the index.
+-- `print` meets its contract: what is put into the output is the text for what reading the input answers, and the index.
 use mathlib.Core.List.{List}
 use mathlib.Core.Path.{_≡_, sym, ap, _∙_}
 use Prim.Native.Nat.{ℕ, _-_, _≤_}
@@ -6,64 +6,63 @@ use native.Mathlib.Omega.{arith}
 use lib.ListN.{length, take}
 use lib.Seq.{length-take-le}
 use Rattle.limits.specs.Points.{maxPoints}
-use Rattle.lists.specs.Below.{Below}
-use Rattle.lists.proofs.Below.{below-of}
 use Rattle.ratio_format.specs.Bodies.{codedRatios}
-use Rattle.text.proofs.PlacedAt.{put-same, put-more}
+use Rattle.text.proofs.PlacedAt.{placed-same, placed-within}
 use Rattle.inputs.specs.Inputs.{inputLimit}
-use Rattle.inputs.proofs.Inputs.{Read, read-as, Held, read-held}
-use Rattle.explain.specs.Indexes.{indexOf}
+use Rattle.inputs.specs.Readings.{Held}
+use Rattle.inputs.proofs.Inputs.{read-held}
+use Rattle.explain.specs.Indexes.{givenIndex}
 use Rattle.explain.specs.Printed.{bodyIn, pointText}
 use Rattle.explain.proofs.Printed.{point-capped, refused-text, body-start, run-text}
 use borrow.Author.Needs.{needs}
 use Rattle.explain.proofs.print.Statement.{statement}
 use Rattle.explain.proofs.print.Tie as tie
 
--- ---- places: the entry, the reading, and a run that was read, as later places see them
+-- ---- places
 
-abbrev roomy : tie.After-read-strict → tie.After-numbers-room2
-roomy k = k .before .before .before
+-- the reading of the input, and the outputs that it left
+abbrev refused : tie.Then1 → tie.After-read-input
+refused k = k .before
 
-abbrev entry : tie.After-read-strict → tie.Start
-entry k = let lent = roomy k .before in let known = lent .before .before in known .before .before
+abbrev read : tie.Else1 → tie.After-read-input
+read k = k .before
 
-abbrev refused : tie.Then1 → tie.After-read-strict
-refused k = k .before .before .before
+abbrev left-positions : tie.After-read-input → List ℕ
+left-positions k = k .read-input .last .1 .0
 
-abbrev answered : tie.Else1 → tie.After-read-strict
-answered k = k .before .before .before
+abbrev left-ratios : tie.After-read-input → List ℕ
+left-ratios k = k .read-input .last .1 .1 .0
 
+abbrev rooms : tie.After-read-input → tie.After-numbers-room
+rooms k = k .before .before .before .before
+
+abbrev entry : tie.After-read-input → tie.After-shared-slice-known
+entry k = rooms k .before .before .before
+
+abbrev start : tie.After-read-input → tie.Start
+start k = entry k .before
+
+-- a run that was read, as its body's size, the index and both lines see it
 abbrev sized : tie.After-body-size → tie.Else1
 sized k = k .before .before .before
 
 abbrev indexed : tie.After-index-in → tie.After-body-size
 indexed k = k .before
 
--- ---- what strict reading left
-
-abbrev input : tie.After-read-strict → List ℕ
-input k = entry k .args .input .now
-
-read : (c : tie.After-read-strict) → Read (input c) (c .read-strict .result) (c .read-strict .last .1 .1 .0) (c .read-strict .last .1 .1 .1 .0)
-read c = read-as (roomy c .before .numbers-room .ensures) (roomy c .numbers-room2 .ensures) (c .read-strict .ensures)
-
--- the input's bytes
-bytes : (c : tie.After-read-strict) → Below 256 (input c)
-bytes c = let lent = roomy c .before in let known = lent .before .before in below-of 256 (input c) (λ i. known .before .shared-slice-known .given i .fits)
-
--- where nothing was refused, the outputs hold the run's numbers, and the record ends where its ratios' body does
-run-held : (c : tie.Else1) → Held (answered c .read-strict .result .count) (answered c .read-strict .last .1 .1 .0) (answered c .read-strict .last .1 .1 .1 .0)
-run-held c = read-held (read (answered c)) (bytes (answered c)) (c .if1 .left)
+-- the outputs hold its numbers
+run-held : (c : tie.Else1) → Held (read c .read-input .result .count) (left-positions (read c)) (left-ratios (read c))
+run-held c = read-held (read c .read-input .ensures) (c .if1 .left)
 
 abbrev ratios : tie.Else1 → List ℕ
-ratios c = let k = answered c in take (k .read-strict .result .count) (k .read-strict .last .1 .1 .1 .0)
+ratios c = take (read c .read-input .result .count) (left-ratios (read c))
 
-few : (c : tie.Else1) → length (ratios c) ≡ answered c .read-strict .result .count
+few : (c : tie.Else1) → length (ratios c) ≡ read c .read-input .result .count
 few c = length-take-le _ _ (run-held c .ratios)
 
-body : (c : tie.Else1) → (length (codedRatios (ratios c)) ≤ answered c .read-strict .result .used)
-    × (answered c .read-strict .result .used - length (codedRatios (ratios c)) ≡ bodyIn (input (answered c))) × (answered c .read-strict .result .used ≤ inputLimit)
-body c = body-start (read (answered c)) (entry (answered c) .pre .0) (entry (answered c) .args .index .now) (bytes (answered c)) (c .if1 .left)
+-- the record ends where its ratios' body does
+body : (c : tie.Else1) → let r = read c .read-input .result in
+    (length (codedRatios (ratios c)) ≤ r .used) × (r .used - length (codedRatios (ratios c)) ≡ bodyIn (start (read c) .args .input .now)) × (r .used ≤ inputLimit)
+body c = body-start (read c .read-input .ensures) (start (read c) .args .index .now) (c .if1 .left)
 
 -- ---- the needs
 
@@ -73,14 +72,8 @@ numbers-room-requires c κs = search needs
 numbers-room-requires-2 : tie.Need-numbers-room-requires-2
 numbers-room-requires-2 c κs = search needs
 
-slice-aggregate-read-strict : tie.Need-slice-aggregate-read-strict
-slice-aggregate-read-strict c = search needs
-
-slice-aggregate-read-strict-2 : tie.Need-slice-aggregate-read-strict-2
-slice-aggregate-read-strict-2 c = search needs
-
-read-strict-requires : tie.Need-read-strict-requires
-read-strict-requires c κs = search needs
+read-input-requires : tie.Need-read-input-requires
+read-input-requires c κs = search needs
 
 put-refused-requires : tie.Need-put-refused-requires
 put-refused-requires c κs = search needs
@@ -93,7 +86,7 @@ returns c =
     let put = c .before .before in
     let i = put .before .before in
     let k = refused i in
-    put-more (omega arith) (put-same (refused-text (read k) (entry k .pre .0) (entry k .args .index .now) (i .if1 .taken)) (put .put-refused .ensures))
+    placed-within (omega arith) (placed-same (refused-text (k .read-input .ensures) (start k .args .index .now) (i .if1 .taken)) (put .put-refused .ensures))
 
 cast-count : tie.Need-cast-count
 cast-count c = search needs
@@ -108,7 +101,7 @@ body-size-requires : tie.Need-body-size-requires
 body-size-requires c κs = let e = c .before .before in omega (arith, few e, run-held e .few)
 
 sub-body : tie.Need-sub-body
-sub-body c = let e = sized c in omega (arith, c .body-size .ensures, body e .0)
+sub-body c = omega (arith, c .body-size .ensures, body (sized c) .0)
 
 index-in-requires : tie.Need-index-in-requires
 index-in-requires c κs = search needs
@@ -122,7 +115,7 @@ slice-aggregate-put-index c = sym (few (sized (indexed (c .before .before))))
 put-index-requires : tie.Need-put-index-requires
 put-index-requires c κs =
     let e = sized (indexed (c .before .before)) in
-    (omega (arith, entry (answered e) .pre .1), omega (arith, few e, run-held e .few), omega (arith, body e .2))
+    (omega (arith, start (read e) .pre .1), omega (arith, few e, run-held e .few), omega (arith, body e .2))
 
 same-length-2 : tie.Need-same-length-2
 same-length-2 c = search needs
@@ -133,13 +126,14 @@ returns-2 c =
     let i = put .before .before .before in
     let k = indexed i in
     let e = sized k in
-    let s = entry (answered e) in
-    let b = answered e .read-strict .result .used - k .body-size .result in
+    let text = start (read e) .args .index .now in
+    let used = read e .read-input .result .used in
+    let b = used - k .body-size .result in
     let short : length (ratios e) ≤ maxPoints = omega (arith, few e, run-held e .few) in
-    put-same
+    placed-same
     (ap (pointText b (ratios e)) (i .index-in .ensures)
-    ∙ point-capped b (ratios e) short (indexOf (s .args .index .now))
-    ∙ run-text (read (answered e)) (s .pre .0) (s .args .index .now) (bytes (answered e)) (e .if1 .left) b (ap (λ (n : ℕ). answered e .read-strict .result .used - n) (k .body-size .ensures)))
+    ∙ point-capped b (ratios e) short (givenIndex text)
+    ∙ run-text (read e .read-input .ensures) text (e .if1 .left) b (ap (λ (n : ℕ). used - n) (k .body-size .ensures)))
     (put .put-index .ensures)
 
 pub print-spec : {M : Type 1} → statement M
@@ -148,9 +142,7 @@ print-spec =
     (tie.spec
     numbers-room-requires
     numbers-room-requires-2
-    slice-aggregate-read-strict
-    slice-aggregate-read-strict-2
-    read-strict-requires
+    read-input-requires
     put-refused-requires
     same-length
     returns

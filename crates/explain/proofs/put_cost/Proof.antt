@@ -1,6 +1,6 @@
 -- `put_cost` meets its contract: the index, the bits, and then the cost and the offset.
 use native.Mathlib.Omega.{arith}
-use Rattle.text.proofs.PlacedAt.{put-put}
+use Rattle.text.proofs.PlacedAt.{placed-then}
 use Rattle.explain.specs.Lines.{costLine}
 use borrow.Author.Needs.{needs}
 use Rattle.explain.proofs.put_cost.Statement.{statement}
@@ -45,7 +45,7 @@ unfolding costLine
 returns c =
     let cost = c .before .before in
     let ratio = bits cost in
-    put-put (omega arith) (index ratio .put-numbered .ensures) (put-put (omega arith) (ratio .put-bits .ensures) (cost .put-two .ensures))
+    placed-then (omega arith) (index ratio .put-numbered .ensures) (placed-then (omega arith) (ratio .put-bits .ensures) (cost .put-two .ensures))
 
 pub put-cost-spec : {M : Type 1} → statement M
 put-cost-spec =

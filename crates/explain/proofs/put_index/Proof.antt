@@ -1,6 +1,6 @@
 -- `put_index` meets its contract: an index that no ratio has, or both lines.
 use native.Mathlib.Omega.{arith}
-use Rattle.text.proofs.PlacedAt.{put-same, put-more}
+use Rattle.text.proofs.PlacedAt.{placed-same, placed-within}
 use Rattle.explain.proofs.Printed.{point-past}
 use borrow.Author.Needs.{needs}
 use Rattle.explain.proofs.put_index.Statement.{statement}
@@ -17,7 +17,7 @@ returns c =
     let put = c .before .before in
     let i = put .before .before in
     let s = i .before .before .before in
-    put-more (omega arith) (put-same (point-past (s .args .b) (s .args .ratios .now) (s .pre .1) (s .args .i) (i .if1 .taken)) (put .put-refused .ensures))
+    placed-within (omega arith) (placed-same (point-past (s .args .b) (s .args .ratios .now) (s .pre .1) (s .args .i) (i .if1 .taken)) (put .put-refused .ensures))
 
 put-lines-requires : tie.Need-put-lines-requires
 put-lines-requires c κs = search needs

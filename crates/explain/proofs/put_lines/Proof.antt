@@ -7,7 +7,7 @@ use lib.ListN.{getD, take}
 use lib.Seq.{length-take-le}
 use Rattle.ratio_format.specs.Windows.{windowSize}
 use Rattle.ratio_format.proofs.Bodies.{nine-bytes}
-use Rattle.text.proofs.PlacedAt.{put-put, put-same}
+use Rattle.text.proofs.PlacedAt.{placed-then, placed-same}
 use Rattle.reasons.specs.declared.Reason.{Reason}
 use Rattle.explain.specs.Lines.{costLine, reasonLine}
 use Rattle.explain.specs.Printed.{costOf, offsetOf, pointText}
@@ -15,6 +15,19 @@ use Rattle.explain.proofs.Printed.{point-lines}
 use borrow.Author.Needs.{needs}
 use Rattle.explain.proofs.put_lines.Statement.{statement}
 use Rattle.explain.proofs.put_lines.Tie as tie
+
+-- ---- places: the ratio's bytes, the line of the cost and the reason, as later places see them
+
+abbrev start : tie.After-bytes-of → tie.Start
+start k = k .before .before .before
+
+abbrev bytes : tie.After-put-cost → tie.After-bytes-of
+bytes k = k .before .before .before .before
+
+abbrev cost : tie.After-explain → tie.After-put-cost
+cost k = k .before .before .before
+
+-- ---- the needs
 
 bytes-of-requires : tie.Need-bytes-of-requires
 bytes-of-requires c κs = search needs
@@ -28,7 +41,7 @@ shared-slice-read-put-cost c = search needs
 add-put-cost : tie.Need-add-put-cost
 add-put-cost c =
     let got = c .before .before .before in
-    let s = got .before .before .before in
+    let s = start got in
     let vs = s .args .ratios .now in
     let i = s .args .i in
     record {
@@ -51,9 +64,9 @@ returns : tie.Need-returns
 returns c =
     let put = c .before .before in
     let said = put .before .before in
-    let cost = said .before .before .before in
-    let got = cost .before .before .before .before in
-    let s = got .before .before .before in
+    let priced = cost said in
+    let got = bytes priced in
+    let s = start got in
     let vs = s .args .ratios .now in
     let i = s .args .i in
     let b = got .bytes-of in
@@ -62,7 +75,7 @@ returns c =
     ∙ ap (λ (n : ℕ). costLine i (getD vs i 0) (costOf vs i) (s .args .b + n) ++ reasonLine (said .explain .result)) (b .ensures .0)
     ∙ ap (λ (r : Reason). costLine i (getD vs i 0) (costOf vs i) (offsetOf (s .args .b) vs i) ++ reasonLine r) (said .explain .ensures)
     ∙ point-lines (s .args .b) vs i (s .pre .1) in
-    put-same text (put-put (omega arith) (cost .put-cost .ensures) (put .put-reason .ensures))
+    placed-same text (placed-then (omega arith) (priced .put-cost .ensures) (put .put-reason .ensures))
 
 pub put-lines-spec : {M : Type 1} → statement M
 put-lines-spec =

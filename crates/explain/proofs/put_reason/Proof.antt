@@ -1,11 +1,29 @@
 -- `put_reason` meets its contract: the line of each case.
-use mathlib.Core.Path.{sym, ap}
 use native.Mathlib.Omega.{arith}
-use Rattle.text.proofs.PlacedAt.{put-same, put-more}
+use Rattle.text.proofs.PlacedAt.{placed-known}
 use Rattle.explain.specs.Lines.{reasonLine}
 use borrow.Author.Needs.{needs}
 use Rattle.explain.proofs.put_reason.Statement.{statement}
 use Rattle.explain.proofs.put_reason.Tie as tie
+
+-- ---- places: which reason it is, as its line sees it
+
+abbrev reference : tie.After-put-one → tie.After-reason
+reference k = k .before .before .before .before
+
+abbrev xor : tie.After-put-xor → tie.After-reason2
+xor k = k .before .before .before
+
+abbrev exception : tie.After-put-one2 → tie.After-reason3
+exception k = k .before .before .before .before
+
+abbrev empty : tie.After-put-text → tie.After-enum-told
+empty k = k .before .before .before
+
+abbrev refused : tie.After-put-refused → tie.After-reason4
+refused k = k .before .before .before
+
+-- ---- the needs
 
 enum-known-reason : tie.Need-enum-known-reason
 enum-known-reason c = search needs
@@ -51,50 +69,35 @@ same-length c = search needs
 
 returns : tie.Need-returns
 unfolding reasonLine
-returns c =
-    let put = c .before .before in
-    let told = put .before .before .before in
-    put-more (omega arith) (put-same (sym (ap reasonLine (told .before .reason .given .1))) (put .put-one .ensures))
+returns c = let put = c .before .before in placed-known reasonLine (omega arith) (reference put .reason .given .1) (put .put-one .ensures)
 
 same-length-2 : tie.Need-same-length-2
 same-length-2 c = search needs
 
 returns-2 : tie.Need-returns-2
 unfolding reasonLine
-returns-2 c =
-    let put = c .before .before in
-    let told = put .before .before in
-    put-same (sym (ap reasonLine (told .before .reason2 .given .1))) (put .put-xor .ensures)
+returns-2 c = let put = c .before .before in placed-known reasonLine (omega arith) (xor put .reason2 .given .1) (put .put-xor .ensures)
 
 same-length-3 : tie.Need-same-length-3
 same-length-3 c = search needs
 
 returns-3 : tie.Need-returns-3
 unfolding reasonLine
-returns-3 c =
-    let put = c .before .before in
-    let told = put .before .before .before in
-    put-more (omega arith) (put-same (sym (ap reasonLine (told .before .reason3 .given .1))) (put .put-one2 .ensures))
+returns-3 c = let put = c .before .before in placed-known reasonLine (omega arith) (exception put .reason3 .given .1) (put .put-one2 .ensures)
 
 same-length-4 : tie.Need-same-length-4
 same-length-4 c = search needs
 
 returns-4 : tie.Need-returns-4
 unfolding reasonLine
-returns-4 c =
-    let put = c .before .before in
-    let told = put .before .before .before in
-    put-more (omega arith) (put-same (sym (ap reasonLine (told .enum-told .given .1))) (put .put-text .ensures))
+returns-4 c = let put = c .before .before in placed-known reasonLine (omega arith) (empty put .enum-told .given .1) (put .put-text .ensures)
 
 same-length-5 : tie.Need-same-length-5
 same-length-5 c = search needs
 
 returns-5 : tie.Need-returns-5
 unfolding reasonLine
-returns-5 c =
-    let put = c .before .before in
-    let told = put .before .before in
-    put-more (omega arith) (put-same (sym (ap reasonLine (told .before .reason4 .given .1))) (put .put-refused .ensures))
+returns-5 c = let put = c .before .before in placed-known reasonLine (omega arith) (refused put .reason4 .given .1) (put .put-refused .ensures)
 
 pub put-reason-spec : {M : Type 1} → statement M
 put-reason-spec =

@@ -1,6 +1,6 @@
 -- `put_xor` meets its contract: three words with their numbers, and the line's last words.
 use native.Mathlib.Omega.{arith}
-use Rattle.text.proofs.PlacedAt.{put-put}
+use Rattle.text.proofs.PlacedAt.{placed-then}
 use Rattle.explain.specs.Lines.{xorLine}
 use borrow.Author.Needs.{needs}
 use Rattle.explain.proofs.put_xor.Statement.{statement}
@@ -62,8 +62,8 @@ returns c =
     let third = trail end in
     let second = lead third in
     let first = place second in
-    put-put (omega arith) (first .put-numbered .ensures)
-    (put-put (omega arith) (second .put-numbered2 .ensures) (put-put (omega arith) (third .put-numbered3 .ensures) (end .put-text .ensures)))
+    placed-then (omega arith) (first .put-numbered .ensures)
+    (placed-then (omega arith) (second .put-numbered2 .ensures) (placed-then (omega arith) (third .put-numbered3 .ensures) (end .put-text .ensures)))
 
 pub put-xor-spec : {M : Type 1} → statement M
 put-xor-spec =

@@ -5,6 +5,13 @@ use Rattle.farigolenc.specs.Differences.{overallNumbers}
 use Rattle.farigolenc.proofs.farigolenc_compare_overall.Statement.{statement}
 use Rattle.farigolenc.proofs.farigolenc_compare_overall.Tie as tie
 
+-- what was answered, from where the numbers of the rate's difference are known; and that place, from where those of all five are
+abbrev overall : tie.After-difference-numbers → tie.After-overall-of
+overall c = c .before
+
+abbrev rate : tie.After-difference-numbers5 → tie.After-difference-numbers
+rate c = c .before .before .before .before
+
 overall-of-requires : tie.Need-overall-of-requires
 overall-of-requires c κs = search needs
 
@@ -24,7 +31,7 @@ difference-numbers-requires-5 : tie.Need-difference-numbers-requires-5
 difference-numbers-requires-5 c κs = search needs
 
 returns : tie.Need-returns
-returns c = let rate = c .before .before .before .before in (cc) ∙ ap overallNumbers (rate .before .overall-of .ensures)
+returns c = (cc) ∙ ap overallNumbers (overall (rate c) .overall-of .ensures)
 
 pub farigolenc-compare-overall-spec : {M : Type 1} → statement M
 farigolenc-compare-overall-spec =

@@ -9,14 +9,33 @@ use Rattle.farigolenc.specs.Reasons.{reasonNumbers}
 use Rattle.farigolenc.proofs.farigolenc_explain.Statement.{statement}
 use Rattle.farigolenc.proofs.farigolenc_explain.Tie as tie
 
+-- the start, from where the answer is known; and that place, from where its case is: a reference, an xor form, an exception, an empty window, a refusal
+abbrev start : tie.After-explain → tie.Start
+start c = c .before .before
+
+abbrev reference : tie.After-r → tie.After-explain
+reference k = k .before .before
+
+abbrev xor : tie.After-r2 → tie.After-explain
+xor k = k .before .before
+
+abbrev exception : tie.After-r3 → tie.After-explain
+exception k = k .before .before
+
+abbrev empty : tie.After-enum-told → tie.After-explain
+empty k = k .before .before
+
+abbrev refused : tie.After-r4 → tie.After-explain
+refused k = k .before .before
+
 -- the case r of the answer is small
 small : (c : tie.After-explain) {r : Reason} → c .explain .result ≡ r → Small r
 small c e =
-    let a = c .before .before .args in
+    let a = start c .args in
     subst Small (sym (c .explain .ensures) ∙ e) (explained-small (a .ratios .now) (a .index))
 
 -- and its numbers are those of the answer
-said : (c : tie.After-explain) {r : Reason} → c .explain .result ≡ r → reasonNumbers r ≡ reasonNumbers (explained (c .before .before .args .ratios .now) (c .before .before .args .index))
+said : (c : tie.After-explain) {r : Reason} → c .explain .result ≡ r → let a = start c .args in reasonNumbers r ≡ reasonNumbers (explained (a .ratios .now) (a .index))
 said c e = ap reasonNumbers (sym e ∙ c .explain .ensures)
 
 explain-requires : tie.Need-explain-requires
@@ -27,18 +46,18 @@ enum-known-r c = search needs
 
 reason-numbers-requires : tie.Need-reason-numbers-requires
 reason-numbers-requires c κs =
-    let s = small (c .before .before .before) (c .before .r .given .1) in
+    let s = small (reference (c .before)) (c .before .r .given .1) in
     (omega arith, omega arith, omega arith, omega arith)
 
 enum-known-r-2 : tie.Need-enum-known-r-2
 enum-known-r-2 c = search needs
 
 add-reason-numbers : tie.Need-add-reason-numbers
-add-reason-numbers c = let s = small (c .before .before .before) (c .before .r2 .given .1) in omega (arith, s .1, s .2)
+add-reason-numbers c = let s = small (xor (c .before)) (c .before .r2 .given .1) in omega (arith, s .1, s .2)
 
 reason-numbers-requires-2 : tie.Need-reason-numbers-requires-2
 reason-numbers-requires-2 c κs =
-    let s = small (c .before .before .before) (c .before .r2 .given .1) in
+    let s = small (xor (c .before)) (c .before .r2 .given .1) in
     (omega (arith, s .0), omega (arith, s .1), omega (arith, s .2), omega (arith, s .1, s .2))
 
 enum-known-r-3 : tie.Need-enum-known-r-3
@@ -46,7 +65,7 @@ enum-known-r-3 c = search needs
 
 reason-numbers-requires-3 : tie.Need-reason-numbers-requires-3
 reason-numbers-requires-3 c κs =
-    let s = small (c .before .before .before) (c .before .r3 .given .1) in
+    let s = small (exception (c .before)) (c .before .r3 .given .1) in
     (omega arith, omega arith, omega arith, omega arith)
 
 enum-told : tie.Need-enum-told
@@ -59,19 +78,19 @@ enum-known-r-4 : tie.Need-enum-known-r-4
 enum-known-r-4 c = search needs
 
 returns : tie.Need-returns
-returns c = let k = c .before .before in c .reason-numbers .ensures ∙ said (k .before .before) (k .r .given .1)
+returns c = let k = c .before .before in c .reason-numbers .ensures ∙ said (reference k) (k .r .given .1)
 
 returns-2 : tie.Need-returns-2
-returns-2 c = let k = c .before .before in c .reason-numbers2 .ensures ∙ said (k .before .before) (k .r2 .given .1)
+returns-2 c = let k = c .before .before in c .reason-numbers2 .ensures ∙ said (xor k) (k .r2 .given .1)
 
 returns-3 : tie.Need-returns-3
-returns-3 c = let k = c .before .before in c .reason-numbers3 .ensures ∙ said (k .before .before) (k .r3 .given .1)
+returns-3 c = let k = c .before .before in c .reason-numbers3 .ensures ∙ said (exception k) (k .r3 .given .1)
 
 returns-4 : tie.Need-returns-4
-returns-4 c = let k = c .before in c .reason-numbers4 .ensures ∙ said (k .before .before) (k .enum-told .given .1)
+returns-4 c = let k = c .before in c .reason-numbers4 .ensures ∙ said (empty k) (k .enum-told .given .1)
 
 returns-5 : tie.Need-returns-5
-returns-5 c = let k = c .before in said (k .before .before) (k .r4 .given .1)
+returns-5 c = let k = c .before in said (refused k) (k .r4 .given .1)
 
 pub farigolenc-explain-spec : {M : Type 1} → statement M
 farigolenc-explain-spec =

@@ -16,7 +16,7 @@ use prog.Wp.{Heap, Calls, Loops, WpFn}
 use ghost.Atoms.{Atoms}
 use contract.Monad.{Fun}
 use contract.Running.{givenOf, tables}
-use types.Kit.{Given, Item, ‵, _⊛_, ⋆, _$_, _∵_, !, qed, by, move, keep, drop, split, join, fsplit, fsplit3, fjoin, fjoin3, feqL, feqI, suffices, frame, done}
+use types.Kit.{Given, Item, ‵, _⊛_, ⋆, _$_, _∵_, !, qed, by, move, keep, drop, split, fsplit, fsplit3, fjoin, feqL, suffices}
 use types.Run.{look, init, store, stop, hop, fld, from, load, addr, of-opd, and-then, no-more, assigns, returns, enter, alloc1, alloc0, params1, pass1, pass0}
 use types.Part.{agg, whole, sub, look-in}
 use types.SemTy.{Body}
@@ -37,7 +37,7 @@ use denote.Triple.Table.{cited}
 use denote.Triple.Walked.{says, Stays, stay-ref, stay-none, gave-slice, walkOf, goes-ref, goes-none, goes-gave-slice, ends-at}
 use denote.Exit.{yes}
 use denote.Signature.{plain}
-use Rattle.walks.proofs.Walk.{meets, leaves, with-uint, with-struct, calls-on, opened, closed, holds, local-at, field-at, sets, takes}
+use Rattle.walks.proofs.Walk.{meets, tokenOf, answers, hands-back, leaves, with-uint, with-struct, calls-on, opened, closed, holds, local-at, field-at, sets, takes}
 use Rattle.ratio_format.specs.declared.AddAnswer.{AddAnswer}
 use Rattle.ratio_format.specs.declared.Live.{Live}
 use Rattle.ratio_format.specs.Lives.{addAnswer, addState, addOutput}
@@ -95,7 +95,7 @@ module _ {M : Type 1} (𝓤 : URA M) (H : Heap 𝓤) (A : Atoms 𝓤) (W : Given
   Post = walkOf 𝓤 H A add.ended stayed (add.clauses 𝓤 H A at-mem run) .post (((κ, (κ′, tt)), (q, (q′, tt)), tt, a, vals), tt)
 
   abbrev Tok : Item 𝓤
-  Tok = ‵ (flft κ′ q′) ⊛ ‵ ftrue
+  Tok = tokenOf κ′ q′
 
   abbrev machA : Addition → Val
   machA r = LL.val TA.the-type TA′.the-laws r
@@ -114,9 +114,8 @@ module _ {M : Type 1} (𝓤 : URA M) (H : Heap 𝓤) (A : Atoms 𝓤) (W : Given
       qed W (‵ (fobs γ (T.the-row .coded .code (r .state))) ∷ ‵ (fbor κ (Body (mem T.the-row) b o γ)) ∷ ‵ (flft κ q) ∷ Tok ∷ ‵ (finally u8 γ′ zs) ∷ []) ∵
       suffices ! _ (ends-at 𝓤 H A add.ended stayed (add.clauses 𝓤 H A at-mem run) W (((κ, (κ′, tt)), (q, (q′, tt)), tt, a, vals), tt) (machD (r .answer)) (r .answer) (r .state, (tt, (zs, tt))) (tt, (tt, (l, tt)))) $
       says ! e $
-      move ! (2 ∷ 3 ∷ []) $ join ! $ frame ! $ feqI ! (List Val) (vptr b o ∷ []) (vptr b o ∷ []) refl $ fjoin3 ! $
-      nothing ! $ move ! (2 ∷ 0 ∷ []) $ fjoin ! $ with-uint ! w64 v v-fits $ move ! (1 ∷ 0 ∷ []) $ fjoin ! $
-      owned ! TD.the-row (Is TD.the-row) (LL.makes TD.the-type TD′.the-plain 𝓤 H A) (r .answer) _ is $ move ! (1 ∷ 0 ∷ []) $ done !
+      hands-back ! (vptr b o ∷ []) $ nothing ! $ move ! (2 ∷ 0 ∷ []) $ fjoin ! $ with-uint ! w64 v v-fits $ move ! (1 ∷ 0 ∷ []) $ fjoin ! $
+      answers ! TD.the-type TD′.the-plain (r .answer) _ is
 
   module _ (C : Calls 𝓤 H) (Λ : Loops 𝓤 H) (fm : FmC 𝓤 H (W .laws) C) (known : Triple 𝓤 (C #live·adding·add) (Core 𝓤 H A at-mem run)) where
     walk : Room u8 (length ys) → ent 𝓤 (onEntry 𝓤 H A add.signature (κ, (κ′, tt)) (q, (q′, tt)) a vals) (WpFn 𝓤 H C Λ code.function (vptr b o ∷ vint w64 v ∷ s ∷ []) Post)

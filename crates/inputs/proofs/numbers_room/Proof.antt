@@ -1,6 +1,6 @@
 -- `numbers_room` meets its contract.
 use mathlib.Core.Path.{refl}
-use Rattle.inputs.specs.Inputs.{blank}
+use Rattle.record_format.specs.Reading.{blank}
 use Rattle.inputs.proofs.numbers_room.Statement.{statement}
 use Rattle.inputs.proofs.numbers_room.Tie as tie
 

@@ -10,9 +10,10 @@ use Rattle.record_format.specs.Reading.{readWith}
 use Rattle.record_format.specs.Runs.{recordOf}
 use Rattle.record_format.proofs.Examples.{listed-record, listed-accepted, sided-record, sided-accepted, paused-record, paused-accepted}
 use Rattle.span.specs.Spans.{spanned}
-use Rattle.text.specs.Examples.{listedText, sidedText, pausedText, refusedText}
 use Rattle.text.specs.Numbers.{trimmed, decimal, hex16, signed}
-use Rattle.text.specs.Lines.{rateLine, sideLine, countLine, spanLine, pointLine, refusedLine, pointLines, listing}
+use Rattle.text.specs.Lines.{refusedLine}
+use Rattle.listing.specs.Lines.{rateLine, sideLine, countLine, spanLine, pointLine, pointLines, listing}
+use Rattle.listing.specs.Examples.{listedText, sidedText, pausedText, refusedText}
 use Rattle.listing.specs.Printed.{textOf, printed}
 use Rattle.listing.specs.Claims.{listingOf, PrintsListed}
 use Rattle.listing.proofs.Claims.{prints-run}

@@ -1,55 +1,46 @@
--- `print` meets its contract: what is put into the output is the text for what strict reading answers.
+-- `print` meets its contract: what is put into the output is the text for what reading the input answers.
+use mathlib.Core.List.{List}
 use mathlib.Core.Path.{sym, ap, _∙_}
+use Prim.Native.Nat.{ℕ}
 use native.Mathlib.Omega.{arith}
-use borrow.Author.Needs.{needs}
 use lib.Seq.{length-take-le}
 use mir.Syntax.{w64}
 use mir.Val.{SFits}
 use mir.ValLaws.{toZ-ofZ}
-use Rattle.lists.specs.Below.{Below}
-use Rattle.lists.proofs.Below.{below-of}
 use Rattle.span.specs.declared.SpanAnswer.{SpanAnswer}
-use Rattle.text.proofs.PlacedAt.{put-same, put-more}
-use Rattle.inputs.proofs.Inputs.{Read, read-as, Held, read-held}
-use Rattle.listing.proofs.Printed.{refused-text, run-text, longest}
+use Rattle.text.proofs.PlacedAt.{placed-same, placed-within}
+use Rattle.inputs.specs.Readings.{Held}
+use Rattle.inputs.proofs.Inputs.{read-held}
+use Rattle.listing.proofs.Printed.{refused-text, run-text, listing-within}
+use borrow.Author.Needs.{needs}
 use Rattle.listing.proofs.print.Statement.{statement}
 use Rattle.listing.proofs.print.Tie as tie
 
--- ---- places: the input, the reading, and a run that was read, as later places see them
+-- ---- places
 
-abbrev lent : tie.After-numbers-room → tie.After-shared-slice-known
-lent k = k .before .before
+-- the reading of the input, and the outputs that it left
+abbrev refused : tie.Then1 → tie.After-read-input
+refused k = k .before
 
-abbrev roomy : tie.After-read-strict → tie.After-numbers-room2
-roomy k = k .before .before .before
+abbrev read : tie.Else1 → tie.After-read-input
+read k = k .before
 
-abbrev entry : tie.After-read-strict → tie.After-shared-slice-known
-entry k = lent (roomy k .before)
+abbrev positions : tie.After-read-input → List ℕ
+positions k = k .read-input .last .1 .0
 
-abbrev refused : tie.Then1 → tie.After-read-strict
-refused k = k .before .before .before
+abbrev ratios : tie.After-read-input → List ℕ
+ratios k = k .read-input .last .1 .1 .0
 
-abbrev answered : tie.Else1 → tie.After-read-strict
-answered k = k .before .before .before
-
+-- a run that was read, as its span and its listing see it
 abbrev spanned : tie.After-span → tie.Else1
 spanned k = k .before .before .before
 
 abbrev listed : tie.After-struct-told → tie.After-span
 listed k = k .before .before .before .before
 
--- ---- what strict reading left
-
-read : (c : tie.After-read-strict) → Read (entry c .before .args .input .now) (c .read-strict .result) (c .read-strict .last .1 .1 .0) (c .read-strict .last .1 .1 .1 .0)
-read c = read-as (roomy c .before .numbers-room .ensures) (roomy c .numbers-room2 .ensures) (c .read-strict .ensures)
-
--- the input's bytes
-bytes : (c : tie.After-shared-slice-known) → Below 256 (c .before .args .input .now)
-bytes c = below-of 256 (c .before .args .input .now) (λ i. c .shared-slice-known .given i .fits)
-
--- where nothing was refused, the outputs hold the run's numbers
-run-held : (c : tie.Else1) → Held (answered c .read-strict .result .count) (answered c .read-strict .last .1 .1 .0) (answered c .read-strict .last .1 .1 .1 .0)
-run-held c = read-held (read (answered c)) (bytes (entry (answered c))) (c .if1 .left)
+-- the outputs hold its numbers
+run-held : (c : tie.Else1) → Held (read c .read-input .result .count) (positions (read c)) (ratios (read c))
+run-held c = read-held (read c .read-input .ensures) (c .if1 .left)
 
 -- ---- the needs
 
@@ -59,14 +50,8 @@ numbers-room-requires c κs = search needs
 numbers-room-requires-2 : tie.Need-numbers-room-requires-2
 numbers-room-requires-2 c κs = search needs
 
-slice-aggregate-read-strict : tie.Need-slice-aggregate-read-strict
-slice-aggregate-read-strict c = search needs
-
-slice-aggregate-read-strict-2 : tie.Need-slice-aggregate-read-strict-2
-slice-aggregate-read-strict-2 c = search needs
-
-read-strict-requires : tie.Need-read-strict-requires
-read-strict-requires c κs = search needs
+read-input-requires : tie.Need-read-input-requires
+read-input-requires c κs = search needs
 
 put-refused-requires : tie.Need-put-refused-requires
 put-refused-requires c κs = search needs
@@ -78,7 +63,7 @@ returns : tie.Need-returns
 returns c =
     let put = c .before .before in
     let i = put .before .before in
-    put-more (omega arith) (put-same (refused-text (read (refused i)) (entry (refused i) .before .pre .0) (i .if1 .taken)) (put .put-refused .ensures))
+    placed-within (omega arith) (placed-same (refused-text (refused i .read-input .ensures) (i .if1 .taken)) (put .put-refused .ensures))
 
 cast-count : tie.Need-cast-count
 cast-count c = search needs
@@ -106,9 +91,8 @@ slice-aggregate-put-listing-2 c = sym (length-take-le _ _ (run-held (spanned (c 
 
 put-listing-requires : tie.Need-put-listing-requires
 put-listing-requires c κs =
-    let k = spanned (listed c) in
-    let h = run-held k in
-    (length-take-le _ _ (h .positions) ∙ sym (length-take-le _ _ (h .ratios)), omega (arith, longest h, entry (answered k) .before .pre .1))
+    let h = run-held (spanned (listed c)) in
+    (length-take-le _ _ (h .positions) ∙ sym (length-take-le _ _ (h .ratios)), omega (arith, listing-within h))
 
 same-length-2 : tie.Need-same-length-2
 same-length-2 c = search needs
@@ -121,7 +105,7 @@ returns-2 c =
     let k = spanned (listed told) in
     let fits : SFits w64 (a .result .milliseconds) = record { sfits = told .struct-told .given .1 .1 .0 .1 } in
     let e = toZ-ofZ w64 (a .result .milliseconds) fits ∙ ap (λ (x : SpanAnswer). x .milliseconds) (a .ensures) in
-    put-more (longest (run-held k)) (put-same (run-text (read (answered k)) (entry (answered k) .before .pre .0) (k .if1 .left) _ e) (put .put-listing .ensures))
+    placed-within (listing-within (run-held k)) (placed-same (run-text (read k .read-input .ensures) (k .if1 .left) _ e) (put .put-listing .ensures))
 
 pub print-spec : {M : Type 1} → statement M
 print-spec =
@@ -129,9 +113,7 @@ print-spec =
     (tie.spec
     numbers-room-requires
     numbers-room-requires-2
-    slice-aggregate-read-strict
-    slice-aggregate-read-strict-2
-    read-strict-requires
+    read-input-requires
     put-refused-requires
     same-length
     returns

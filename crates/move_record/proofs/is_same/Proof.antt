@@ -14,6 +14,19 @@ Inv-loop a b i₀ i = (i ≤ length a) × (length a ≡ length b) × (same a b �
 abbrev μ-loop : tie.MeasureT-loop
 μ-loop a b i₀ i = length a - i
 
+-- ---- places: the loop's head and the start, as later places see them
+
+abbrev start : tie.At-loop Inv-loop μ-loop → tie.Start Inv-loop μ-loop
+start k = k .before .before
+
+abbrev differs : tie.Then2 Inv-loop μ-loop → tie.At-loop Inv-loop μ-loop
+differs k = k .before .before .before .before
+
+abbrev tested : tie.Else2 Inv-loop μ-loop → tie.In-loop Inv-loop μ-loop
+tested k = k .before .before .before
+
+-- ---- the needs
+
 returns : tie.Need-returns Inv-loop μ-loop
 returns c = let a = c .before .args in sym (lengths-differ (a .a .now) (a .b .now) (c .if1 .taken))
 
@@ -28,8 +41,8 @@ shared-slice-read-if2-2 c = let l = c .before .before .before .loop in omega (ar
 
 returns-2 : tie.Need-returns-2 Inv-loop μ-loop
 returns-2 c =
-    let l = c .before .before .before .before in
-    let a = l .before .before .args in
+    let l = differs c in
+    let a = start l .args in
     sym (l .loop .inv .2 ∙ byte-differs (a .a .now) (a .b .now) (l .loop .i) (c .if2 .taken))
 
 add-i : tie.Need-add-i Inv-loop μ-loop
@@ -40,9 +53,9 @@ loop-less c = omega arith
 
 loop-again : tie.Need-loop-again Inv-loop μ-loop
 loop-again c =
-    let t = c .before .before .before in
+    let t = tested c in
     let l = t .before in
-    let a = l .before .before .args in
+    let a = start l .args in
     let long = t .loop-test .taken in
     let even = l .loop .inv .1 in
     (omega arith, even, l .loop .inv .2 ∙ byte-same (a .a .now) (a .b .now) (l .loop .i) long (omega arith) (c .if2 .left))
@@ -50,7 +63,7 @@ loop-again c =
 returns-3 : tie.Need-returns-3 Inv-loop μ-loop
 returns-3 c =
     let l = c .before in
-    let a = l .before .before .args in
+    let a = start l .args in
     let all = c .loop-test .left in
     let most = l .loop .inv .0 in
     let even = l .loop .inv .1 in

@@ -1,5 +1,5 @@
 -- `put_answer` meets its contract, by the number.
-use Rattle.text.proofs.PlacedAt.{put-same}
+use Rattle.text.proofs.PlacedAt.{placed-same}
 use Rattle.move_record.proofs.Printed.{line-refused, line-moved}
 use borrow.Author.Needs.{needs}
 use Rattle.move_record.proofs.put_answer.Statement.{statement}
@@ -15,7 +15,7 @@ returns : tie.Need-returns
 returns c =
     let put = c .before .before in
     let i = put .before .before in
-    put-same (line-refused (i .before .before .args .answer) (i .if1 .taken)) (put .put-refused .ensures)
+    placed-same (line-refused (i .before .before .args .answer) (i .if1 .taken)) (put .put-refused .ensures)
 
 put-moved-line-requires : tie.Need-put-moved-line-requires
 put-moved-line-requires c κs = search needs
@@ -27,7 +27,7 @@ returns-2 : tie.Need-returns-2
 returns-2 c =
     let put = c .before .before in
     let i = put .before .before in
-    put-same (line-moved (i .before .before .args .answer) (i .if1 .left)) (put .put-moved-line .ensures)
+    placed-same (line-moved (i .before .before .args .answer) (i .if1 .left)) (put .put-moved-line .ensures)
 
 pub put-answer-spec : {M : Type 1} → statement M
 put-answer-spec =

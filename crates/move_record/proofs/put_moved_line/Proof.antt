@@ -1,6 +1,6 @@
 -- `put_moved_line` meets its contract: two words and two numbers.
 use native.Mathlib.Omega.{arith}
-use Rattle.text.proofs.PlacedAt.{put-more}
+use Rattle.text.proofs.PlacedAt.{placed-within}
 use Rattle.move_record.specs.Lines.{movedLine}
 use borrow.Author.Needs.{needs}
 use Rattle.move_record.proofs.put_moved_line.Statement.{statement}
@@ -20,7 +20,7 @@ same-length c = search needs
 
 returns : tie.Need-returns
 unfolding movedLine
-returns c = put-more (omega arith) (c .before .before .put-two .ensures)
+returns c = placed-within (omega arith) (c .before .before .put-two .ensures)
 
 pub put-moved-line-spec : {M : Type 1} → statement M
 put-moved-line-spec =

@@ -12,8 +12,8 @@ abbrev pub Cleared : List ℕ → List ℕ → ℕ → Type 0
 Cleared d p i = (i ≤ length d) × (length p ≡ length d) × (p ≡ replicate i 0 ++ drop i d)
 
 module _ (d : List ℕ) where
-  pub clear-none : Cleared d d 0
-  clear-none = (omega arith, refl, refl)
+  pub clear-start : Cleared d d 0
+  clear-start = (omega arith, refl, refl)
 
   pub clear-more : (p : List ℕ) (i : ℕ) → Cleared d p i → i < length p → Cleared d (set p i 0) (i + 1)
   clear-more p i h l =

@@ -49,6 +49,11 @@ module _ (ys p : List ℕ) (w : Wrote) where
           subst (λ (l : List ℕ). Placed ys v l q)
           (rest-is n p ∙ ap (drop n) (done .2) ∙ drop-at xs (drop (length xs) o) n (sym (done .0)) ∙ ap (λ (k : ℕ). drop k o) (sym (done .0))) put
 
+      pub both-fit : (m : ℕ) → v ≡ Done m → n + m ≤ length o
+      both-fit m is =
+          let h = wrote-all ys (drop n o) q v in-rest m is in
+          omega (arith, h .0, h .1, length-drop n o, done .0, done .1)
+
       both-placed : (x : Wrote) → Placed ys x (drop n o) q → Placed (xs ++ ys) (sumOf n x) o (putMid n (length p - n) p q)
       both-placed (Done m) h =
           let l : n + length ys ≡ length (xs ++ ys) = omega (arith, length-append xs ys, done .0) in (

@@ -3,7 +3,7 @@ use Prim.Native.Nat.{_-_}
 use native.Mathlib.Omega.{arith}
 use borrow.Author.Needs.{needs}
 use lib.ListN.{length}
-use Rattle.outputs.proofs.Outputs.Clear.{Cleared, clear-none, clear-more, clear-all}
+use Rattle.outputs.proofs.Outputs.Clear.{Cleared, clear-start, clear-more, clear-all}
 use Rattle.outputs.proofs.clear_bytes.Statement.{statement}
 use Rattle.outputs.proofs.clear_bytes.Tie as tie
 
@@ -14,7 +14,7 @@ abbrev μ-loop : tie.MeasureT-loop
 μ-loop out₀ i₀ out i = length out₀ - i
 
 loop-holds : tie.Need-loop-holds Inv-loop μ-loop
-loop-holds c = clear-none (c .args .out .now)
+loop-holds c = clear-start (c .args .out .now)
 
 slice-write-out : tie.Need-slice-write-out Inv-loop μ-loop
 slice-write-out c = omega arith

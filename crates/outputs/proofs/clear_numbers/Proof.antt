@@ -3,7 +3,7 @@ use Prim.Native.Nat.{_-_}
 use native.Mathlib.Omega.{arith}
 use borrow.Author.Needs.{needs}
 use lib.ListN.{length}
-use Rattle.outputs.proofs.Outputs.Clear.{Cleared, clear-none, clear-more, clear-all}
+use Rattle.outputs.proofs.Outputs.Clear.{Cleared, clear-start, clear-more, clear-all}
 use Rattle.outputs.proofs.clear_numbers.Statement.{statement}
 use Rattle.outputs.proofs.clear_numbers.Tie as tie
 
@@ -14,7 +14,7 @@ abbrev μ-loop : tie.MeasureT-loop
 μ-loop out₀ i₀ out i = length out₀ - i
 
 loop-holds : tie.Need-loop-holds Inv-loop μ-loop
-loop-holds c = clear-none (c .args .out .now)
+loop-holds c = clear-start (c .args .out .now)
 
 mul-out : tie.Need-mul-out Inv-loop μ-loop
 mul-out c = omega arith

@@ -5,7 +5,7 @@ use native.Mathlib.Omega.{arith}
 use borrow.Author.Needs.{needs}
 use Rattle.ratio_format.specs.Open.{openOne}
 use Rattle.ratio_format.proofs.Bodies.Taken.{open-within}
-use Rattle.ratio_bodies.proofs.Taking.{Taking, taking-none, taking-all, taking-stop, taking-within, taking-more}
+use Rattle.ratio_bodies.proofs.Taking.{Taking, taking-start, taking-all, taking-stop, taking-within, taking-more}
 use Rattle.ratio_bodies.proofs.get_open.Statement.{statement}
 use Rattle.ratio_bodies.proofs.get_open.Tie as tie
 
@@ -15,10 +15,20 @@ Inv-loop body count out₀ at₀ i₀ out at i = Taking openOne count body out�
 abbrev μ-loop : tie.MeasureT-loop
 μ-loop body count out₀ at₀ i₀ out at i = count - i
 
+-- the start, from where both slices are known; the loop's turn in which a ratio is read; and where it was read
+abbrev start : tie.After-slice-known Inv-loop μ-loop → tie.Start Inv-loop μ-loop
+start c = c .before .before
+
+abbrev turn : tie.After-open-from Inv-loop μ-loop → tie.At-loop Inv-loop μ-loop
+turn c = c .before .before .before
+
+abbrev read : tie.After-known-told Inv-loop μ-loop → tie.After-open-from Inv-loop μ-loop
+read c = c .before .before .before
+
 loop-holds : tie.Need-loop-holds Inv-loop μ-loop
 loop-holds c =
-    let a = c .before .before .args in
-    taking-none openOne (a .count) (a .body .now) (a .out .now)
+    let a = start c .args in
+    taking-start openOne (a .count) (a .body .now) (a .out .now)
 
 open-from-requires : tie.Need-open-from-requires Inv-loop μ-loop
 open-from-requires c κs = search needs
@@ -34,13 +44,12 @@ same-length c = search needs
 
 returns : tie.Need-returns Inv-loop μ-loop
 returns c =
-    let read = c .before .before in
-    let r = read .open-from in
-    let turn = read .before .before .before in
-    let l = turn .loop in
-    let start = turn .before .before .before in
-    let a = start .args in
-    taking-stop openOne (a .count) (a .body .now) (a .out .now) (l .out) (l .at) (l .i) (l .inv) (omega arith) (r .result) (r .ensures) (start .pre) (c .enum-told .given .1)
+    let told = c .before .before in
+    let r = told .open-from in
+    let l = turn told .loop in
+    let s = start (turn told .before) in
+    let a = s .args in
+    taking-stop openOne (a .count) (a .body .now) (a .out .now) (l .out) (l .at) (l .i) (l .inv) (omega arith) (r .result) (r .ensures) (s .pre) (c .enum-told .given .1)
 
 mul-out : tie.Need-mul-out Inv-loop μ-loop
 mul-out c = search needs
@@ -50,13 +59,10 @@ slice-write-out c = search needs
 
 add-at : tie.Need-add-at Inv-loop μ-loop
 add-at c =
-    let known = c .before in
-    let g = known .r .given in
-    let read = known .before .before in
-    let r = read .open-from in
-    let turn = read .before .before .before in
-    let l = turn .loop in
-    let a = turn .before .before .before .args in
+    let g = c .before .r .given in
+    let r = read c .open-from in
+    let l = turn (read c) .loop in
+    let a = start (turn (read c) .before) .args in
     omega (arith, taking-within openOne (a .count) (a .body .now) (a .out .now) (l .out) (l .at) (l .i) (l .inv) (omega arith) (r .result) (r .ensures) open-within (g .0 .0) (g .0 .1 .0) (g .1))
 
 add-i : tie.Need-add-i Inv-loop μ-loop
@@ -67,26 +73,22 @@ loop-less c = search needs
 
 loop-again : tie.Need-loop-again Inv-loop μ-loop
 loop-again c =
-    let known = c .before in
-    let g = known .r .given in
-    let read = known .before .before in
-    let r = read .open-from in
-    let turn = read .before .before .before in
-    let l = turn .loop in
-    let start = turn .before .before .before in
-    let a = start .args in
-    taking-more openOne (a .count) (a .body .now) (a .out .now) (l .out) (l .at) (l .i) (l .inv) (omega arith) (r .result) (r .ensures) open-within (g .0 .0) (g .0 .1 .0) (g .1) (start .pre)
+    let g = c .before .r .given in
+    let r = read c .open-from in
+    let l = turn (read c) .loop in
+    let s = start (turn (read c) .before) in
+    let a = s .args in
+    taking-more openOne (a .count) (a .body .now) (a .out .now) (l .out) (l .at) (l .i) (l .inv) (omega arith) (r .result) (r .ensures) open-within (g .0 .0) (g .0 .1 .0) (g .1) (s .pre)
 
 same-length-2 : tie.Need-same-length-2 Inv-loop μ-loop
 same-length-2 c = search needs
 
 returns-2 : tie.Need-returns-2 Inv-loop μ-loop
 returns-2 c =
-    let turn = c .before in
-    let l = turn .loop in
-    let start = turn .before .before .before in
-    let a = start .args in
-    taking-all openOne (a .count) (a .body .now) (a .out .now) (l .out) (l .at) (l .i) (l .inv) (omega arith) (start .pre)
+    let l = c .before .loop in
+    let s = start (c .before .before) in
+    let a = s .args in
+    taking-all openOne (a .count) (a .body .now) (a .out .now) (l .out) (l .at) (l .i) (l .inv) (omega arith) (s .pre)
 
 pub get-open-spec : {M : Type 1} → statement M
 get-open-spec =

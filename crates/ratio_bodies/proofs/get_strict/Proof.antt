@@ -18,11 +18,11 @@ use Rattle.ratio_format.proofs.Bodies.Taken.{strict-within}
 use Rattle.ratio_format.proofs.Windows.Before.{window-inside}
 use Rattle.ratio_codec.proofs.read.References.{named-one}
 use Rattle.ratio_search.specs.BytePlanes.{slots, cells, Kept}
-use Rattle.ratio_search.proofs.BytePlanes.{kept-none, kept-set, planes-part}
+use Rattle.ratio_search.proofs.BytePlanes.{kept-start, kept-set, planes-part}
 use Rattle.ratio_bodies.specs.Marks.{slotOf, Marks}
 use Rattle.ratio_bodies.proofs.ahead.FirstByte.{rest-first, named-at}
-use Rattle.ratio_bodies.proofs.Marks.{marks-none, marks-more}
-use Rattle.ratio_bodies.proofs.Taking.{Taking, taking-none, taking-all, taking-stop, taking-within, taking-more}
+use Rattle.ratio_bodies.proofs.Marks.{marks-start, marks-more}
+use Rattle.ratio_bodies.proofs.Taking.{Taking, taking-start, taking-all, taking-stop, taking-within, taking-more}
 use Rattle.ratio_bodies.proofs.get_strict.Statement.{statement}
 use Rattle.ratio_bodies.proofs.get_strict.Tie as tie
 
@@ -36,10 +36,10 @@ abbrev μ-loop : tie.MeasureT-loop
 loop-holds : tie.Need-loop-holds Inv-loop μ-loop
 loop-holds c =
     let a = c .before .before .args in (
-      taking-none strictOne (a .count) (a .body .now) (a .out .now),
-      kept-none (replicate cells 0) (a .out .now) refl,
+      taking-start strictOne (a .count) (a .body .now) (a .out .now),
+      kept-start (replicate cells 0) (a .out .now) refl,
       omega arith,
-      marks-none (replicate slots 0) (a .out .now) refl,
+      marks-start (replicate slots 0) (a .out .now) refl,
     )
 
 open-near-requires : tie.Need-open-near-requires Inv-loop μ-loop
@@ -97,7 +97,8 @@ returns c =
 refresh-requires : tie.Need-refresh-requires Inv-loop μ-loop
 refresh-requires c κs =
     let known = c .before .before .before in
-    (turn (known .before .before) .loop .inv .1, omega arith, omega arith)
+    let read = known .before .before in
+    (turn read .loop .inv .1, omega arith, omega arith)
 
 -- the ratio that was read, and its bytes
 module _ (c : tie.After-refresh Inv-loop μ-loop) where

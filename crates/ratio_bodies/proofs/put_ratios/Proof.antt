@@ -11,10 +11,10 @@ use borrow.Rule.Slice.PartMut.{putMid}
 use lib.ListN.{length, drop, replicate, length-replicate}
 use Rattle.ratio_format.specs.Windows.{windowSize}
 use Rattle.ratio_search.specs.BytePlanes.{slots, cells, Kept}
-use Rattle.ratio_search.proofs.BytePlanes.{kept-none, planes-part}
+use Rattle.ratio_search.proofs.BytePlanes.{kept-start, planes-part}
 use Rattle.ratio_bodies.specs.Indexes.{Trailing}
-use Rattle.ratio_bodies.proofs.Indexes.{trailing-none}
-use Rattle.ratio_bodies.proofs.put_ratios.Proof.Turns.{Writing, part, writing-none, writing-full, writing-on, writing-more, writing-all}
+use Rattle.ratio_bodies.proofs.Indexes.{trailing-start}
+use Rattle.ratio_bodies.proofs.put_ratios.Proof.Turns.{Writing, part, writing-start, writing-full, writing-on, writing-more, writing-all}
 use Rattle.ratio_bodies.proofs.repeats.Repeated.{repeats-coded, repeats-trailing}
 use Rattle.ratio_bodies.proofs.put_ratios.Statement.{statement}
 use Rattle.ratio_bodies.proofs.put_ratios.Tie as tie
@@ -29,7 +29,7 @@ abbrev μ-loop : tie.MeasureT-loop
 loop-holds : tie.Need-loop-holds Inv-loop μ-loop
 loop-holds c =
     let a = c .before .before .args in
-    (writing-none (a .ratios .now) (a .out .now), kept-none (replicate cells 0) (a .ratios .now) refl, omega arith, trailing-none (a .ratios .now))
+    (writing-start (a .ratios .now) (a .out .now), kept-start (replicate cells 0) (a .ratios .now) refl, omega arith, trailing-start (a .ratios .now))
 
 place-of-requires : tie.Need-place-of-requires Inv-loop μ-loop
 place-of-requires c κs =

@@ -24,8 +24,8 @@ abbrev pub Repeats : List ℕ → ℕ → ℕ → Type 0
 Repeats l i r = (k : ℕ) → k < r → getD l (i + k) 0 ≡ getD l (i - 1) 0
 
 -- no ratio, and one more
-pub repeats-none : (l : List ℕ) (i : ℕ) → Repeats l i 0
-repeats-none l i k h = absurd (omega arith)
+pub repeats-start : (l : List ℕ) (i : ℕ) → Repeats l i 0
+repeats-start l i k h = absurd (omega arith)
 
 pub repeats-more : (l : List ℕ) (i r : ℕ) → Repeats l i r → getD l (i + r) 0 ≡ getD l (i - 1) 0 → Repeats l i (r + 1)
 repeats-more l i r x e k h = go (eqb k r) refl

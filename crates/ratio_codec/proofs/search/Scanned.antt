@@ -67,9 +67,9 @@ module _ (v : ℕ) where
   abbrev pub Scanned : List ℕ → ℕ → ℕ → ℕ → Type 0
   Scanned l i p s = (i ≤ length l) × (s ≤ 7) × (best v (take i (reverse l)) ≡ record { place = p; sum = s })
 
-  pub scanned-none : (l : List ℕ) → Scanned l 0 0 0
+  pub scanned-start : (l : List ℕ) → Scanned l 0 0 0
   unfolding best
-  scanned-none l = (omega arith, omega arith, refl)
+  scanned-start l = (omega arith, omega arith, refl)
 
   -- all are passed
   pub scanned-all : (l : List ℕ) (i p s : ℕ) → Scanned l i p s → length l ≤ i → best v (reverse l) ≡ record { place = p; sum = s }

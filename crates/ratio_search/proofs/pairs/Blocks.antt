@@ -75,8 +75,8 @@ module _ (ps l : List ℕ) (v s from high k : ℕ) (p : Planes ps l from high) (
 abbrev pub Behind : ℕ → List ℕ → ℕ → ℕ → ℕ → ℕ → Type 0
 Behind v l s from high h = (k : ℕ) → from ≤ k → h ≤ k → k < high → sumOf v (getD l k 0) ≤ s
 
-pub behind-none : (v : ℕ) (l : List ℕ) (s from high : ℕ) → Behind v l s from high high
-behind-none v l s from high k h g f = absurd (omega arith)
+pub behind-start : (v : ℕ) (l : List ℕ) (s from high : ℕ) → Behind v l s from high high
+behind-start v l s from high k h g f = absurd (omega arith)
 
 -- the block that ends at h
 module _ (ps l : List ℕ) (v s from high h a b c d : ℕ) (p : Planes ps l from high) (first : Apart s a b) (second : Apart s c d)

@@ -12,7 +12,7 @@ use Rattle.ratio_format.specs.Zeros.{equalSum, sumOf}
 use Rattle.ratio_format.proofs.Zeros.Sums.{sum-same}
 use Rattle.ratio_window.specs.Searched.{Searched}
 use Rattle.ratio_window.specs.Passed.{Passed}
-use Rattle.ratio_window.proofs.Passed.{passed-none, passed-more, passed-join, passed-mono}
+use Rattle.ratio_window.proofs.Passed.{passed-start, passed-more, passed-join, passed-mono}
 use Rattle.ratio_format.proofs.Zeros.Bounds.{sum-le}
 use Rattle.ratio_window.proofs.Searched.{searched-none, searched-best}
 
@@ -26,8 +26,8 @@ module _ (v : ℕ) (l : List ℕ) (i : ℕ) where
   Searching q at trail sum =
       (q ≤ i) × (at < i) × (trail ≤ sum) × (1 ≤ sum) × (sum ≤ 7) × Passed v l sum q i × (2 ≤ sum → Holds at sum)
 
-  pub searching-none : 0 < i → Searching i (i - 1) 0 1
-  searching-none h = (omega arith, omega arith, omega arith, omega arith, omega arith, passed-none v l 1 i, λ g. absurd (omega arith))
+  pub searching-start : 0 < i → Searching i (i - 1) 0 1
+  searching-start h = (omega arith, omega arith, omega arith, omega arith, omega arith, passed-start v l 1 i, λ g. absurd (omega arith))
 
   -- the same of equal numbers
   pub searching-as : (q a b t u s r : ℕ) → a ≡ b → t ≡ u → s ≡ r → Searching q b u r → Searching q a t s

@@ -4,7 +4,7 @@ use mathlib.Core.List.{List}
 use native.Mathlib.Omega.{arith}
 use borrow.Author.Needs.{needs}
 use lib.ListN.{length, getD}
-use Rattle.reasons.proofs.Reasons.{slice-reference, slice-in, slice-xor, slice-empty, slice-exception}
+use Rattle.reasons.proofs.Reasons.{sliced-reference, sliced-in, sliced-xor, sliced-empty, sliced-exception}
 use Rattle.reasons.proofs.reason_of.Statement.{statement}
 use Rattle.reasons.proofs.reason_of.Tie as tie
 
@@ -29,14 +29,14 @@ returns : tie.Need-returns
 returns c =
     let d = c .before in
     let b = d .search in
-    slice-reference (l d) (v d) (b .result .place) (b .result .sum) (known d) (v64 d) (b .ensures .0) (b .ensures .1) (c .if1 .taken)
+    sliced-reference (l d) (v d) (b .result .place) (b .result .sum) (known d) (v64 d) (b .ensures .0) (b .ensures .1) (c .if1 .taken)
 
 -- the place is in the slice
 in-slice : (c : tie.Then2) → c .before .before .search .result .place < length (l (c .before .before))
 in-slice c =
     let d = c .before .before in
     let b = d .search in
-    slice-in (l d) (v d) (b .result .place) (b .result .sum) (known d) (v64 d) (b .ensures .0) (b .ensures .1) (omega (arith, c .if2 .taken))
+    sliced-in (l d) (v d) (b .result .place) (b .result .sum) (known d) (v64 d) (b .ensures .0) (b .ensures .1) (omega (arith, c .if2 .taken))
 
 sub-x : tie.Need-sub-x
 sub-x c = omega (arith, in-slice c)
@@ -65,20 +65,20 @@ returns-2 c =
     let t = chosen c in
     let d = t .before .before in
     let b = d .search in
-    slice-xor (l d) (v d) (b .result .place) (b .result .sum) (known d) (v64 d) (b .ensures .0) (b .ensures .1) (t .before .if1 .left) (omega (arith, t .if2 .taken))
+    sliced-xor (l d) (v d) (b .result .place) (b .result .sum) (known d) (v64 d) (b .ensures .0) (b .ensures .1) (t .before .if1 .left) (omega (arith, t .if2 .taken))
     (c .before .lead-zeros .result) (c .trail-zeros .result) (c .before .lead-zeros .ensures .0) (c .trail-zeros .ensures .0)
 
 returns-3 : tie.Need-returns-3
 returns-3 c =
     let d = c .before .before .before in
     let b = d .search in
-    slice-empty (l d) (v d) (b .result .place) (b .result .sum) (known d) (v64 d) (b .ensures .0) (b .ensures .1) (c .before .if2 .left) (c .if3 .taken)
+    sliced-empty (l d) (v d) (b .result .place) (b .result .sum) (known d) (v64 d) (b .ensures .0) (b .ensures .1) (c .before .if2 .left) (c .if3 .taken)
 
 returns-4 : tie.Need-returns-4
 returns-4 c =
     let d = c .before .before .before in
     let b = d .search in
-    slice-exception (l d) (v d) (b .result .place) (b .result .sum) (known d) (v64 d) (b .ensures .0) (b .ensures .1) (c .before .if2 .left) (c .if3 .left)
+    sliced-exception (l d) (v d) (b .result .place) (b .result .sum) (known d) (v64 d) (b .ensures .0) (b .ensures .1) (c .before .if2 .left) (c .if3 .left)
 
 pub reason-of-spec : {M : Type 1} → statement M
 reason-of-spec =

@@ -4,6 +4,7 @@ use mathlib.Core.Bool.{true, false}
 use mathlib.Core.List.{List, _++_}
 use Prim.Native.Nat.{ℕ, zero, suc, _-_, _≤_, _<_}
 use native.Mathlib.Omega.{arith}
+use borrow.Author.Tests.{lt-ltb, le-ltb}
 use lib.ListN.{length, take, drop, replicate}
 use lib.Seq.{take-at}
 use Rattle.lists.specs.Below.{Below}
@@ -12,23 +13,25 @@ use Rattle.outputs.specs.Outputs.{Placed}
 use Rattle.outputs.specs.declared.Wrote.{Wrote}
 use Rattle.outputs.specs.declared.Wrote.the-variants.{Done, NoRoom}
 use Rattle.refusals.specs.declared.Refusal.{Refusal}
-use Rattle.refusals.specs.Tests.{firstOf}
+use Rattle.refusals.specs.Tests.{refusal, firstOf}
+use Rattle.refusals.proofs.Tests.{firstOf-here, firstOf-skip}
 use Rattle.position_format.specs.declared.Form.{Form}
+use Rattle.position_format.specs.declared.Form.the-variants.{Old, Wide}
 use Rattle.position_format.specs.Positions.{validPositions}
-use Rattle.position_format.specs.Tables.{tableOf}
+use Rattle.position_format.specs.Tables.{tableOf, pointsOf}
 use Rattle.position_format.proofs.Positions.Valid.{valid-parts}
 use Rattle.ratio_format.specs.Bodies.{strictRatios}
 use Rattle.record_format.specs.Fields.{laid}
 use Rattle.record_format.specs.Runs.{recordOf}
 use Rattle.record_format.specs.Reading.{countIn, rateIn, sideIn, frontTests}
+use Rattle.record_format.specs.Writing.{outsideTests}
 use Rattle.record_format.specs.Moves.{Move, inForm, runIn, sourceTests, targetTests, refusedMove, moveOf}
 use Rattle.record_format.specs.declared.MoveAnswer.{MoveAnswer}
-use Rattle.record_format.proofs.Reading.{refusal}
 use Rattle.record_format.proofs.Writing.{fitting-few}
 use Rattle.record_format.proofs.Moves.{headOf, source-front, source-form, source-points, source-refused, target-refused, room-refused, move-done, moved-fits, moved-laid, SourceSound, source-sound}
 use Rattle.record_parts.specs.declared.front.Front.{Front}
 use Rattle.record_parts.specs.declared.points.Points.{Points}
-use Rattle.record_parts.specs.Fields.{FrontRead, PointsRead}
+use Rattle.record_parts.specs.Fields.{noFront, FrontRead, PointsRead}
 use Rattle.record_parts.specs.Leads.{leadFields}
 use Rattle.outputs.proofs.Outputs.Writers.{short-of, wrote-all}
 use Rattle.record_codec.specs.Answers.{Moved}
@@ -44,20 +47,12 @@ refused-as g o p e = ap (λ (n : ℕ). record { answer = record { number = g .nu
 
 -- ---- the front
 
--- of a refused one nothing is left but the refusal
-abbrev noFront : Refusal → Front
-noFront g = record { refusal = g; rate = 0; side = 0; count = 0; place = 0; end = 0 }
-
--- what is known of a front
-abbrev Opening : Form → List ℕ → Front → Type 0
-Opening f s r = Opened f s (r .refusal) (r .rate) (r .side) (r .count) (r .place) (r .end)
-
-opened-refused : (f : Form) (s : List ℕ) (g : Refusal) → (g .number ≡ 0 → ⊥) → g ≡ firstOf (sourceTests f s) → (r : Front) → r ≡ noFront g → Opening f s r
+opened-refused : (f : Form) (s : List ℕ) (g : Refusal) → (g .number ≡ 0 → ⊥) → g ≡ firstOf (sourceTests f s) → (r : Front) → r ≡ noFront g → Opened f s r
 opened-refused f s g d e r q =
-    subst (Opening f s) (sym q) (record { refused = λ _ o. source-refused f s o g e d; empty = λ _. refl; movable = λ z. absurd (d z) })
+    subst (Opened f s) (sym q) (record { refused = λ _ o. source-refused f s o g e d; empty = λ _. refl; movable = λ z. absurd (d z) })
 
 module _ (f : Form) (s : List ℕ) (g : Front) (h : FrontRead 0 s g) where
-  pub opened-front : (g .refusal .number ≡ 0 → ⊥) → (r : Front) → r ≡ noFront (g .refusal) → Opening f s r
+  pub opened-front : (g .refusal .number ≡ 0 → ⊥) → (r : Front) → r ≡ noFront (g .refusal) → Opened f s r
   opened-front d = opened-refused f s (g .refusal) d (h .refuses ∙ sym (source-front f s (λ z. d (ap (λ (x : Refusal). x .number) (h .refuses) ∙ z))))
 
   module _ (good : g .refusal .number ≡ 0) where
@@ -65,24 +60,36 @@ module _ (f : Form) (s : List ℕ) (g : Front) (h : FrontRead 0 s g) where
     front-clear = sym (ap (λ (x : Refusal). x .number) (h .refuses)) ∙ good
 
     -- the form moved to
-    pub opened-form : headOf f s ≡ true → (r : Front) → r ≡ noFront (refusal 11 (g .end)) → Opening f s r
-    opened-form e = opened-refused f s (refusal 11 (g .end)) (λ z. omega arith) (ap (refusal 11) (h .found good .count .next) ∙ sym (source-form f s front-clear e))
+    pub opened-form : headOf f s ≡ true → (r : Front) → r ≡ noFront (refusal 11 (g .end)) → Opened f s r
+    opened-form e = opened-refused f s (refusal 11 (g .end)) (λ z. omega arith) (ap (refusal 11) (h .found good .next) ∙ sym (source-form f s front-clear e))
 
     -- and any other
-    pub opened-good : headOf f s ≡ false → Opening f s g
+    pub opened-good : headOf f s ≡ false → Opened f s g
     opened-good e = record {
       refused = λ d. absurd (d good);
       empty = λ d. absurd (d good);
-      movable = λ _. record { elsewhere = (front-clear, e); rated = h .found good .rate; sided = h .found good .side; found = h .found good .count };
+      movable = λ _. record { elsewhere = (front-clear, e); found = h .found good };
     }
 
 -- a front with a count above 0 is not refused
-pub opened-long : {f : Form} {s : List ℕ} {g : Refusal} {rate side count place at : ℕ} → Opened f s g rate side count place at → 0 < count → Movable f s rate side count place at
-opened-long {f} {s} {g} {rate} {side} {count} {place} {at} h long = go (g .number) refl
+pub opened-long : {f : Form} {s : List ℕ} {g : Front} → Opened f s g → 0 < g .count → Movable f s g
+opened-long {f} {s} {g} h long = go (g .refusal .number) refl
   where
-    go : (n : ℕ) → g .number ≡ n → Movable f s rate side count place at
+    go : (n : ℕ) → g .refusal .number ≡ n → Movable f s g
     go zero e = h .movable e
-    go (suc n) e = absurd (let none : count ≡ 0 = h .empty (λ z. omega arith) in omega arith)
+    go (suc n) e = absurd (let none : g .count ≡ 0 = h .empty (λ z. omega arith) in omega arith)
+
+-- ---- the tests of positions in the form moved to
+
+-- more than a run in it has: the wide one, since there are no more than in the old one
+pub target-many : (f : Form) (ts : List ℕ) → length ts ≤ maxPoints → pointsOf f < length ts → refusal 3 0 ≡ firstOf (targetTests f ts)
+target-many Old ts few many = absurd (omega arith)
+target-many Wide ts few many = sym (firstOf-here _ _ (lt-ltb _ _ many))
+
+-- and else those of the steps
+pub target-few : (f : Form) (ts : List ℕ) → length ts ≤ pointsOf f → firstOf (outsideTests f ts) ≡ firstOf (targetTests f ts)
+target-few Old ts few = refl
+target-few Wide ts few = sym (firstOf-skip _ _ (le-ltb _ _ few))
 
 -- ---- the points
 

@@ -6,12 +6,12 @@ use Prim.Native.Nat.{ℕ, _≤_}
 use native.Mathlib.Omega.{arith}
 use lib.ListN.{length, replicate}
 use Rattle.refusals.specs.declared.Refusal.{Refusal}
-use Rattle.refusals.specs.Tests.{Test, test, firstOf}
-use Rattle.refusals.proofs.Tests.{first-here, first-skip, first-end, first-none, first-append-none, first-append-some}
+use Rattle.refusals.specs.Tests.{Test, test, refusal, firstOf}
+use Rattle.refusals.proofs.Tests.{firstOf-here, firstOf-skip, firstOf-end, firstOf-none, firstOf-append-none, firstOf-append-some}
 use Rattle.record_format.specs.Runs.{positionsTag}
 use Rattle.record_format.specs.declared.ReadAnswer.{ReadAnswer}
 use Rattle.record_format.specs.Reading.{Answer, refusalAnswer, recordAnswer, readWith, readTests, lacksRoom, formIn, frontTests, roomTests, positionsTests, ratiosTests}
-use Rattle.record_format.proofs.Reading.{refusal, room-enough, front-numbered, answer-refused, answer-good}
+use Rattle.record_format.proofs.Reading.{room-enough, front-numbered, answer-refused, answer-good}
 use Rattle.record_parts.specs.declared.front.Front.{Front}
 use Rattle.record_parts.specs.declared.points.Points.{Points}
 use Rattle.record_parts.specs.Fields.{FrontRead, PointsRead, ratiosBy}
@@ -48,28 +48,28 @@ module _ (openly : Bool) (e : ℕ) (s ts vs : List ℕ) where
   module _ (f : Front) (h : FrontRead e s f) where
     pub read-front : (f .refusal .number ≡ 0 → ⊥) → refusalAnswer (f .refusal) ts vs ≡ answer
     read-front d =
-        refuses (f .refusal) (h .refuses ∙ sym (first-append-some (frontTests e s) _ (λ z. d (ap (λ (g : Refusal). g .number) (h .refuses) ∙ z)))) d ts vs refl refl
+        refuses (f .refusal) (h .refuses ∙ sym (firstOf-append-some (frontTests e s) _ (λ z. d (ap (λ (g : Refusal). g .number) (h .refuses) ∙ z)))) d ts vs refl refl
 
     module _ (clear : f .refusal .number ≡ 0) where
       abbrev later : List Test
       later = positionsTests s ++ ratiosTests (ratiosBy openly) s
 
       past-front : firstOf tests ≡ firstOf (roomTests s (length ts) (length vs) ++ later)
-      past-front = first-append-none (frontTests e s) _ (front-numbered e s) (sym (ap (λ (g : Refusal). g .number) (h .refuses)) ∙ clear)
+      past-front = firstOf-append-none (frontTests e s) _ (front-numbered e s) (sym (ap (λ (g : Refusal). g .number) (h .refuses)) ∙ clear)
 
       room-test : firstOf (roomTests s (length ts) (length vs) ++ later) ≡ firstOf (test (lacksRoom (length ts) (length vs) (f .count)) 16 (f .place) ∷ later)
       room-test =
-          ap₂ (λ (c p : ℕ). firstOf (test (lacksRoom (length ts) (length vs) c) 16 p ∷ later)) (sym (h .found clear .count .counted)) (sym (h .found clear .count .stands))
+          ap₂ (λ (c p : ℕ). firstOf (test (lacksRoom (length ts) (length vs) c) 16 p ∷ later)) (sym (h .found clear .counted)) (sym (h .found clear .stands))
 
       pub read-lacks : lacksRoom (length ts) (length vs) (f .count) ≡ true → refusalAnswer (refusal 16 (f .place)) ts vs ≡ answer
-      read-lacks l = refuses (refusal 16 (f .place)) (sym (past-front ∙ room-test ∙ first-here _ _ l)) (λ z. omega arith) ts vs refl refl
+      read-lacks l = refuses (refusal 16 (f .place)) (sym (past-front ∙ room-test ∙ firstOf-here _ _ l)) (λ z. omega arith) ts vs refl refl
 
       module _ (room : lacksRoom (length ts) (length vs) (f .count) ≡ false) where
         pub room-both : (f .count ≤ length ts) × (f .count ≤ length vs)
         room-both = room-enough (length ts) (length vs) (f .count) room
 
         past-room : firstOf tests ≡ firstOf later
-        past-room = past-front ∙ room-test ∙ first-skip _ _ room
+        past-room = past-front ∙ room-test ∙ firstOf-skip _ _ room
 
         module _ (g : Points) (us ws : List ℕ) (i : PointsRead (ratiosBy openly) s ts vs g us ws) where
           pub read-points : (g .refusal .number ≡ 0 → ⊥) → length us ≡ length ts → length ws ≡ length vs → refusalAnswer (g .refusal) us ws ≡ answer
@@ -81,11 +81,11 @@ module _ (openly : Bool) (e : ℕ) (s ts vs : List ℕ) where
           read-found good tag t =
               let a = h .found clear .rate in
               let d = h .found clear .side in
-              let b = h .found clear .count .counted in
+              let b = h .found clear .counted in
               let e : tag ≡ positionsTag (formIn s) = t ∙ ap positionsTag (i .form good) in
               let c = i .next good in
               let own : recordAnswer (ratiosBy openly) s ts vs ≡ answer =
               sym
               (answer-good (recordAnswer (ratiosBy openly) s ts vs) ts vs tests
-              (past-room ∙ first-none later refl (sym (ap (λ (x : Refusal). x .number) (i .refuses)) ∙ good) ∙ sym first-end)) in
+              (past-room ∙ firstOf-none later refl (sym (ap (λ (x : Refusal). x .number) (i .refuses)) ∙ good) ∙ sym firstOf-end)) in
               answered-as own (cc, i .positions good, i .ratios good)

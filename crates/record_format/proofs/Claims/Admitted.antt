@@ -13,7 +13,7 @@ use Rattle.limits.specs.Rates.{isRate}
 use Rattle.limits.specs.Points.{maxPoints}
 use Rattle.limits.specs.Sides.{maxSide}
 use Rattle.refusals.specs.Tests.{Test, test, firstOf}
-use Rattle.refusals.proofs.Tests.{first-clear}
+use Rattle.refusals.proofs.Tests.{firstOf-clear}
 use Rattle.position_format.specs.Positions.{validPositions}
 use Rattle.position_format.specs.Tables.{tableOf, pointsOf}
 use Rattle.position_format.proofs.Positions.{read-only}
@@ -42,11 +42,11 @@ front-clear e s ts clear =
     let from-side = sideTests s ++ (countTests s ++ ts) in
     let flat = sym (ap (λ (l : List Test). firstOf l .number) (front-flat e s ts)) ∙ clear in
     let a = field-clear s (rateTag ∷ []) (some rateSize) rateAt (test (not (isRate (rateIn s))) 13 rateAt ∷ test (otherRate e (rateIn s)) 14 rateAt ∷ from-side) flat in
-    let a13 = first-clear _ _ (lit< tt) (a .1) in
-    let a14 = first-clear _ _ (lit< tt) (a13 .1) in
+    let a13 = firstOf-clear _ _ (lit< tt) (a .1) in
+    let a14 = firstOf-clear _ _ (lit< tt) (a13 .1) in
     let a20 = side-clear s (countTests s ++ ts) (a14 .1) in
     let b = field-clear s (countTag ∷ []) (some countSize) (countAt s) (test (ltb maxPoints (countIn s)) 15 (countAt s) ∷ ts) (a20 .1) in
-    let b15 = first-clear _ _ (lit< tt) (b .1) in
+    let b15 = firstOf-clear _ _ (lit< tt) (b .1) in
     (record { rate = a .0; listed = not-false _ (a13 .0); side = a20 .0; count = b .0; few = ltb-false _ _ (b15 .0) }, b15 .1)
 
 -- what the tests of reading say of bytes to which none applies, by the reading k of the ratios' field
@@ -61,17 +61,17 @@ record Read (k : ℕ → List ℕ → Option (List ℕ)) (s : List ℕ) : Type 0
 passed : (k : ℕ → List ℕ → Option (List ℕ)) (e : ℕ) (s : List ℕ) (m n : ℕ) → firstOf (readTests k e s m n) .number ≡ 0 → Read k s
 passed k e s m n clear =
     let f = front-clear e s (roomTests s m n ++ (positionsTests s ++ ratiosTests k s)) clear in
-    let f16 = first-clear _ _ (lit< tt) (f .1) in
-    let head = first-clear _ _ (lit< tt) (f16 .1) in
-    let tag = first-clear _ _ (lit< tt) (head .1) in
-    let c15 = first-clear _ _ (lit< tt) (tag .1) in
-    let body = first-clear _ _ (lit< tt) (c15 .1) in
-    let c17 = first-clear _ _ (lit< tt) (body .1) in
+    let f16 = firstOf-clear _ _ (lit< tt) (f .1) in
+    let head = firstOf-clear _ _ (lit< tt) (f16 .1) in
+    let tag = firstOf-clear _ _ (lit< tt) (head .1) in
+    let c15 = firstOf-clear _ _ (lit< tt) (tag .1) in
+    let body = firstOf-clear _ _ (lit< tt) (c15 .1) in
+    let c17 = firstOf-clear _ _ (lit< tt) (body .1) in
     let d = field-clear s (ratiosTag ∷ []) none (ratiosAt s) (test (missing (ratiosIn k s)) 18 (ratiosAt s) ∷ []) (c17 .1) in
-    let d18 = first-clear _ _ (lit< tt) (d .1) in
+    let d18 = firstOf-clear _ _ (lit< tt) (d .1) in
     record {
       front = f .0;
-      positions = record { head = ltb-false _ _ (head .0); tagged = tag-named (tagAt s (positionsAt s)) (not-false _ (tag .0)); stated = tt; whole = ltb-false _ _ (body .0) };
+      positions = record { head-whole = ltb-false _ _ (head .0); tagged = tag-named (tagAt s (positionsAt s)) (not-false _ (tag .0)); stated = tt; whole = ltb-false _ _ (body .0) };
       few = ltb-false _ _ (c15 .0);
       points = missing-some (positionsIn s) (c17 .0);
       ratios = d .0;
@@ -90,9 +90,9 @@ front-follows s bytes h =
       (
         sound-follows bytes (h .rate) _ (sound-number bytes (h .rate)),
         follow-append s (sideAt s) sides count (d .follows)
-            (subst (λ (p : ℕ). Follow s p count) (sym (d .past)) (sound-follows bytes (h .count) _ (sound-number bytes (h .count)), tt)),
+            (subst (λ (p : ℕ). Follow s p count) (sym (d .then-count)) (sound-follows bytes (h .count) _ (sound-number bytes (h .count)), tt)),
       ),
-      past-append s (sideAt s) sides count ∙ ap (nextAt s) (d .past),
+      past-append s (sideAt s) sides count ∙ ap (nextAt s) (d .then-count),
     )
 
 -- so the bytes begin with it

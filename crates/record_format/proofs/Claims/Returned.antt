@@ -10,7 +10,7 @@ use lib.ListN.{length}
 use Rattle.lists.specs.Lists.{member}
 use Rattle.refusals.specs.declared.Refusal.{Refusal}
 use Rattle.refusals.specs.Tests.{test, firstOf, refused}
-use Rattle.refusals.proofs.Tests.{first-skip}
+use Rattle.refusals.proofs.Tests.{firstOf-skip, firstOf-cong}
 use Rattle.outputs.specs.Outputs.{over}
 use Rattle.ratio_format.specs.Bodies.{codedRatios}
 use Rattle.record_format.specs.Fields.{Field}
@@ -18,7 +18,7 @@ use Rattle.record_format.specs.Runs.{Run, run, positionsTag, ratiosTag, 
 use Rattle.record_format.specs.Claims.{ownTests, ownAnswer, runAnswer}
 use Rattle.record_format.specs.Reading.{Answer, refusalAnswer, recordAnswer, readTests, readWith, rateAt, positionsAt, ratiosAt, endAt, rateIn, sideIn, countIn, formIn, positionsIn, ratiosIn, missing, listOf, otherRate, lacksRoom, ratiosTests}
 use Rattle.record_format.proofs.Fields.{FieldStands, StandAll, laid-stand, pastAll, stand-past, stand-append, past-append}
-use Rattle.record_format.proofs.Reading.Fronts.{first-cong, count-at, front-past, rate-is, side-is, count-is, front-tests, form-is, positions-are, positions-pass}
+use Rattle.record_format.proofs.Reading.Fronts.{count-at, front-past, rate-is, side-is, count-is, front-tests, form-is, positions-are, positions-pass}
 use Rattle.record_format.proofs.Reading.{field-passes}
 use Rattle.record_format.proofs.Runs.{same-run, fields-small}
 use Rattle.record_format.proofs.Writing.{Fitting, fitting-few}
@@ -45,11 +45,11 @@ module _ (r : Run) (fit : Fitting r) (rest : List ℕ) where
   counts : length (r .positions) < 256 ^ countSize
   counts = omega (arith, fitting-few r fit)
 
-  past : pastAll s rateAt front ≡ positionsAt s
-  past = front-past s (r .rate) (r .side) (length (r .positions)) (fit .listed) (fit .sided) counts (parts .0)
+  past-front : pastAll s rateAt front ≡ positionsAt s
+  past-front = front-past s (r .rate) (r .side) (length (r .positions)) (fit .listed) (fit .sided) counts (parts .0)
 
   later : StandAll s (positionsAt s) points-fields
-  later = subst (λ (p : ℕ). StandAll s p points-fields) past (parts .1)
+  later = subst (λ (p : ℕ). StandAll s p points-fields) past-front (parts .1)
 
   pub positions-stand : FieldStands s (positionsAt s) (positionsField (r .form) (r .positions))
   positions-stand = later .0
@@ -60,24 +60,24 @@ module _ (r : Run) (fit : Fitting r) (rest : List ℕ) where
   pub at-end : endAt s ≡ length (recordOf r)
   unfolding recordOf
   at-end =
-      ap (λ (p : ℕ). pastAll s p points-fields) (sym past) ∙ sym (past-append s rateAt front points-fields)
+      ap (λ (p : ℕ). pastAll s p points-fields) (sym past-front) ∙ sym (past-append s rateAt front points-fields)
       ∙ stand-past s rateAt (fieldsOf r) all ∙ omega arith
 
   -- ---- what is read in them
 
-  pub counted : countIn s ≡ length (r .positions)
-  counted = count-is s (r .rate) (r .side) (length (r .positions)) (fit .listed) (fit .sided) counts (parts .0)
+  pub count-read : countIn s ≡ length (r .positions)
+  count-read = count-is s (r .rate) (r .side) (length (r .positions)) (fit .listed) (fit .sided) counts (parts .0)
 
   points : positionsIn s ≡ some (r .positions)
-  points = positions-are s (r .form) (r .positions) (fit .few) (fit .valid) counted positions-stand
+  points = positions-are s (r .form) (r .positions) (fit .few) (fit .valid) count-read positions-stand
 
   module _ (k : ℕ → List ℕ → Option (List ℕ)) (read : k (length (r .ratios)) (codedRatios (r .ratios)) ≡ some (r .ratios)) where
     ratios-are : ratiosIn k s ≡ some (r .ratios)
-    ratios-are = ap₂ k (counted ∙ sym (fit .paired)) (ratios-stand .within) ∙ read
+    ratios-are = ap₂ k (count-read ∙ sym (fit .paired)) (ratios-stand .within) ∙ read
 
     ratios-pass : firstOf (ratiosTests k s) ≡ firstOf []
     unfolding member
-    ratios-pass = field-passes ratios-stand (ratiosTag ∷ []) none _ refl tt ∙ first-skip _ _ (ap missing ratios-are)
+    ratios-pass = field-passes ratios-stand (ratiosTag ∷ []) none _ refl tt ∙ firstOf-skip _ _ (ap missing ratios-are)
 
     -- the run
     pub run-is : run (rateIn s) (sideIn s) (formIn s) (listOf (positionsIn s)) (listOf (ratiosIn k s)) ≡ r
@@ -85,7 +85,7 @@ module _ (r : Run) (fit : Fitting r) (rest : List ℕ) where
         same-run _ r
         (rate-is s (r .rate) (r .side) (length (r .positions)) (fit .listed) (fit .sided) counts (parts .0))
         (side-is s (r .rate) (r .side) (length (r .positions)) (fit .listed) (fit .sided) counts (parts .0))
-        (form-is s (r .form) (r .positions) (fit .few) (fit .valid) counted positions-stand)
+        (form-is s (r .form) (r .positions) (fit .few) (fit .valid) count-read positions-stand)
         (ap listOf points)
         (ap listOf ratios-are)
 
@@ -93,9 +93,9 @@ module _ (r : Run) (fit : Fitting r) (rest : List ℕ) where
     pub only-own : (e m n : ℕ) → firstOf (readTests k e s m n) ≡ firstOf (ownTests r e m n)
     only-own e m n =
         front-tests s (r .rate) (r .side) (length (r .positions)) (fit .listed) (fit .sided) counts (parts .0) k e m n
-        ∙ first-cong _ _ _
-        (first-skip _ _ (le-ltb _ _ (fitting-few r fit))
-        ∙ first-cong _ _ _ (positions-pass s (r .form) (r .positions) (fit .few) (fit .valid) counted positions-stand (ratiosTests k s) ∙ ratios-pass))
+        ∙ firstOf-cong _ _ _
+        (firstOf-skip _ _ (le-ltb _ _ (fitting-few r fit))
+        ∙ firstOf-cong _ _ _ (positions-pass s (r .form) (r .positions) (fit .few) (fit .valid) count-read positions-stand (ratiosTests k s) ∙ ratios-pass))
         ∙ ap (λ (p : ℕ). firstOf (test (otherRate e (r .rate)) 14 rateAt ∷ test (lacksRoom m n (length (r .positions))) 16 p ∷ []))
         (count-at s (r .rate) (r .side) (length (r .positions)) (fit .listed) (fit .sided) counts (parts .0))
 
@@ -111,7 +111,7 @@ module _ (r : Run) (fit : Fitting r) (rest : List ℕ) where
             answer = record { number = 0; place = 0; rate = r .rate; side = r .side; count = c; form = positionsTag (r .form); used = u };
             positions = over (r .positions) ts;
             ratios = over (r .ratios) vs;
-          }) counted at-end
+          }) count-read at-end
 
       -- reading the record of a run, whatever follows it
       pub read-record : readWith k e s ts vs ≡ runAnswer r e ts vs

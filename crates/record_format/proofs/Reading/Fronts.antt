@@ -1,7 +1,7 @@
 -- The front of a record as it stands at the front of bytes, and the positions past it: where the fields are, what is read in them, and which tests are
 -- left to decide.
 use mathlib.Core.Path.{_≡_, refl, sym, ap, ap₂, _∙_, subst}
-use mathlib.Core.Bool.{true, not, cond}
+use mathlib.Core.Bool.{true, not}
 use mathlib.Core.List.{List, [], _∷_, _++_}
 use mathlib.Core.Option.{Option, none, some}
 use Prim.Native.Nat.{ℕ, _+_, _^_, _≤_, _<_}
@@ -19,7 +19,7 @@ use Rattle.limits.specs.Rates.{isRate}
 use Rattle.limits.specs.Sides.{maxSide}
 use Rattle.limits.proofs.Rates.{rate-high}
 use Rattle.refusals.specs.Tests.{Test, test, firstOf}
-use Rattle.refusals.proofs.Tests.{first-skip}
+use Rattle.refusals.proofs.Tests.{firstOf-skip, firstOf-cong}
 use Rattle.position_format.specs.declared.Form.{Form}
 use Rattle.position_format.specs.Positions.{validPositions, readPositions}
 use Rattle.position_format.specs.Tables.{tableOf, pointsOf}
@@ -33,11 +33,6 @@ use Rattle.record_format.proofs.Fields.{FieldStands, StandAll, length-f
 use Rattle.record_format.proofs.Reading.{field-passes, positions-few, front-flat}
 use Rattle.record_format.proofs.Runs.{form-of, tag-good, length-side, front-small}
 use Rattle.record_format.proofs.Reading.Sides.{stand-count, stand-side, side-passes}
-
--- a test before two lists that give the same
-pub first-cong : (t : Test) (us ts : List Test) → firstOf us ≡ firstOf ts → firstOf (t ∷ us) ≡ firstOf (t ∷ ts)
-unfolding firstOf
-first-cong t us ts e = ap (cond (t .applies) (record { number = t .number; place = t .place })) e
 
 -- ---- the front
 
@@ -89,9 +84,9 @@ module _ (s : List ℕ) (rate side count : ℕ) (listed : isRate rate ≡ true) 
       ap firstOf (front-flat e s ts)
       ∙ field-passes (all .0) (rateTag ∷ []) (some rateSize) (test (not (isRate (rateIn s))) 13 rateAt ∷ test (otherRate e (rateIn s)) 14 rateAt ∷ from-side)
       refl (length-digits 256 rateSize rate)
-      ∙ first-skip _ _ (ap (λ (x : ℕ). not (isRate x)) rate-is ∙ ap not listed)
+      ∙ firstOf-skip _ _ (ap (λ (x : ℕ). not (isRate x)) rate-is ∙ ap not listed)
       ∙ ap (λ (x : ℕ). firstOf (test (otherRate e x) 14 rateAt ∷ from-side)) rate-is
-      ∙ first-cong _ _ _
+      ∙ firstOf-cong _ _ _
       (side-passes s count-field refl side sided (past-rate .0) (past-rate .1 .0) from-count
       ∙ field-passes count-stands (countTag ∷ []) (some countSize) (test (ltb maxPoints (countIn s)) 15 (countAt s) ∷ ts) refl (length-digits 256 countSize count)
       ∙ ap (λ (c : ℕ). firstOf (test (ltb maxPoints c) 15 (countAt s) ∷ ts)) count-is)
@@ -143,4 +138,4 @@ module _ (s : List ℕ) (f : Form) (ps : List ℕ) (few : length ps ≤ pointsOf
   positions-pass ts =
       positions-few s ts (le-ltb _ _ (subst (λ (c : ℕ). c ≤ pointsOf (formIn s)) (sym counted) (subst (λ (x : Form). length ps ≤ pointsOf x) (sym form-is) few)))
       ∙ field-passes stands positionsTags none (test (missing (positionsIn s)) 17 (positionsAt s) ∷ ts) (tag-good f) tt
-      ∙ first-skip _ _ (ap missing positions-are)
+      ∙ firstOf-skip _ _ (ap missing positions-are)

@@ -1,105 +1,78 @@
--- What strict reading with no rate expected refuses does not go by the room, where there is room for every run; and it is refused neither by 14 nor by 16.
-use mathlib.Core.Bool.{Bool, true, false, not, cond, false≢true}
-use mathlib.Core.List.{List, [], _∷_, _++_, append-nil}
+-- Reading with room for every run: its tests are those of the record alone, so that what is returned does not go by the room; and it is not refused by 16,
+-- nor, where no rate is expected, by 14.
+use mathlib.Core.Bool.{Bool, true, false, cond}
+use mathlib.Core.List.{List, [], _++_, append-nil}
+use mathlib.Core.Option.{Option}
 use mathlib.Core.Path.{_≡_, refl, sym, ap, ap₂, _∙_}
-use Prim.Native.Nat.{ℕ, zero, suc, _≤_, _<_}
+use Prim.Native.Nat.{ℕ, _≤_}
 use native.Mathlib.Omega.{arith}
-use borrow.Author.Tests.{eq-eqb, ne-eqb, le-ltb}
-use lib.Dec.{eqb, lit<}
-use lib.ListN.{length}
-use Rattle.lists.proofs.Lists.{every, every-cons}
+use borrow.Author.Tests.{le-ltb}
+use lib.Dec.{lit<}
+use lib.ListN.{length, length-replicate}
 use Rattle.limits.specs.Points.{maxPoints}
 use Rattle.refusals.specs.declared.Refusal.{Refusal}
 use Rattle.refusals.specs.Tests.{Test, firstOf, refused}
-use Rattle.refusals.proofs.Tests.{first-here, first-skip, first-end, first-append-none, first-append-some}
-use Rattle.ratio_format.specs.Bodies.{strictRatios}
-use Rattle.record_format.specs.Reading.{refusalAnswer, recordAnswer, hasSide, countIn, rateTests, countTests, frontTests, positionsTests, ratiosTests, readTests, readWith, readStrict}
-use Rattle.record_format.proofs.Reading.{side-of, front-numbered}
+use Rattle.refusals.proofs.Tests.{firstOf-skip, firstOf-append-cong, never, firstOf-never}
+use Rattle.record_format.specs.Reading.{refusalAnswer, recordAnswer, hasSide, countIn, rateTests, countTests, frontTests, positionsTests, ratiosTests, recordTests, readTests, readWith, blank}
+use Rattle.record_format.proofs.Reading.{side-of, front-numbered, answer-number}
 use Rattle.record_format.proofs.Claims.Admitted.{front-clear}
 
--- ---- a number that no test gives
+-- ---- the tests
 
--- a test with the number n does not apply: of tests that are written out, by refl
-abbrev never : ℕ → List Test → Bool
-never n ts = every (λ t. cond (eqb (t .number) n) (not (t .applies)) true) ts
+module _ (k : ℕ → List ℕ → Option (List ℕ)) (e : ℕ) (s : List ℕ) where
+  -- with room enough that of the room does not apply
+  pub roomy-tests : (m n : ℕ) → maxPoints ≤ m → maxPoints ≤ n → firstOf (readTests k e s m n) ≡ firstOf (recordTests k e s)
+  roomy-tests m n a b =
+      firstOf-append-cong (frontTests e s) _ _ (front-numbered e s)
+      (λ clear.
+      let few = front-clear e s [] (ap (λ (l : List Test). firstOf l .number) (append-nil (frontTests e s)) ∙ clear) .0 .few in
+      firstOf-skip _ _ (ap₂ (λ (x y : Bool). cond x true y) (le-ltb m (countIn s) (omega arith)) (le-ltb n (countIn s) (omega arith))))
 
-first-never : (n : ℕ) → 0 < n → (ts : List Test) → never n ts ≡ true → firstOf ts .number ≡ n → ⊥
-first-never n some [] w e = let z : firstOf [] .number ≡ 0 = ap (λ (r : Refusal). r .number) first-end in omega arith
-first-never n some (t ∷ ts) w e =
-    let h = every-cons (λ (t : Test). cond (eqb (t .number) n) (not (t .applies)) true) t ts w in
-    go (t .applies) refl (h .0) (first-never n some ts (h .1))
+  -- and no other has its number
+  record-never-sixteen : never 16 (recordTests k e s) ≡ true
+  record-never-sixteen = go (hasSide s)
+    where
+      go : (b : Bool) → never 16 ((rateTests e s ++ (side-of s b ++ countTests s)) ++ (positionsTests s ++ ratiosTests k s)) ≡ true
+      go true = refl
+      go false = refl
+
+-- where no rate is expected, that of another rate does not apply
+record-never-fourteen : (k : ℕ → List ℕ → Option (List ℕ)) (s : List ℕ) → never 14 (recordTests k 0 s) ≡ true
+record-never-fourteen k s = go (hasSide s)
   where
-    go : (b : Bool) → t .applies ≡ b → cond (eqb (t .number) n) (not (t .applies)) true ≡ true → (firstOf ts .number ≡ n → ⊥) → ⊥
-    go true q h f =
-        let own : t .number ≡ n = sym (ap (λ (r : Refusal). r .number) (first-here t ts q)) ∙ e in
-        false≢true (sym (ap₂ (λ (a b : Bool). cond a (not b) true) (eq-eqb (t .number) n own) q) ∙ h)
-    go false q h f = f (sym (ap (λ (r : Refusal). r .number) (first-skip t ts q)) ∙ e)
-
--- ---- the tests without that of the room
-
-module _ (s : List ℕ) where
-  abbrev recordTests : List Test
-  recordTests = frontTests 0 s ++ (positionsTests s ++ ratiosTests strictRatios s)
-
-  never-expected : never 14 recordTests ≡ true
-  never-expected = go (hasSide s)
-    where
-      go : (b : Bool) → never 14 ((rateTests 0 s ++ (side-of s b ++ countTests s)) ++ (positionsTests s ++ ratiosTests strictRatios s)) ≡ true
-      go true = refl
-      go false = refl
-
-  never-roomless : never 16 recordTests ≡ true
-  never-roomless = go (hasSide s)
-    where
-      go : (b : Bool) → never 16 ((rateTests 0 s ++ (side-of s b ++ countTests s)) ++ (positionsTests s ++ ratiosTests strictRatios s)) ≡ true
-      go true = refl
-      go false = refl
-
-  module _ (m n : ℕ) (a : maxPoints ≤ m) (b : maxPoints ≤ n) where
-    -- no room is asked for
-    roomy-tests : firstOf (readTests strictRatios 0 s m n) ≡ firstOf recordTests
-    roomy-tests = go (firstOf (frontTests 0 s) .number) refl
-      where
-        go : (x : ℕ) → firstOf (frontTests 0 s) .number ≡ x → firstOf (readTests strictRatios 0 s m n) ≡ firstOf recordTests
-        go zero q =
-            let few = front-clear 0 s [] (ap (λ (l : List Test). firstOf l .number) (append-nil (frontTests 0 s)) ∙ q) .0 .few in
-            first-append-none (frontTests 0 s) _ (front-numbered 0 s) q
-            ∙ first-skip _ _ (ap₂ (λ (x y : Bool). cond x true y) (le-ltb m (countIn s) (omega arith)) (le-ltb n (countIn s) (omega arith)))
-            ∙ sym (first-append-none (frontTests 0 s) _ (front-numbered 0 s) q)
-        go (suc x) q =
-            let d : (firstOf (frontTests 0 s) .number ≡ 0 → ⊥) = λ z. omega arith in
-            first-append-some (frontTests 0 s) _ d ∙ sym (first-append-some (frontTests 0 s) _ d)
+    go : (b : Bool) → never 14 ((rateTests 0 s ++ (side-of s b ++ countTests s)) ++ (positionsTests s ++ ratiosTests k s)) ≡ true
+    go true = refl
+    go false = refl
 
 -- ---- the answer
 
--- what is returned, beside the outputs, does not go by them
-outputs-apart : (f : Refusal) (s ts vs us ws : List ℕ) (b : Bool)
-    → cond b (refusalAnswer f ts vs) (recordAnswer strictRatios s ts vs) .answer ≡ cond b (refusalAnswer f us ws) (recordAnswer strictRatios s us ws) .answer
-outputs-apart f s ts vs us ws true = refl
-outputs-apart f s ts vs us ws false = refl
+-- an output that has such room
+pub roomy : (n : ℕ) → n ≤ maxPoints → n ≤ length blank
+unfolding blank
+roomy n h = omega (arith, length-replicate {A = ℕ} maxPoints 0)
 
-module _ (s ts vs : List ℕ) (a : maxPoints ≤ length ts) (b : maxPoints ≤ length vs) where
-  pub any-room : (us ws : List ℕ) → maxPoints ≤ length us → maxPoints ≤ length ws → readStrict 0 s ts vs .answer ≡ readStrict 0 s us ws .answer
+-- what is returned, beside the outputs, does not go by them
+outputs-apart : (k : ℕ → List ℕ → Option (List ℕ)) (f : Refusal) (s ts vs us ws : List ℕ) (b : Bool)
+    → cond b (refusalAnswer f ts vs) (recordAnswer k s ts vs) .answer ≡ cond b (refusalAnswer f us ws) (recordAnswer k s us ws) .answer
+outputs-apart k f s ts vs us ws true = refl
+outputs-apart k f s ts vs us ws false = refl
+
+module _ (k : ℕ → List ℕ → Option (List ℕ)) (e : ℕ) (s ts vs : List ℕ) (a : maxPoints ≤ length ts) (b : maxPoints ≤ length vs) where
+  pub any-room : (us ws : List ℕ) → maxPoints ≤ length us → maxPoints ≤ length ws → readWith k e s ts vs .answer ≡ readWith k e s us ws .answer
   unfolding readWith
   any-room us ws c d =
-      ap (λ (f : Refusal). cond (refused f) (refusalAnswer f ts vs) (recordAnswer strictRatios s ts vs) .answer)
-      (roomy-tests s (length ts) (length vs) a b ∙ sym (roomy-tests s (length us) (length ws) c d))
-      ∙ outputs-apart (firstOf (readTests strictRatios 0 s (length us) (length ws))) s ts vs us ws (refused (firstOf (readTests strictRatios 0 s (length us) (length ws))))
+      ap (λ (f : Refusal). cond (refused f) (refusalAnswer f ts vs) (recordAnswer k s ts vs) .answer)
+      (roomy-tests k e s (length ts) (length vs) a b ∙ sym (roomy-tests k e s (length us) (length ws) c d))
+      ∙ outputs-apart k (firstOf (readTests k e s (length us) (length ws))) s ts vs us ws (refused (firstOf (readTests k e s (length us) (length ws))))
 
-  -- the number is that of the first test that applies
-  number-of : readStrict 0 s ts vs .answer .number ≡ firstOf (recordTests s) .number
+  number-of : readWith k e s ts vs .answer .number ≡ firstOf (recordTests k e s) .number
   unfolding readWith
   number-of =
-      ap (λ (f : Refusal). cond (refused f) (refusalAnswer f ts vs) (recordAnswer strictRatios s ts vs) .answer .number) (roomy-tests s (length ts) (length vs) a b)
-      ∙ go (firstOf (recordTests s) .number) refl
-    where
-      go : (x : ℕ) → firstOf (recordTests s) .number ≡ x
-          → cond (not (eqb (firstOf (recordTests s) .number) 0)) (refusalAnswer (firstOf (recordTests s)) ts vs) (recordAnswer strictRatios s ts vs) .answer .number ≡ firstOf (recordTests s) .number
-      go zero q = ap (λ (t : Bool). cond (not t) (refusalAnswer (firstOf (recordTests s)) ts vs) (recordAnswer strictRatios s ts vs) .answer .number) (eq-eqb _ 0 q) ∙ sym q
-      go (suc x) q = ap (λ (t : Bool). cond (not t) (refusalAnswer (firstOf (recordTests s)) ts vs) (recordAnswer strictRatios s ts vs) .answer .number) (ne-eqb (firstOf (recordTests s) .number) 0 (λ (z : firstOf (recordTests s) .number ≡ 0). omega arith))
+      answer-number (readTests k e s (length ts) (length vs)) (recordAnswer k s ts vs) ts vs refl
+      ∙ ap (λ (f : Refusal). f .number) (roomy-tests k e s (length ts) (length vs) a b)
 
-  pub not-expected : readStrict 0 s ts vs .answer .number ≡ 14 → ⊥
-  not-expected e = first-never 14 (lit< tt) (recordTests s) (never-expected s) (sym number-of ∙ e)
+  pub never-sixteen : readWith k e s ts vs .answer .number ≡ 16 → ⊥
+  never-sixteen z = firstOf-never 16 (lit< tt) (recordTests k e s) (record-never-sixteen k e s) (sym number-of ∙ z)
 
-  pub not-roomless : readStrict 0 s ts vs .answer .number ≡ 16 → ⊥
-  not-roomless e = first-never 16 (lit< tt) (recordTests s) (never-roomless s) (sym number-of ∙ e)
+pub never-fourteen : (k : ℕ → List ℕ → Option (List ℕ)) (s ts vs : List ℕ) → maxPoints ≤ length ts → maxPoints ≤ length vs → readWith k 0 s ts vs .answer .number ≡ 14 → ⊥
+never-fourteen k s ts vs a b z = firstOf-never 14 (lit< tt) (recordTests k 0 s) (record-never-fourteen k s) (sym (number-of k 0 s ts vs a b) ∙ z)

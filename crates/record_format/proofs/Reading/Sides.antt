@@ -16,7 +16,7 @@ use Rattle.bits.proofs.Digits.{length-digits, number-digits-lt}
 use Rattle.limits.specs.Sides.{maxSide, isSide}
 use Rattle.limits.proofs.Sides.{side-range, side-in}
 use Rattle.refusals.specs.Tests.{Test, test, firstOf}
-use Rattle.refusals.proofs.Tests.{first-skip, first-clear}
+use Rattle.refusals.proofs.Tests.{firstOf-skip, firstOf-clear}
 use borrow.Author.Tests.{not-false}
 use Rattle.record_format.specs.Fields.{Field, fieldOf, bodyAt, nextAt, fieldTests}
 use Rattle.record_format.specs.Runs.{sideTag, countTag, sideSize, sideFields}
@@ -89,7 +89,7 @@ module _ (s : List ℕ) (c : Field) (counts : c .tag ≡ countTag) where
       let e = present-side s (a-side _ (h .0)) in
       ap (λ (l : List Test). firstOf (l ++ ts)) (present-tests s (a-side _ (h .0)))
       ∙ field-passes (h .0) (sideTag ∷ []) (some sideSize) (test (not (isSide (stored s))) 20 (sideAt s) ∷ ts) refl (length-digits 256 sideSize (suc n))
-      ∙ first-skip _ _ (ap not (side-in (stored s) (omega (arith, e, stand-side (suc n) m h k)) (omega (arith, e, stand-side (suc n) m h k))))
+      ∙ firstOf-skip _ _ (ap not (side-in (stored s) (omega (arith, e, stand-side (suc n) m h k)) (omega (arith, e, stand-side (suc n) m h k))))
 
 -- ---- in any bytes that its tests do not refuse
 
@@ -105,18 +105,18 @@ side-clear s ts clear = go (hasSide s) refl
     go true e =
         let h = field-clear s (sideTag ∷ []) (some sideSize) (sideAt s) (test (not (isSide (stored s))) 20 (sideAt s) ∷ ts)
         (sym (ap (λ (l : List Test). firstOf (l ++ ts) .number) (present-tests s e)) ∙ clear) in
-        let i = first-clear _ _ (lit< tt) (h .1) in
+        let i = firstOf-clear _ _ (lit< tt) (h .1) in
         (inr (e, h .0, not-false _ (i .0)), i .1)
 
 -- then it is the field of a side, and the count's stands past it
 pub record SideFollows (s : List ℕ) (n : ℕ) : Type 0 where
   pub follows : Follow s (sideAt s) (sideFields n)
-  pub past : pastAll s (sideAt s) (sideFields n) ≡ countAt s
+  pub then-count : pastAll s (sideAt s) (sideFields n) ≡ countAt s
   pub sided : n ≤ maxSide
 
 pub side-follows : (s : List ℕ) → Below 256 s → SideSound s → SideFollows s (sideIn s)
 side-follows s bytes (inl e) =
-    subst (SideFollows s) (sym (absent-side s e)) (record { follows = tt; past = sym (absent-count s e); sided = omega arith })
+    subst (SideFollows s) (sym (absent-side s e)) (record { follows = tt; then-count = sym (absent-count s e); sided = omega arith })
 side-follows s bytes (inr h) = subst (SideFollows s) (sym (present-side s (h .0))) (go (stored s) refl)
   where
     range : (1 ≤ stored s) × (stored s ≤ maxSide)
@@ -128,7 +128,7 @@ side-follows s bytes (inr h) = subst (SideFollows s) (sym (present-side s (h .0)
         rw q
         (record {
           follows = (sound-follows bytes (h .1) (bytesOf sideSize (suc n)) (sound-number bytes (h .1) ∙ ap (bytesOf sideSize) q), tt);
-          past = sym (present-count s (h .0));
+          then-count = sym (present-count s (h .0));
           sided = omega (arith, range .1);
         })
 

@@ -13,15 +13,15 @@ use Rattle.lists.proofs.Compare.{both-true}
 use Rattle.limits.specs.Points.{maxPoints}
 use Rattle.outputs.specs.Outputs.{over, Filled}
 use Rattle.refusals.specs.declared.Refusal.{Refusal}
-use Rattle.refusals.specs.Tests.{Test, test, firstOf}
-use Rattle.refusals.proofs.Tests.{first-here, first-skip, first-end}
+use Rattle.refusals.specs.Tests.{Test, test, refusal, firstOf}
+use Rattle.refusals.proofs.Tests.{firstOf-here, firstOf-skip, firstOf-end}
 use Rattle.position_format.specs.declared.Form.{Form}
 use Rattle.position_format.specs.Positions.{readPositions}
 use Rattle.position_format.specs.Tables.{tableOf, pointsOf}
 use Rattle.record_format.specs.Fields.{headSize, tagAt, lengthAt, bodyAt, nextAt, headTests, fieldTests}
 use Rattle.record_format.specs.Runs.{positionsTags}
 use Rattle.record_format.specs.Reading.{missing, listOf, countAt, positionsAt, countIn, formIn, positionsTests}
-use Rattle.record_format.proofs.Reading.{refusal, positions-few, positions-many, many-tag}
+use Rattle.record_format.proofs.Reading.{positions-few, positions-many, many-tag}
 use Rattle.record_parts.specs.declared.field.Field.{Field}
 use Rattle.record_parts.specs.Fields.{PartRead, FieldRead, CodedRead}
 use Rattle.record_parts.proofs.Fields.{part-refused, part-first, part-then, part-both, field-numbered}
@@ -43,9 +43,14 @@ codedTests s tags k x p = fieldTests s tags none p ++ (test (missing (k (bodyAt 
 part-as : (us ts : List Test) (s : List ℕ) (p : ℕ) (f : Refusal) (e : ℕ) → firstOf us ≡ firstOf ts → PartRead ts s p f e → PartRead us s p f e
 part-as us ts s p f e same h = record { refuses = h .refuses ∙ sym same; next = h .next; inside = h .inside; near = h .near }
 
--- the field at the offset p, by its tests and its body, where the tests us give the same refusal as these
-module _ (us : List Test) (tags : List ℕ) (k : List ℕ → Option (List ℕ)) (x : ℕ) (some-number : x ≡ 0 → ⊥) (s : List ℕ) (p : ℕ)
-    (same : firstOf us ≡ firstOf (codedTests s tags k x p)) (f : Field) (h : FieldRead (fieldTests s tags none p) s p f) where
+-- the field at the offset p that is read, where the tests us give the same refusal as its own
+pub record CodedField (us : List Test) (tags : List ℕ) (k : List ℕ → Option (List ℕ)) (x : ℕ) (s : List ℕ) (p : ℕ) (f : Field) : Type 0 where
+  pub numbered : x ≡ 0 → ⊥
+  pub same : firstOf us ≡ firstOf (codedTests s tags k x p)
+  pub read : FieldRead (fieldTests s tags none p) s p f
+
+-- by its tests and its body
+module _ {us : List Test} {tags : List ℕ} {k : List ℕ → Option (List ℕ)} {x : ℕ} {s : List ℕ} {p : ℕ} {f : Field} (h : CodedField us tags k x s p f) where
   abbrev fs : List Test
   fs = fieldTests s tags none p
 
@@ -54,23 +59,23 @@ module _ (us : List Test) (tags : List ℕ) (k : List ℕ → Option (List ℕ))
 
   pub coded-refused : (o q : List ℕ) → (f .refusal .number ≡ 0 → ⊥) → CodedRead us k s p (record { refusal = f .refusal; end = 0 }) o q
   coded-refused o q d = record {
-    part = part-refused us s p (f .refusal) 0 d (part-first fs ts s p (f .refusal) (f .to) (field-numbered s tags none p) (h .part) d .refuses ∙ sym same);
+    part = part-refused us s p (f .refusal) 0 d (part-first fs ts s p (f .refusal) (f .to) (field-numbered s tags none p) (h .read .part) d .refuses ∙ sym (h .same));
     filled = λ z. absurd (d z);
   }
 
   module _ (clear : f .refusal .number ≡ 0) where
     pub body-order : f .from ≤ f .to
     unfolding nextAt
-    body-order = omega (arith, h .from clear, h .part .next clear)
+    body-order = omega (arith, h .read .from clear, h .read .part .next clear)
 
     pub body-inside : f .to ≤ length s
-    body-inside = omega (arith, h .part .next clear, h .part .inside clear)
+    body-inside = omega (arith, h .read .part .next clear, h .read .part .inside clear)
 
     body-lent : take (f .to - f .from) (drop (f .from) s) ≡ bodyAt s p
     unfolding bodyAt nextAt
     body-lent =
-        let e : f .to - f .from ≡ lengthAt s p = omega (arith, h .from clear, h .part .next clear) in
-        ap₂ (λ (n m : ℕ). take n (drop m s)) e (h .from clear)
+        let e : f .to - f .from ≡ lengthAt s p = omega (arith, h .read .from clear, h .read .part .next clear) in
+        ap₂ (λ (n m : ℕ). take n (drop m s)) e (h .read .from clear)
 
     module _ (b : Bool) (o q : List ℕ) (got : Filled (k (take (f .to - f .from) (drop (f .from) s))) b o q) where
       got-body : Filled (k (bodyAt s p)) b o q
@@ -78,25 +83,25 @@ module _ (us : List Test) (tags : List ℕ) (k : List ℕ → Option (List ℕ))
 
       pub coded-none : b ≡ false → CodedRead us k s p (record { refusal = refusal x p; end = 0 }) o q
       coded-none e =
-          let g = sym (first-here _ _ (filled-none (k (bodyAt s p)) b o q got-body e)) in
+          let g = sym (firstOf-here _ _ (filled-none (k (bodyAt s p)) b o q got-body e)) in
           record {
-            part = part-as us (fs ++ ts) s p (refusal x p) 0 same
-                (part-then fs ts s p (f .refusal) (f .to) (field-numbered s tags none p) (h .part) clear (refusal x p) 0 g some-number);
-            filled = λ z. absurd (some-number z);
+            part = part-as us (fs ++ ts) s p (refusal x p) 0 (h .same)
+                (part-then fs ts s p (f .refusal) (f .to) (field-numbered s tags none p) (h .read .part) clear (refusal x p) 0 g (h .numbered));
+            filled = λ z. absurd (h .numbered z);
           }
 
       pub coded-found : b ≡ true → CodedRead us k s p (record { refusal = f .refusal; end = f .to }) o q
       coded-found e =
           let g = filled-some (k (bodyAt s p)) b o q got-body e in
           record {
-            part = part-as us (fs ++ ts) s p (f .refusal) (f .to) same
-                (part-both fs ts s p (f .refusal) (f .to) (field-numbered s tags none p) (h .part) clear (first-skip _ _ (g .0) ∙ first-end));
+            part = part-as us (fs ++ ts) s p (f .refusal) (f .to) (h .same)
+                (part-both fs ts s p (f .refusal) (f .to) (field-numbered s tags none p) (h .read .part) clear (firstOf-skip _ _ (g .0) ∙ firstOf-end));
             filled = λ _. g .1;
           }
 
 -- a cut head decides, whatever tests follow
 head-cut : (s tags : List ℕ) (p : ℕ) (us ts : List Test) → ltb (length s) (p + headSize) ≡ true → firstOf (headTests s tags p ++ us) ≡ firstOf (headTests s tags p ++ ts)
-head-cut s tags p us ts cut = first-here _ _ cut ∙ sym (first-here _ _ cut)
+head-cut s tags p us ts cut = firstOf-here _ _ cut ∙ sym (firstOf-here _ _ cut)
 
 -- ---- the positions' field, by whether its head is whole and its form has fewer points than the count
 

@@ -15,17 +15,17 @@ use Rattle.limits.specs.Points.{maxPoints}
 use Rattle.limits.specs.Rates.{isRate}
 use Rattle.limits.specs.Sides.{isSide}
 use Rattle.refusals.specs.declared.Refusal.{Refusal}
-use Rattle.refusals.specs.Tests.{Test, test, firstOf, noRefusal}
-use Rattle.refusals.proofs.Tests.{first-here, first-skip, first-clear, first-end, first-append-none, first-append-some}
+use Rattle.refusals.specs.Tests.{Test, test, refusal, firstOf, noRefusal}
+use Rattle.refusals.proofs.Tests.{firstOf-here, firstOf-skip, firstOf-clear, firstOf-end, firstOf-append-none, firstOf-append-some}
 use Rattle.record_format.specs.Fields.{bodyAt, nextAt, fieldTests}
 use Rattle.record_format.specs.Runs.{rateTag, sideTag, countTag, rateSize, sideSize, countSize}
 use Rattle.record_format.specs.Reading.{rateAt, sideAt, hasSide, countAt, rateIn, countIn, otherRate, rateTests, sideTests, countTests, frontTests}
-use Rattle.record_format.proofs.Reading.{refusal, field-clear, side-numbered}
+use Rattle.record_format.proofs.Reading.{field-clear, side-numbered}
 use Rattle.record_format.proofs.Reading.Sides.{absent-count, absent-side, absent-tests, present-count, present-side, present-tests}
 use Rattle.record_parts.specs.declared.field.Field.{Field}
 use Rattle.record_parts.specs.declared.front.Number.{Number}
 use Rattle.record_parts.specs.declared.front.Front.{Front}
-use Rattle.record_parts.specs.Fields.{farthest, PartRead, FieldRead, NumberRead, SideRead, CountFound, FrontRead}
+use Rattle.record_parts.specs.Fields.{farthest, PartRead, FieldRead, NumberRead, SideRead, noFront, FrontFound, FrontRead}
 use Rattle.record_parts.proofs.Fields.{part-refused, part-first, part-then, part-both, field-numbered, number-is}
 
 -- ---- a number
@@ -85,25 +85,25 @@ module _ (e : ℕ) (s : List ℕ) (f : Number) (h : NumberRead rateSize (fieldTe
 
     pub rate-unlisted : (r : Number) → r ≡ record { refusal = refusal 13 rateAt; value = 0; end = 0 } → isRate (f .value) ≡ false → NumberRead rateSize (rateTests e s) s rateAt r
     rate-unlisted r q b =
-        contents-refused s rateTag rateSize rateAt (rate-contents (rateIn s)) f h clear r 13 q (λ z. omega arith) (sym (as-read ∙ first-here _ _ (ap not b)))
+        contents-refused s rateTag rateSize rateAt (rate-contents (rateIn s)) f h clear r 13 q (λ z. omega arith) (sym (as-read ∙ firstOf-here _ _ (ap not b)))
 
     module _ (listed : isRate (f .value) ≡ true) where
       pub rate-other : (r : Number) → r ≡ record { refusal = refusal 14 rateAt; value = 0; end = 0 } → otherRate e (f .value) ≡ true → NumberRead rateSize (rateTests e s) s rateAt r
       rate-other r q b =
           contents-refused s rateTag rateSize rateAt (rate-contents (rateIn s)) f h clear r 14 q (λ z. omega arith)
-          (sym (as-read ∙ first-skip _ _ (ap not listed) ∙ first-here _ _ b))
+          (sym (as-read ∙ firstOf-skip _ _ (ap not listed) ∙ firstOf-here _ _ b))
 
       pub rate-good : otherRate e (f .value) ≡ false → NumberRead rateSize (rateTests e s) s rateAt f
       rate-good b =
           contents-good s rateTag rateSize rateAt (rate-contents (rateIn s)) f h clear
-          (as-read ∙ first-skip _ _ (ap not listed) ∙ first-skip _ _ b ∙ first-end)
+          (as-read ∙ firstOf-skip _ _ (ap not listed) ∙ firstOf-skip _ _ b ∙ firstOf-end)
 
 -- ---- the side, at the offset p, if there is one
 
 -- there is none
 pub side-absent : (s : List ℕ) (p : ℕ) → p ≡ sideAt s → p ≤ length s → hasSide s ≡ false → SideRead s (record { refusal = noRefusal; value = 0; end = p })
 side-absent s p at inside e = record {
-  refuses = sym (ap firstOf (absent-tests s e) ∙ first-end);
+  refuses = sym (ap firstOf (absent-tests s e) ∙ firstOf-end);
   value = λ _. sym (absent-side s e);
   small = lit< tt;
   next = λ _. at ∙ sym (absent-count s e);
@@ -143,10 +143,10 @@ module _ (s : List ℕ) (p : ℕ) (at : p ≡ sideAt s) (present : hasSide s ≡
     sided = ap (λ (n : ℕ). firstOf (side-contents p n)) (sym (h .value clear))
 
     pub side-other : (r : Number) → r ≡ record { refusal = refusal 20 p; value = 0; end = 0 } → isSide (f .value) ≡ false → SideRead s r
-    side-other r q b = as-side r (contents-refused s sideTag sideSize p found f h clear r 20 q (λ z. omega arith) (sym (sided ∙ first-here _ _ (ap not b))))
+    side-other r q b = as-side r (contents-refused s sideTag sideSize p found f h clear r 20 q (λ z. omega arith) (sym (sided ∙ firstOf-here _ _ (ap not b))))
 
     pub side-good : isSide (f .value) ≡ true → SideRead s f
-    side-good b = as-side f (contents-good s sideTag sideSize p found f h clear (sided ∙ first-skip _ _ (ap not b) ∙ first-end))
+    side-good b = as-side f (contents-good s sideTag sideSize p found f h clear (sided ∙ firstOf-skip _ _ (ap not b) ∙ firstOf-end))
 
 -- ---- the count, at the offset p
 
@@ -170,17 +170,14 @@ module _ (s : List ℕ) (p : ℕ) (at : p ≡ countAt s) (f : Number) (h : Numbe
 
     pub count-many : (r : Number) → r ≡ record { refusal = refusal 15 p; value = 0; end = 0 } → maxPoints < f .value → NumberRead countSize (countTests s) s p r
     count-many r q l =
-        moved r (contents-refused s countTag countSize p _ f h clear r 15 q (λ z. omega arith) (sym (counted ∙ first-here _ _ (lt-ltb _ _ l))))
+        moved r (contents-refused s countTag countSize p _ f h clear r 15 q (λ z. omega arith) (sym (counted ∙ firstOf-here _ _ (lt-ltb _ _ l))))
 
     pub count-good : f .value ≤ maxPoints → NumberRead countSize (countTests s) s p f
-    count-good l = moved f (contents-good s countTag countSize p _ f h clear (counted ∙ first-skip _ _ (le-ltb _ _ l) ∙ first-end))
+    count-good l = moved f (contents-good s countTag countSize p _ f h clear (counted ∙ firstOf-skip _ _ (le-ltb _ _ l) ∙ firstOf-end))
 
 -- ---- all three
 
 -- of a refused front nothing else is said
-abbrev noFront : Refusal → Front
-noFront g = record { refusal = g; rate = 0; side = 0; count = 0; place = 0; end = 0 }
-
 front-none : (e : ℕ) (s : List ℕ) (r : Front) (g : Refusal) → r ≡ noFront g → (g .number ≡ 0 → ⊥) → g ≡ firstOf (frontTests e s) → FrontRead e s r
 front-none e s r g i d q =
     subst (FrontRead e s) (sym i)
@@ -194,20 +191,20 @@ module _ (e : ℕ) (s : List ℕ) (f : Number) (h : NumberRead rateSize (rateTes
   pub front-rate : (r : Front) → r ≡ noFront (f .refusal) → (f .refusal .number ≡ 0 → ⊥) → FrontRead e s r
   front-rate r q d =
       front-none e s r (f .refusal) q d
-      (h .part .refuses ∙ sym (first-append-some (rateTests e s) (sideTests s ++ countTests s) (λ z. d (numbers (h .part .refuses) ∙ z))))
+      (h .part .refuses ∙ sym (firstOf-append-some (rateTests e s) (sideTests s ++ countTests s) (λ z. d (numbers (h .part .refuses) ∙ z))))
 
   module _ (clear : f .refusal .number ≡ 0) (d : Number) (i : SideRead s d) where
     past-rate : firstOf (frontTests e s) ≡ firstOf (sideTests s ++ countTests s)
-    past-rate = first-append-none (rateTests e s) (sideTests s ++ countTests s) refl (sym (numbers (h .part .refuses)) ∙ clear)
+    past-rate = firstOf-append-none (rateTests e s) (sideTests s ++ countTests s) refl (sym (numbers (h .part .refuses)) ∙ clear)
 
     pub front-side : (r : Front) → r ≡ noFront (d .refusal) → (d .refusal .number ≡ 0 → ⊥) → FrontRead e s r
     front-side r q n =
         front-none e s r (d .refusal) q n
-        (i .refuses ∙ sym (past-rate ∙ first-append-some (sideTests s) (countTests s) (λ z. n (numbers (i .refuses) ∙ z))))
+        (i .refuses ∙ sym (past-rate ∙ firstOf-append-some (sideTests s) (countTests s) (λ z. n (numbers (i .refuses) ∙ z))))
 
     module _ (sided : d .refusal .number ≡ 0) (g : Number) (k : NumberRead countSize (countTests s) s (d .end) g) where
       past-side : firstOf (frontTests e s) ≡ firstOf (countTests s)
-      past-side = past-rate ∙ first-append-none (sideTests s) (countTests s) (side-numbered s) (sym (numbers (i .refuses)) ∙ sided)
+      past-side = past-rate ∙ firstOf-append-none (sideTests s) (countTests s) (side-numbered s) (sym (numbers (i .refuses)) ∙ sided)
 
       pub front-count : (r : Front) → r ≡ noFront (g .refusal) → (g .refusal .number ≡ 0 → ⊥) → FrontRead e s r
       front-count r q n = front-none e s r (g .refusal) q n (k .part .refuses ∙ sym past-side)
@@ -215,7 +212,7 @@ module _ (e : ℕ) (s : List ℕ) (f : Number) (h : NumberRead rateSize (rateTes
       few-in : g .refusal .number ≡ 0 → countIn s ≤ maxPoints
       few-in z =
           let c = field-clear s (countTag ∷ []) (some countSize) (countAt s) (count-contents (countAt s) (countIn s)) (sym (numbers (k .part .refuses)) ∙ z) in
-          ltb-false maxPoints (countIn s) (first-clear _ _ (lit< tt) (c .1) .0)
+          ltb-false maxPoints (countIn s) (firstOf-clear _ _ (lit< tt) (c .1) .0)
 
       pub front-found : g .refusal .number ≡ 0
           → FrontRead e s (record { refusal = g .refusal; rate = f .value; side = d .value; count = g .value; place = d .end; end = g .end })
@@ -228,18 +225,16 @@ module _ (e : ℕ) (s : List ℕ) (f : Number) (h : NumberRead rateSize (rateTes
             found = λ _. record {
               rate = h .value clear;
               side = i .value sided;
-              count = record {
-                counted = counted;
-                few = few-in z;
-                stands = at;
-                next = k .part .next z ∙ next;
-                inside = subst (λ (q : ℕ). q ≤ length s) next (k .part .inside z);
-                near = omega (arith, h .part .near clear, i .near sided, k .part .near z, next, at);
-              };
+              counted = counted;
+              few = few-in z;
+              stands = at;
+              next = k .part .next z ∙ next;
+              inside = subst (λ (q : ℕ). q ≤ length s) next (k .part .inside z);
+              near = omega (arith, h .part .near clear, i .near sided, k .part .near z, next, at);
             };
           }
 
 -- the count's field begins before it ends
-pub place-near : {s : List ℕ} {count place at : ℕ} → CountFound s count place at → place ≤ farthest 3
+pub place-near : {s : List ℕ} {f : Front} → FrontFound s f → f .place ≤ farthest 3
 unfolding nextAt
 place-near h = omega (arith, h .stands, h .near)

@@ -10,6 +10,7 @@ use Rattle.bits.specs.Digits.{bytesOf}
 use Rattle.outputs.specs.Outputs.{over, overAt, Placed, Next}
 use Rattle.bits.proofs.Digits.{length-digits}
 use Rattle.outputs.proofs.Outputs.Parts.{rest-is, put-rest}
+use Rattle.outputs.proofs.Outputs.Writers.{next-short}
 use Rattle.outputs.specs.declared.Wrote.{Wrote}
 use Rattle.outputs.specs.declared.Wrote.the-variants.{Done, NoRoom}
 use Rattle.record_format.specs.Fields.{Field, fieldOf, headSize, fieldBytes, laid}
@@ -97,6 +98,10 @@ module _ (tag : ℕ) (body o q : List ℕ) (w : Wrote) (h : headSize ≤ length 
 
 pub fields-next : (fs gs all : List Field) → all ≡ fs ++ gs → (w v : Wrote) (o p q : List ℕ) → Next (laid gs) w v p q → Placed (laid fs) w o p → Placed (laid all) v o q
 fields-next fs gs all is w v o p q next put = subst (λ (l : List ℕ). Placed l v o q) (sym (ap laid is ∙ laid-append fs gs)) (next (laid fs) o put)
+
+-- no room for the first
+pub fields-short : (fs gs all : List Field) → all ≡ fs ++ gs → (w : Wrote) (o p : List ℕ) → w ≡ NoRoom → Placed (laid fs) w o p → length o < length (laid all)
+fields-short fs gs all is w o p e put = subst (λ (l : List ℕ). length o < length l) (sym (ap laid is ∙ laid-append fs gs)) (next-short (laid gs) p w e (laid fs) o put)
 
 -- ---- the side's field, if there is one
 

@@ -4,20 +4,27 @@ use Rattle.text.proofs.Numbers.Absolute.{up-fits, down-fits, cast-fits,
 use Rattle.text.proofs.magnitude.Statement.{statement}
 use Rattle.text.proofs.magnitude.Tie as tie
 
+-- ---- places
+
+abbrev start : tie.Then1 → tie.Start
+start k = k .before
+
+-- ---- the needs
+
 add-result : tie.Need-add-result
-add-result c = up-fits (c .before .args .z) (c .before .fits .z) (c .if1 .taken)
+add-result c = let s = start c in up-fits (s .args .z) (s .fits .z) (c .if1 .taken)
 
 sub-result : tie.Need-sub-result
-sub-result c = down-fits (c .before .args .z) (c .before .fits .z) (c .if1 .taken)
+sub-result c = let s = start c in down-fits (s .args .z) (s .fits .z) (c .if1 .taken)
 
 cast-result : tie.Need-cast-result
-cast-result c = cast-fits (c .before .args .z) (c .before .fits .z) (c .if1 .taken)
+cast-result c = let s = start c in cast-fits (s .args .z) (s .fits .z) (c .if1 .taken)
 
 add-result-2 : tie.Need-add-result-2
-add-result-2 c = sum-fits (c .before .args .z) (c .before .fits .z) (c .if1 .taken)
+add-result-2 c = let s = start c in sum-fits (s .args .z) (s .fits .z) (c .if1 .taken)
 
 returns : tie.Need-returns
-returns c = sum-is (c .before .args .z) (c .before .fits .z) (c .if1 .taken)
+returns c = let s = start c in sum-is (s .args .z) (s .fits .z) (c .if1 .taken)
 
 cast-result-2 : tie.Need-cast-result-2
 cast-result-2 c = plain-fits (c .before .args .z) (c .before .fits .z) (c .if1 .left)

@@ -1,6 +1,6 @@
 -- `text::put_bits` meets its contract: a space, and the digits.
 use native.Mathlib.Omega.{arith}
-use Rattle.text.proofs.PlacedAt.{put-put}
+use Rattle.text.proofs.PlacedAt.{placed-then}
 use borrow.Author.Needs.{needs}
 use Rattle.text.proofs.put_bits.Statement.{statement}
 use Rattle.text.proofs.put_bits.Tie as tie
@@ -27,7 +27,7 @@ same-length c = search needs
 returns : tie.Need-returns
 returns c =
     let digits = c .before .before in
-    put-put (omega arith) (space-put digits .put-text .ensures) (digits .put-hex .ensures)
+    placed-then (omega arith) (space-put digits .put-text .ensures) (digits .put-hex .ensures)
 
 pub put-bits-spec : {M : Type 1} → statement M
 put-bits-spec =

@@ -4,7 +4,7 @@ use lib.ListN.{length}
 use Rattle.text.specs.Numbers.{decimal}
 use Rattle.text.proofs.Numbers.{decimal-fewest}
 use Rattle.text.proofs.Numbers.Lengths.{length-decimal}
-use Rattle.text.proofs.PlacedAt.{digits-room, put-digits}
+use Rattle.text.proofs.PlacedAt.{digits-room, placed-digits}
 use Rattle.text.proofs.put_decimal.Statement.{statement}
 use Rattle.text.proofs.put_decimal.Tie as tie
 
@@ -35,7 +35,7 @@ returns c =
     let text = c .before .before in
     let digits = text .before .before .before in
     let n = start digits .args .n in
-    put-digits 10 1 20 n (digits .decimal .result) (decimal n) (digits .decimal .last .1 .0) (decimal-fewest (start digits .fits .n .fits)) (length-decimal n) (digits .decimal .ensures .1) (text .put-text .ensures)
+    placed-digits 10 1 20 n (digits .decimal .result) (decimal n) (digits .decimal .last .1 .0) (decimal-fewest (start digits .fits .n .fits)) (length-decimal n) (digits .decimal .ensures .1) (text .put-text .ensures)
 
 pub put-decimal-spec : {M : Type 1} → statement M
 put-decimal-spec =

@@ -5,7 +5,7 @@ use lib.ListN.{length}
 use Rattle.text.specs.Numbers.{hex16}
 use Rattle.text.proofs.Numbers.{hex-fewest}
 use Rattle.text.proofs.Numbers.Lengths.{length-hex}
-use Rattle.text.proofs.PlacedAt.{digits-room, put-digits}
+use Rattle.text.proofs.PlacedAt.{digits-room, placed-digits}
 use Rattle.text.proofs.put_hex.Statement.{statement}
 use Rattle.text.proofs.put_hex.Tie as tie
 
@@ -36,7 +36,7 @@ returns c =
     let text = c .before .before in
     let digits = text .before .before .before in
     let v = start digits .args .v in
-    put-digits 16 16 16 v (digits .hex .result) (hex16 v) (digits .hex .last .1 .1 .0) (hex-fewest (start digits .fits .v .fits)) (omega (arith, length-hex v)) (digits .hex .ensures .1) (text .put-text .ensures)
+    placed-digits 16 16 16 v (digits .hex .result) (hex16 v) (digits .hex .last .1 .1 .0) (hex-fewest (start digits .fits .v .fits)) (omega (arith, length-hex v)) (digits .hex .ensures .1) (text .put-text .ensures)
 
 pub put-hex-spec : {M : Type 1} → statement M
 put-hex-spec =

@@ -1,6 +1,6 @@
 -- `text::put_numbered` meets its contract: the word, and the number.
 use native.Mathlib.Omega.{arith}
-use Rattle.text.proofs.PlacedAt.{put-put}
+use Rattle.text.proofs.PlacedAt.{placed-then}
 use borrow.Author.Needs.{needs}
 use Rattle.text.proofs.put_numbered.Statement.{statement}
 use Rattle.text.proofs.put_numbered.Tie as tie
@@ -24,7 +24,7 @@ same-length c = search needs
 returns : tie.Need-returns
 returns c =
     let number = c .before .before in
-    put-put (omega arith) (word-put number .put-text .ensures) (number .put-decimal .ensures)
+    placed-then (omega arith) (word-put number .put-text .ensures) (number .put-decimal .ensures)
 
 pub put-numbered-spec : {M : Type 1} → statement M
 put-numbered-spec = tie.close (tie.spec put-text-requires put-decimal-requires same-length returns)

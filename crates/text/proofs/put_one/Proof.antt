@@ -1,7 +1,7 @@
 -- `text::put_one` meets its contract: the word with its number, and the line's end.
 use native.Mathlib.Omega.{arith}
 use Rattle.text.specs.Numbers.{decimal}
-use Rattle.text.proofs.PlacedAt.{put-more, put-parts}
+use Rattle.text.proofs.PlacedAt.{placed-within, placed-parts}
 use borrow.Author.Needs.{needs}
 use Rattle.text.proofs.put_one.Statement.{statement}
 use Rattle.text.proofs.put_one.Tie as tie
@@ -30,7 +30,7 @@ returns c =
     let end = c .before .before in
     let number = numbered end in
     let a = start number .args in
-    put-more (omega arith) (put-parts (a .word .now) (decimal (a .n)) (omega arith) (number .put-numbered .ensures) (end .put-newline .ensures))
+    placed-within (omega arith) (placed-parts (a .word .now) (decimal (a .n)) (omega arith) (number .put-numbered .ensures) (end .put-newline .ensures))
 
 pub put-one-spec : {M : Type 1} → statement M
 put-one-spec = tie.close (tie.spec put-numbered-requires put-newline-requires same-length returns)

@@ -7,9 +7,25 @@ use borrow.Author.Needs.{needs}
 use Rattle.text.specs.Numbers.{decimal}
 use Rattle.text.proofs.Numbers.Absolute.{signed-negative, signed-plain}
 use Rattle.text.proofs.Numbers.Lengths.{length-signed}
-use Rattle.text.proofs.PlacedAt.{put-as, put-put}
+use Rattle.text.proofs.PlacedAt.{placed-as, placed-then}
 use Rattle.text.proofs.put_signed.Statement.{statement}
 use Rattle.text.proofs.put_signed.Tie as tie
+
+-- ---- places: the sign, the test of it and the start, as later places see them
+
+abbrev sign : tie.After-put-decimal → tie.After-put-text
+sign k = k .before .before .before .before
+
+abbrev negative : tie.After-put-text → tie.Then1
+negative k = k .before .before .before
+
+abbrev plain : tie.After-put-decimal2 → tie.Else1
+plain k = k .before .before
+
+abbrev start : tie.After-magnitude → tie.Start
+start k = k .before .before
+
+-- ---- the needs
 
 magnitude-requires : tie.Need-magnitude-requires
 magnitude-requires c κs = search needs
@@ -29,11 +45,11 @@ same-length c = search needs
 returns : tie.Need-returns
 returns c =
     let number = c .before .before in
-    let minus = number .before .before .before .before in
-    let test = minus .before .before .before in
-    let start = test .before .before .before in
-    put-as (length-signed (start .args .z)) (ap (λ (n : ℕ). 45 ∷ decimal n) (test .before .magnitude .ensures) ∙ sym (signed-negative (start .args .z) (start .fits .z) (test .if1 .taken)))
-    (put-put (omega arith) (minus .put-text .ensures) (number .put-decimal .ensures))
+    let minus = sign number in
+    let test = negative minus in
+    let s = start (test .before) in
+    placed-as (length-signed (s .args .z)) (ap (λ (n : ℕ). 45 ∷ decimal n) (test .before .magnitude .ensures) ∙ sym (signed-negative (s .args .z) (s .fits .z) (test .if1 .taken)))
+    (placed-then (omega arith) (minus .put-text .ensures) (number .put-decimal .ensures))
 
 put-decimal-requires-2 : tie.Need-put-decimal-requires-2
 put-decimal-requires-2 c κs = search needs
@@ -44,9 +60,9 @@ same-length-2 c = search needs
 returns-2 : tie.Need-returns-2
 returns-2 c =
     let number = c .before .before in
-    let test = number .before .before in
-    let start = test .before .before .before in
-    put-as (length-signed (start .args .z)) (ap decimal (test .before .magnitude .ensures) ∙ sym (signed-plain (start .args .z) (start .fits .z) (test .if1 .left)))
+    let test = plain number in
+    let s = start (test .before) in
+    placed-as (length-signed (s .args .z)) (ap decimal (test .before .magnitude .ensures) ∙ sym (signed-plain (s .args .z) (s .fits .z) (test .if1 .left)))
     (number .put-decimal2 .ensures)
 
 pub put-signed-spec : {M : Type 1} → statement M

@@ -4,7 +4,7 @@ use Prim.Native.Nat.{_-_, _≤_}
 use native.Mathlib.Omega.{arith}
 use lib.ListN.{length, length-set}
 use lib.Seq.{paste, paste-zero}
-use Rattle.text.proofs.PlacedAt.{copy-more, copied}
+use Rattle.text.proofs.PlacedAt.{copy-more, placed-copied}
 use Rattle.text.proofs.put_text.Statement.{statement}
 use Rattle.text.proofs.put_text.Tie as tie
 
@@ -13,6 +13,13 @@ Inv-loop out₀ at text i₀ out i = (i ≤ length text) × (length out ≡ leng
 
 abbrev μ-loop : tie.MeasureT-loop
 μ-loop out₀ at text i₀ out i = length text - i
+
+-- ---- places
+
+abbrev start : tie.At-loop Inv-loop μ-loop → tie.Start Inv-loop μ-loop
+start k = k .before
+
+-- ---- the needs
 
 loop-holds : tie.Need-loop-holds Inv-loop μ-loop
 loop-holds c = let a = c .args in (omega arith, refl, paste-zero (a .out .now) (a .at) (a .text .now))
@@ -35,8 +42,9 @@ loop-less c = omega arith
 loop-again : tie.Need-loop-again Inv-loop μ-loop
 loop-again c =
     let l = c .before .before .loop in
-    let a = c .before .before .before .args in
-    (omega arith, simp length-set (l .inv .1), copy-more (a .out .now) (l .out) (a .text .now) (a .at) (l .i) (c .before .before .before .pre) (c .before .loop-test .taken) (l .inv .2))
+    let s = start (c .before .before) in
+    let a = s .args in
+    (omega arith, simp length-set (l .inv .1), copy-more (a .out .now) (l .out) (a .text .now) (a .at) (l .i) (s .pre) (c .before .loop-test .taken) (l .inv .2))
 
 add-result : tie.Need-add-result Inv-loop μ-loop
 add-result c = omega arith
@@ -47,8 +55,8 @@ same-length c = c .before .loop .inv .1
 returns : tie.Need-returns Inv-loop μ-loop
 returns c =
     let l = c .before .loop in
-    let a = c .before .before .args in
-    copied (a .out .now) (l .out) (a .text .now) (a .at) (l .i) (omega arith) (l .inv .2)
+    let a = start (c .before) .args in
+    placed-copied (a .out .now) (l .out) (a .text .now) (a .at) (l .i) (omega arith) (l .inv .2)
 
 pub put-text-spec : {M : Type 1} → statement M
 put-text-spec =

@@ -1,7 +1,7 @@
 -- `text::put_three` meets its contract: the first word with its number, and then the other two with theirs.
 use native.Mathlib.Omega.{arith}
 use Rattle.text.specs.Numbers.{decimal}
-use Rattle.text.proofs.PlacedAt.{put-more, put-parts}
+use Rattle.text.proofs.PlacedAt.{placed-within, placed-parts}
 use borrow.Author.Needs.{needs}
 use Rattle.text.proofs.put_three.Statement.{statement}
 use Rattle.text.proofs.put_three.Tie as tie
@@ -11,11 +11,11 @@ use Rattle.text.proofs.put_three.Tie as tie
 abbrev numbered : tie.After-put-two → tie.After-put-numbered
 numbered k = k .before .before .before .before
 
-abbrev entry : tie.After-put-numbered → tie.After-slice-known
-entry k = k .before .before .before .before .before
+abbrev entry : tie.After-put-numbered → tie.After-shared-slice-known
+entry k = k .before .before .before .before
 
 abbrev start : tie.After-put-numbered → tie.Start
-start k = entry k .before
+start k = entry k .before .before
 
 -- ---- the needs
 
@@ -33,7 +33,7 @@ returns c =
     let rest = c .before .before in
     let first = numbered rest in
     let a = start first .args in
-    put-more (omega arith) (put-parts (a .first .now) (decimal (a .l)) (omega arith) (first .put-numbered .ensures) (rest .put-two .ensures))
+    placed-within (omega arith) (placed-parts (a .first .now) (decimal (a .l)) (omega arith) (first .put-numbered .ensures) (rest .put-two .ensures))
 
 pub put-three-spec : {M : Type 1} → statement M
 put-three-spec = tie.close (tie.spec put-numbered-requires put-two-requires same-length returns)

@@ -1,7 +1,7 @@
 -- `text::put_two` meets its contract: the first word with its number, and then the second with its own.
 use native.Mathlib.Omega.{arith}
 use Rattle.text.specs.Numbers.{decimal}
-use Rattle.text.proofs.PlacedAt.{put-more, put-parts}
+use Rattle.text.proofs.PlacedAt.{placed-within, placed-parts}
 use borrow.Author.Needs.{needs}
 use Rattle.text.proofs.put_two.Statement.{statement}
 use Rattle.text.proofs.put_two.Tie as tie
@@ -33,7 +33,7 @@ returns c =
     let rest = c .before .before in
     let first = numbered rest in
     let a = start first .args in
-    put-more (omega arith) (put-parts (a .first .now) (decimal (a .m)) (omega arith) (first .put-numbered .ensures) (rest .put-one .ensures))
+    placed-within (omega arith) (placed-parts (a .first .now) (decimal (a .m)) (omega arith) (first .put-numbered .ensures) (rest .put-one .ensures))
 
 pub put-two-spec : {M : Type 1} → statement M
 put-two-spec = tie.close (tie.spec put-numbered-requires put-one-requires same-length returns)

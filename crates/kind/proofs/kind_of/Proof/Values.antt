@@ -21,12 +21,12 @@ is-nan nan e = refl
 is-nan (inf s) e = cc
 is-nan (fin s m x) e = cc
 
-pub above : (n : ℕ) → infinity < n % 2 ^ 63 → ofBits binary64 n ≡ nan
-above n h = is-nan (ofBits binary64 n) (sym (nanBits-is binary64 n) ∙ nanBits-above binary64 n ∙ lt-ltb infinity (n % 2 ^ 63) h)
+pub value-above : (n : ℕ) → infinity < n % 2 ^ 63 → ofBits binary64 n ≡ nan
+value-above n h = is-nan (ofBits binary64 n) (sym (nanBits-is binary64 n) ∙ nanBits-above binary64 n ∙ lt-ltb infinity (n % 2 ^ 63) h)
 
-pub equal : (n : ℕ) → n % 2 ^ 63 ≡ infinity → ofBits binary64 n ≡ inf (leb (2 ^ 63) n)
+pub value-equal : (n : ℕ) → n % 2 ^ 63 ≡ infinity → ofBits binary64 n ≡ inf (leb (2 ^ 63) n)
 unfolding ofBits ofFields
-equal n e = ap₂ (λ (x t : ℕ). ofFields binary64 (leb (2 ^ 63) n) (x / 2 ^ 52) t) e (sym (mod-mod-pow n 11 52) ∙ ap (λ (x : ℕ). x % 2 ^ 52) e)
+value-equal n e = ap₂ (λ (x t : ℕ). ofFields binary64 (leb (2 ^ 63) n) (x / 2 ^ 52) t) e (sym (mod-mod-pow n 11 52) ∙ ap (λ (x : ℕ). x % 2 ^ 52) e)
 
 no-nan : (n : ℕ) → n % 2 ^ 63 ≤ infinity → nanBits binary64 n ≡ false
 no-nan n h = nanBits-above binary64 n ∙ le-ltb infinity (n % 2 ^ 63) h
@@ -35,8 +35,8 @@ holds-not : {b : Bool} → b ≡ false → T (not b)
 holds-not e = subst (λ (c : Bool). T (not c)) (sym e) tt
 
 -- bits that are no not-a-number's, as a conversion to a float asks
-pub not-above : (n : ℕ) → n % 2 ^ 63 ≤ infinity → T (not (nanBits binary64 n))
-not-above n h = holds-not (no-nan n h)
+pub value-not-nan : (n : ℕ) → n % 2 ^ 63 ≤ infinity → T (not (nanBits binary64 n))
+value-not-nan n h = holds-not (no-nan n h)
 
 inf-bits : (s : Bool) → toBits binary64 (inf s) % 2 ^ 63 ≡ infinity
 unfolding toBits
@@ -58,5 +58,5 @@ module _ (n : ℕ) (n< : n < 2 ^ 64) (h : n % 2 ^ 63 < infinity) where
       absurd (omega arith)
   by-value (fin s m x) e = refl
 
-  pub below : Number (ofBits binary64 n) ≡ kindAt n (ofBits binary64 n)
-  below = by-value (ofBits binary64 n) refl
+  pub value-below : Number (ofBits binary64 n) ≡ kindAt n (ofBits binary64 n)
+  value-below = by-value (ofBits binary64 n) refl

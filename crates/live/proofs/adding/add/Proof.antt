@@ -18,12 +18,18 @@ use Rattle.live.proofs.Additions.{gives-tested, gives-wrote}
 use Rattle.live.proofs.adding.add.Statement.{statement}
 use Rattle.live.proofs.adding.add.Tie as tie
 
--- the places: the start, before the test, and where the test passed, before `encode`
+-- the places: the start, before the test; where the test passed, before `encode`; what `encode` did, before `added`; and what `added` did
 abbrev start : tie.After-test-state → tie.Start
 start c = c .before .before .before .before
 
 abbrev tested : tie.After-encode → tie.Else1
 tested c = c .before .before .before
+
+abbrev wrote : tie.After-added-arg → tie.After-encode
+wrote c = c .before .before .before .before
+
+abbrev done : tie.After-answer → tie.After-added
+done c = c .before .before .before
 
 -- the state that is passed, seen from where the test passed
 abbrev state : tie.Else1 → Live
@@ -72,19 +78,18 @@ encode-requires : tie.Need-encode-requires
 encode-requires c κs = let test = c .before .before in omega (arith, fits test, part test)
 
 added-requires : tie.Need-added-requires
-added-requires c κs = good (tested (c .before .before .before .before)) .1
+added-requires c κs = good (tested (wrote c)) .1
 
 same-length-2 : tie.Need-same-length-2
 same-length-2 c = search needs
 
 returns-2 : tie.Need-returns-2
 returns-2 c =
-    let done = c .before .before .before in
-    let wrote = let lent = done .before .before in lent .before .before .before in
-    let test = tested wrote in
+    let w = wrote (done c .before) in
+    let test = tested w in
     let a = start (test .before) .args in
-    let r = done .added in
-    gives-wrote coded (a .state) (a .ratio) (a .out .now) (passes test) (wrote .encode .result) (wrote .encode .last .1 .1 .0) (wrote .encode .kept .1 .1 .0) (wrote .encode .ensures)
+    let r = done c .added in
+    gives-wrote coded (a .state) (a .ratio) (a .out .now) (passes test) (w .encode .result) (w .encode .last .1 .1 .0) (w .encode .kept .1 .1 .0) (w .encode .ensures)
     (r .result .answer) (liveOf (r .last .0) (r .result .fill) (r .result .seen)) (r .last .1 .1 .1 .1 .1 .0) (r .ensures)
 
 pub add-spec : {M : Type 1} → statement M

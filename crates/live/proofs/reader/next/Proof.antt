@@ -16,7 +16,7 @@ use ghost.Atoms.{Atoms, sem}
 use contract.Monad.{Fun}
 use contract.Lifetimes.{AllOutlive}
 use contract.Running.{givenOf, tables}
-use types.Kit.{Given, Item, ‵, given, _⊛_, ⋆, _$_, _∵_, !, qed, by, move, keep, drop, use1, use2, split, join, learn, fsplit, fsplit3, fjoin, fjoin3, feqI, suffices, frame, done}
+use types.Kit.{Given, Item, ‵, given, _⊛_, ⋆, _$_, _∵_, !, qed, by, move, keep, drop, use1, use2, split, learn, fsplit, fsplit3, fjoin, suffices}
 use types.Run.{look, init, stop, hop, fld, from, load, of-opd, and-then, no-more, assigns, returns, enter, alloc1, alloc0, params1, pass1, pass0}
 use types.Part.{agg, whole, sub, look-in, store-in}
 use types.SemTy.{Body}
@@ -38,7 +38,7 @@ use denote.Triple.Statement.{Contract, Triple}
 use denote.Triple.Table.{cited}
 use denote.Triple.Walked.{says, Stays, stay-ref, walkOf, goes-ref, ends-at}
 use denote.Signature.{Slot, plain, namedLft}
-use Rattle.walks.proofs.Walk.{meets, leaves, with-struct, calls-on, opened, closed, holds, local-at, field-at, sets, takes}
+use Rattle.walks.proofs.Walk.{meets, tokenOf, answers, hands-back, leaves, with-struct, calls-on, opened, closed, holds, local-at, field-at, sets, takes}
 use Rattle.ratio_format.specs.declared.Cursor.{Cursor}
 use Rattle.ratio_format.specs.Stepping.{stepAnswer, stepCursor}
 use Rattle.ratio_format.proofs.Stepping.{step-count}
@@ -129,7 +129,7 @@ module _ {M : Type 1} (𝓤 : URA M) (H : Heap 𝓤) (A : Atoms 𝓤) (W : Given
   given-to = (h .body, (cursorOf h, tt))
 
   abbrev Tok : Item 𝓤
-  Tok = ‵ (flft κ′ q′) ⊛ ‵ ftrue
+  Tok = tokenOf κ′ q′
 
   abbrev machX : Step → Val
   machX r = LL.val TX.the-type TX′.the-laws r
@@ -164,8 +164,8 @@ module _ {M : Type 1} (𝓤 : URA M) (H : Heap 𝓤) (A : Atoms 𝓤) (W : Given
       qed W (‵ (fobs γ (B κ′ .coded .code (stored (r .cursor)))) ∷ ‵ (fbor κ (Body (mem (B κ′)) b o γ)) ∷ ‵ (flft κ q) ∷ Tok ∷ []) ∵
       suffices ! _ (ends-at 𝓤 H A next.ended stayed (next.clauses 𝓤 H A at-mem run) W (((κ, (κ′, tt)), (q, (q′, tt)), bounds, a, vals), tt) (machR (r .answer)) (r .answer) (stored (r .cursor), tt) (tt, tt)) $
       says ! (e .0, stored-is (r .cursor) (e .1)) $
-      move ! (2 ∷ 3 ∷ []) $ join ! $ frame ! $ feqI ! (List Val) (vptr b o ∷ []) (vptr b o ∷ []) refl $ fjoin3 ! $ nothing ! $ move ! (1 ∷ 0 ∷ []) $ fjoin ! $
-      owned ! TR.the-row (Is TR.the-row) (LL.makes TR.the-type TR′.the-plain 𝓤 H A) (r .answer) _ is $ move ! (1 ∷ 0 ∷ []) $ done !
+      hands-back ! (vptr b o ∷ []) $ nothing ! $ move ! (1 ∷ 0 ∷ []) $ fjoin ! $
+      answers ! TR.the-type TR′.the-plain (r .answer) _ is
 
   module _ (C : Calls 𝓤 H) (Λ : Loops 𝓤 H) (fm : FmC 𝓤 H (W .laws) C) (known : Triple 𝓤 (C #live·stepping·step-at) (StepAt 𝓤 H A at-mem run)) where
     walk : ent 𝓤 (onEntry 𝓤 H A next.signature (κ, (κ′, tt)) (q, (q′, tt)) a vals) (WpFn 𝓤 H C Λ code.function (vptr b o ∷ []) Post)

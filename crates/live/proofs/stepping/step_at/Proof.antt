@@ -10,9 +10,12 @@ use Rattle.live.proofs.States.{place-within, seen-within, answer-of, st
 use Rattle.live.proofs.stepping.step_at.Statement.{statement}
 use Rattle.live.proofs.stepping.step_at.Tie as tie
 
--- the start, seen from what was found: past the place where the window was taken apart
+-- where the window was taken apart, and from there the start, both seen from what was found
+abbrev apart : tie.After-seek → tie.After-window
+apart c = c .before .before .before
+
 abbrev start : tie.After-seek → tie.Start
-start c = let apart = c .before .before .before in apart .before .before
+start c = apart c .before .before
 
 -- a window by its cells and its fill
 window : {l m : List ℕ} {j n : ℕ} → l ≡ m → j ≡ n → _≡_ {A = Window} (record { ratios = l; fill = j }) (record { ratios = m; fill = n })

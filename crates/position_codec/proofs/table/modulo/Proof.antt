@@ -4,7 +4,7 @@ use Prim.Native.Nat.{ℕ, _%_, _^_}
 use native.Mathlib.Omega.{arith}
 use mir.Syntax.{w64}
 use mir.ValLaws.{toZ-ofZ}
-use Rattle.bits.proofs.Digits.Word.{mask, mask-pos}
+use Rattle.bits.proofs.Digits.Word.{mask-pow, mask-pos}
 use Rattle.position_format.specs.Rows.{residue}
 use Rattle.position_codec.proofs.table.Residues.{residue-down}
 use borrow.Author.Needs.{needs}
@@ -26,7 +26,7 @@ rem-result c = mask-pos (c .before .before .args .k) (c .if1 .taken)
 returns : tie.Need-returns
 returns c =
     let s = c .before .before in
-    rw (mask (s .args .k) (c .if1 .taken))
+    rw (mask-pow (s .args .k) (c .if1 .taken))
     (ap (λ (y : ℕ). y % 2 ^ s .args .k) (said (c .before)) ∙ residue-down (s .args .k) (s .pre) (s .args .z))
 
 returns-2 : tie.Need-returns-2

@@ -15,12 +15,22 @@ use Rattle.ratio_bodies.proofs.choice.choose_nth.Tie as tie
 window-start-requires : tie.Need-window-start-requires
 window-start-requires c κs = search needs
 
+-- the start, from where the window's start is known; and that place, from where the window was searched, by either search
+abbrev start : tie.After-window-start → tie.Start
+start c = c .before .before
+
+abbrev few : tie.After-choose → tie.After-window-start
+few c = c .before .before .before
+
+abbrev many : tie.After-ratio-form-of-arg → tie.After-window-start
+many c = c .before .before .before
+
 -- the part from the window's start is the window
-part : (c : tie.After-window-start) → let a = c .before .before .args in let f = c .window-start .result in
+part : (c : tie.After-window-start) → let a = start c .args in let f = c .window-start .result in
     reverse (take (a .i - f) (drop f (a .ratios .now))) ≡ windowOf windowSize (take (a .i) (a .ratios .now))
 part c =
-    let d = c .before .before in
-    window-part windowSize (d .args .ratios .now) (d .args .i) (d .pre .0) (c .window-start .result) (c .window-start .ensures)
+    let s = start c in
+    window-part windowSize (s .args .ratios .now) (s .args .i) (s .pre .0) (c .window-start .result) (c .window-start .ensures)
 
 mul-choose : tie.Need-mul-choose
 mul-choose c = search needs
@@ -39,13 +49,12 @@ choose-requires c κs = search needs
 
 returns : tie.Need-returns
 returns c =
-    let from = c .before .before .before in
-    c .choose .ensures ∙ ap (ratioForm (from .before .before .args .v)) (part from)
+    c .choose .ensures ∙ ap (ratioForm (start (few c) .args .v)) (part (few c))
 
 find-requires : tie.Need-find-requires
 find-requires c κs =
-    let d = c .before .before .before in
-    (omega arith, d .pre .0, d .pre .1 (c .if1 .left))
+    let s = start (c .before) in
+    (omega arith, s .pre .0, s .pre .1 (c .if1 .left))
 
 mul-ratio-form-of : tie.Need-mul-ratio-form-of
 mul-ratio-form-of c = search needs
@@ -61,14 +70,13 @@ part-ratio-form-of-end c = search needs
 
 ratio-form-of-requires : tie.Need-ratio-form-of-requires
 ratio-form-of-requires c κs =
-    let from = c .before .before .before in
     let b = c .before .find in
-    subst (λ (w : List ℕ). Searched (from .before .before .args .v) w (b .result .place) (b .result .sum)) (sym (part from)) (b .ensures)
+    subst (λ (w : List ℕ). Searched (start (many c) .args .v) w (b .result .place) (b .result .sum)) (sym (part (many c))) (b .ensures)
 
 returns-2 : tie.Need-returns-2
 returns-2 c =
-    let from = c .before .before .before .before in
-    c .ratio-form-of .ensures ∙ ap (ratioForm (from .before .before .args .v)) (part from)
+    let from = many (c .before) in
+    c .ratio-form-of .ensures ∙ ap (ratioForm (start from .args .v)) (part from)
 
 pub choose-nth-spec : {M : Type 1} → statement M
 choose-nth-spec =

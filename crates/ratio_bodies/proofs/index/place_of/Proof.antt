@@ -10,6 +10,13 @@ use Rattle.ratio_bodies.proofs.Indexes.{trailing-first, trailing-more, 
 use Rattle.ratio_bodies.proofs.index.place_of.Statement.{statement}
 use Rattle.ratio_bodies.proofs.index.place_of.Tie as tie
 
+-- the start, and where there are ratios before this one, from where the last of them is noted
+abbrev start : tie.After-shared-slice-known → tie.Start
+start c = c .before
+
+abbrev later : tie.After-note → tie.Else1
+later c = c .before .before .before
+
 returns : tie.Need-returns
 returns c =
     let d = c .before .before in
@@ -40,15 +47,13 @@ passed d h ns e =
 looked-up-requires : tie.Need-looked-up-requires
 looked-up-requires c κs =
     let noted = c .before in
-    let later = noted .before .before .before in
-    let d = later .before .before in
+    let d = start (later noted .before) in
     (d .pre .0, passed d (omega arith) (noted .note .last .0) (noted .note .ensures))
 
 returns-2 : tie.Need-returns-2
 returns-2 c =
     let noted = c .before .before in
-    let later = noted .before .before .before in
-    let d = later .before .before in
+    let d = start (later noted .before) in
     let n = noted .note in (
       trailing-more (n .last .0) (d .args .ratios .now) (d .args .i) (passed d (omega arith) (n .last .0) (n .ensures)),
       c .looked-up .ensures,

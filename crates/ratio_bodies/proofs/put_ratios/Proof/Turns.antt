@@ -28,9 +28,9 @@ abbrev pub Writing : List ℕ → List ℕ → List ℕ → ℕ → ℕ → Type
 Writing rs o out at i =
     (i ≤ length rs) × (at ≡ length (codedRatios (take i rs))) × (at ≤ length o) × (length out ≡ length o) × (out ≡ over (codedRatios (take i rs)) o)
 
-pub writing-none : (rs o : List ℕ) → Writing rs o o 0 0
+pub writing-start : (rs o : List ℕ) → Writing rs o o 0 0
 unfolding codedFrom
-writing-none rs o = (omega arith, refl, omega arith, refl, refl)
+writing-start rs o = (omega arith, refl, omega arith, refl, refl)
 
 pub writing-all : (rs o out : List ℕ) (at i : ℕ) → Writing rs o out at i → length rs ≤ i → Placed (codedRatios rs) (Done at) o out
 writing-all rs o out at i s h =

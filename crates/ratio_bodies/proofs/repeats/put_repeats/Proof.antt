@@ -3,8 +3,8 @@ use Prim.Native.Nat.{_+_, _-_, _≤_}
 use native.Mathlib.Omega.{arith}
 use borrow.Author.Needs.{needs}
 use lib.ListN.{length}
-use Rattle.outputs.proofs.Outputs.Clear.{Cleared, clear-none, clear-more}
-use Rattle.ratio_bodies.proofs.repeats.Repeated.{Repeats, repeats-none, repeats-more}
+use Rattle.outputs.proofs.Outputs.Clear.{Cleared, clear-start, clear-more}
+use Rattle.ratio_bodies.proofs.repeats.Repeated.{Repeats, repeats-start, repeats-more}
 use Rattle.ratio_bodies.proofs.repeats.put_repeats.Statement.{statement}
 use Rattle.ratio_bodies.proofs.repeats.put_repeats.Tie as tie
 
@@ -27,7 +27,7 @@ loop-holds : tie.Need-loop-holds Inv-loop μ-loop
 loop-holds c =
     let d = c .before in
     let a = d .args in
-    (omega (arith, d .pre .1), repeats-none (a .ratios .now) (a .from), clear-none (a .out .now))
+    (omega (arith, d .pre .1), repeats-start (a .ratios .now) (a .from), clear-start (a .out .now))
 
 add-loop : tie.Need-add-loop Inv-loop μ-loop
 add-loop c = search needs

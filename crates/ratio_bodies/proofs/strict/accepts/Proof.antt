@@ -23,6 +23,10 @@ use Rattle.ratio_bodies.proofs.Marks.{mark-decides}
 use Rattle.ratio_bodies.proofs.strict.accepts.Statement.{statement}
 use Rattle.ratio_bodies.proofs.strict.accepts.Tie as tie
 
+-- the start, from where both slices are known
+abbrev startOf : tie.After-shared-slice-known2 → tie.Start
+startOf c = c .before .before
+
 module _ (start : tie.Start) where
   abbrev window : List ℕ
   window = windowOf windowSize (take (start .args .i) (start .args .ratios .now))
@@ -36,7 +40,7 @@ module _ (start : tie.Start) where
 
 slot-of-requires : tie.Need-slot-of-requires
 slot-of-requires c κs =
-    let start = c .before .before .before in
+    let start = startOf (c .before) in
     let a = start .args in
     let n = named-at (window start) (a .v) (a .at) (a .body .now) (named start (c .if1 .taken)) in
     (n .0, window-inside windowSize (a .ratios .now) (a .i) (start .pre .0) (getD (a .body .now) (a .at) 0) (n .1) .1)
@@ -47,7 +51,7 @@ element-copy-out-result c = search needs
 returns : tie.Need-returns
 returns c =
     let one = c .before .before in
-    let start = one .before .before .before in
+    let start = startOf (one .before) in
     let a = start .args in
     let b = getD (a .body .now) (a .at) 0 in
     let n = named start (one .if1 .taken) in
@@ -58,7 +62,7 @@ returns c =
 
 choose-nth-requires : tie.Need-choose-nth-requires
 choose-nth-requires c κs =
-    let start = c .before .before .before in
+    let start = startOf (c .before) in
     (start .pre .0, start .pre .4 (c .if1 .left))
 
 sub-has-head : tie.Need-sub-has-head
@@ -74,7 +78,7 @@ has-head-requires : tie.Need-has-head-requires
 has-head-requires c κs =
     let chosen = c .before in
     let f = chosen .choose-nth in
-    let start = chosen .before .before .before .before in
+    let start = startOf (chosen .before .before) in
     let a = start .args in
     window-fit (a .ratios .now) (a .i) (a .v) (f .result) (start .pre .0) (f .ensures)
 
@@ -82,8 +86,9 @@ returns-2 : tie.Need-returns-2
 returns-2 c =
     let chosen = c .before .before in
     let f = chosen .choose-nth in
-    let k = chosen .before .before .shared-slice-known2 in
-    let start = chosen .before .before .before .before in
+    let known = chosen .before .before in
+    let k = known .shared-slice-known2 in
+    let start = startOf known in
     let a = start .args in
     c .has-head .ensures ∙ ap₂ (λ (x : RatioForm) (s : List ℕ). begins (ratioFormHead x) s) (f .ensures) (rest-is (a .at) (a .body .now))
     ∙ sym (head-decides (a .v) (a .n) (window start) (window-few windowSize (take (a .i) (a .ratios .now)) .0) (rest start)

@@ -17,6 +17,13 @@ use borrow.Author.Needs.{needs}
 use Rattle.ratio_codec.proofs.read.read_by_head.Statement.{statement}
 use Rattle.ratio_codec.proofs.read.read_by_head.Tie as tie
 
+-- the start, from where the ratio was read openly; and that place, from where it is known that there is one
+abbrev startOf : tie.After-read-one-open → tie.Start
+startOf c = c .before .before .before
+
+abbrev readOf : tie.After-r → tie.After-read-one-open
+readOf c = c .before .before
+
 read-one-open-requires : tie.Need-read-one-open-requires
 read-one-open-requires c κs = search needs
 
@@ -30,7 +37,7 @@ returns : tie.Need-returns
 returns c =
     let read = c .before .before in
     let o = read .read-one-open in
-    let a = read .before .before .before .args in
+    let a = startOf read .args in
     strict-nothing (reverse (a .window .now)) (a .s .now) (o .result) (o .ensures) (c .enum-told .given .1)
 
 choose-requires : tie.Need-choose-requires
@@ -39,9 +46,8 @@ choose-requires c κs = search needs
 has-head-requires : tie.Need-has-head-requires
 has-head-requires c κs =
     let known = c .before .before in
-    let read = known .before .before in
-    let start = read .before .before .before in
-    chosen-fit (start .args .window .now) (known .r .given .0 .0) (c .choose .result) (c .choose .ensures) (start .pre)
+    let s = startOf (readOf known) in
+    chosen-fit (s .args .window .now) (known .r .given .0 .0) (c .choose .result) (c .choose .ensures) (s .pre)
 
 -- what the test of the head says
 module _ (c : tie.After-has-head) where
@@ -50,10 +56,10 @@ module _ (c : tie.After-has-head) where
   known = c .before .before .before
 
   abbrev read : tie.After-read-one-open
-  read = known .before .before
+  read = readOf known
 
   abbrev start : tie.Start
-  start = read .before .before .before
+  start = startOf read
 
   abbrev l : List ℕ
   l = start .args .window .now

@@ -14,9 +14,16 @@ use borrow.Author.Needs.{needs}
 use Rattle.ratio_codec.proofs.read.read_one_strict.Statement.{statement}
 use Rattle.ratio_codec.proofs.read.read_one_strict.Tie as tie
 
+-- the start, from where both slices are known, and where there is a first byte that is a place
+abbrev startOf : tie.After-shared-slice-known2 → tie.Start
+startOf c = c .before .before
+
+abbrev place : tie.After-pass-equal → tie.Then2
+place c = c .before .before
+
 returns : tie.Need-returns
 returns c =
-    let a = c .before .before .before .args in
+    let a = startOf (c .before) .args in
     let w = reverse (a .window .now) in
     strict-nothing w (a .s .now) Nothing (open-empty w (a .s .now) (c .if1 .taken)) refl
 
@@ -44,9 +51,7 @@ pass-equal-requires c κs = search needs
 -- the ratio at the place, and that the place was looked for
 module _ (c : tie.After-pass-equal) where
   abbrev start : tie.Start
-  start =
-      let some = c .before .before .before .before in
-      some .before .before .before
+  start = startOf (place c .before .before .before)
 
   abbrev l : List ℕ
   l = start .args .window .now
@@ -62,7 +67,7 @@ module _ (c : tie.After-pass-equal) where
 
   named : Named (reverse l) v s
   named =
-      let h = c .before .before .if2 .taken in
+      let h = place c .if2 .taken in
       (omega arith, rw length-reverse h, reverse-back l (getD s 0 0) h)
 
   found : find v (reverse l) ≡ c .pass-equal .result

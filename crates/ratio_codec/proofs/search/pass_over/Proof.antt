@@ -5,7 +5,7 @@ use native.Mathlib.Omega.{arith}
 use lib.ListN.{length, getD}
 use Rattle.ratio_format.proofs.Windows.{reverse-back}
 use Rattle.ratio_window.specs.Passed.{Passed}
-use Rattle.ratio_window.proofs.Passed.{passed-none, passed-next}
+use Rattle.ratio_window.proofs.Passed.{passed-start, passed-next}
 use Rattle.ratio_format.proofs.Zeros.Bounds.{sum-under}
 use Rattle.ratio_codec.proofs.search.pass_over.Statement.{statement}
 use Rattle.ratio_codec.proofs.search.pass_over.Tie as tie
@@ -19,7 +19,7 @@ abbrev μ-loop : tie.MeasureT-loop
 loop-holds : tie.Need-loop-holds Inv-loop μ-loop
 loop-holds c =
     let a = c .args in
-    (omega arith, c .pre, λ s q. passed-none (a .v) (reverse (a .window .now)) s (a .from))
+    (omega arith, c .pre, λ s q. passed-start (a .v) (reverse (a .window .now)) s (a .from))
 
 sub-x : tie.Need-sub-x Inv-loop μ-loop
 sub-x c = omega arith

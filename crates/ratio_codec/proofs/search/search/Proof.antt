@@ -7,7 +7,7 @@ use borrow.Author.Needs.{needs}
 use lib.ListN.{length, getD}
 use Rattle.ratio_format.specs.Choice.{Best}
 use Rattle.ratio_format.proofs.Zeros.Sums.{sum-other}
-use Rattle.ratio_codec.proofs.search.Scanned.{Scanned, scanned-none, scanned-wins, scanned-loses, scanned-pass, scanned-equal, scanned-all}
+use Rattle.ratio_codec.proofs.search.Scanned.{Scanned, scanned-start, scanned-wins, scanned-loses, scanned-pass, scanned-equal, scanned-all}
 use Rattle.ratio_codec.proofs.search.search.Statement.{statement}
 use Rattle.ratio_codec.proofs.search.search.Tie as tie
 
@@ -18,7 +18,7 @@ abbrev μ-loop : tie.MeasureT-loop
 μ-loop window v place₀ sum₀ i₀ place sum i = length window - i
 
 loop-holds : tie.Need-loop-holds Inv-loop μ-loop
-loop-holds c = scanned-none (c .before .args .v) (c .before .args .window .now)
+loop-holds c = scanned-start (c .before .args .v) (c .before .args .window .now)
 
 sub-u : tie.Need-sub-u Inv-loop μ-loop
 sub-u c = omega arith
@@ -43,11 +43,12 @@ returns c =
 sum-of-requires : tie.Need-sum-of-requires Inv-loop μ-loop
 sum-of-requires c κs = search needs
 
--- the loop's turn in which a sum is compared
+-- where the ratio is not equal, from where its sum was compared, and the loop's turn
+abbrev unequal : tie.Joined2 Inv-loop μ-loop → tie.Else1 Inv-loop μ-loop
+unequal c = c .before .before
+
 abbrev turnOf : tie.Joined2 Inv-loop μ-loop → tie.At-loop Inv-loop μ-loop
-turnOf c =
-    let unequal = c .before .before in
-    unequal .before .before .before
+turnOf c = unequal c .before .before .before
 
 -- the ratio at place i is counted
 counted : (c : tie.Joined2 Inv-loop μ-loop)
@@ -62,7 +63,7 @@ counted c =
     let w = a .window .now in
     let k = turn .before .shared-slice-known .given (length w - 1 - l .i) .fits in
     let h : l .i < length w = omega arith in
-    let o = sum-other (a .v) (getD w (length w - 1 - l .i) 0) (start .fits .v .fits) k (λ q. c .before .before .if1 .left (sym q)) in
+    let o = sum-other (a .v) (getD w (length w - 1 - l .i) 0) (start .fits .v .fits) k (λ q. unequal c .if1 .left (sym q)) in
     ⊎-elim
     (λ t. let n = scanned-wins (a .v) w (l .i) (l .place) (l .sum) (l .inv) h (omega arith) (omega arith) in let e = n .2 in (n .0, omega arith, cc))
     (λ t. let n = scanned-loses (a .v) w (l .i) (l .place) (l .sum) (l .inv) h (omega arith) in let e = n .2 in (n .0, omega arith, cc))

@@ -11,21 +11,43 @@ use borrow.Author.Needs.{needs}
 use Rattle.ratio_codec.proofs.write.put_ratio_form.Statement.{statement}
 use Rattle.ratio_codec.proofs.write.put_ratio_form.Tie as tie
 
+-- the start; where the form is known to be a reference, an xor form or an exception; and where it was put
+abbrev start : tie.After-slice-known → tie.Start
+start c = c .before
+
+abbrev reference : tie.After-put-reference-arg → tie.After-f
+reference c = c .before .before
+
+abbrev xor : tie.After-put-xor-arg → tie.After-f2
+xor c = c .before .before
+
+abbrev exception : tie.After-put-exception-arg → tie.After-enum-told
+exception c = c .before
+
+abbrev reference-put : tie.After-slice-known2 → tie.After-put-reference
+reference-put c = c .before .before
+
+abbrev xor-put : tie.After-slice-known3 → tie.After-put-xor
+xor-put c = c .before .before
+
+abbrev exception-put : tie.After-slice-known4 → tie.After-put-exception
+exception-put c = c .before .before
+
 enum-known-f : tie.Need-enum-known-f
 enum-known-f c = search needs
 
 put-reference-requires : tie.Need-put-reference-requires
 put-reference-requires c κs =
-    let known = c .before .before in
-    subst (Fit windowSize) (known .f .given .1) (known .before .before .before .pre)
+    let known = reference c in
+    subst (Fit windowSize) (known .f .given .1) (start (known .before .before) .pre)
 
 enum-known-f-2 : tie.Need-enum-known-f-2
 enum-known-f-2 c = search needs
 
 put-xor-requires : tie.Need-put-xor-requires
 put-xor-requires c κs =
-    let known = c .before .before in
-    subst (Fit windowSize) (known .f2 .given .1) (known .before .before .before .pre)
+    let known = xor c in
+    subst (Fit windowSize) (known .f2 .given .1) (start (known .before .before) .pre)
 
 enum-told : tie.Need-enum-told
 enum-told c = search needs
@@ -43,10 +65,9 @@ same-form v r o p e h = subst (λ (x : RatioForm). Placed (written v x) r o p) (
 returns : tie.Need-returns
 unfolding written
 returns c =
-    let put = c .before .before in
-    let known = put .before .before .before in
-    let a = known .before .before .before .args in
-    let p = put .put-reference in
+    let p = reference-put c .put-reference in
+    let known = reference (reference-put c .before) in
+    let a = start (known .before .before) .args in
     same-form (a .v) (p .result) (a .out .now) (p .last .0) (known .f .given .1) (p .ensures)
 
 same-length-2 : tie.Need-same-length-2
@@ -55,10 +76,9 @@ same-length-2 c = search needs
 returns-2 : tie.Need-returns-2
 unfolding written
 returns-2 c =
-    let put = c .before .before in
-    let known = put .before .before .before in
-    let a = known .before .before .before .args in
-    let p = put .put-xor in
+    let p = xor-put c .put-xor in
+    let known = xor (xor-put c .before) in
+    let a = start (known .before .before) .args in
     same-form (a .v) (p .result) (a .out .now) (p .last .0) (known .f2 .given .1) (p .ensures)
 
 same-length-3 : tie.Need-same-length-3
@@ -67,10 +87,9 @@ same-length-3 c = search needs
 returns-3 : tie.Need-returns-3
 unfolding written
 returns-3 c =
-    let put = c .before .before in
-    let told = put .before .before in
-    let a = told .before .before .before .args in
-    let p = put .put-exception in
+    let p = exception-put c .put-exception in
+    let told = exception (exception-put c .before) in
+    let a = start (told .before .before) .args in
     same-form (a .v) (p .result) (a .out .now) (p .last .0) (told .enum-told .given .1) (p .ensures)
 
 pub put-ratio-form-spec : {M : Type 1} → statement M

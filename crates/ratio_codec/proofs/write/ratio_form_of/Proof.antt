@@ -11,26 +11,36 @@ use Rattle.ratio_codec.proofs.write.ratio_form_of.Tie as tie
 
 -- what the search found
 module _ (c : tie.After-shared-slice-known) where
+  abbrev start : tie.Start
+  start = c .before
+
   abbrev l : List ℕ
-  l = c .before .args .window .now
+  l = start .args .window .now
 
   abbrev v : ℕ
-  v = c .before .args .v
+  v = start .args .v
 
   abbrev p : ℕ
-  p = c .before .args .b .place
+  p = start .args .b .place
 
   abbrev s : ℕ
-  s = c .before .args .b .sum
+  s = start .args .b .sum
 
   known : (k : ℕ) → getD l k 0 < 2 ^ 64
   known k = c .shared-slice-known .given k .fits
 
   v64 : v < 2 ^ 64
-  v64 = c .before .fits .v .fits
+  v64 = start .fits .v .fits
 
   found : Searched v (reverse l) p s
-  found = c .before .pre
+  found = start .pre
+
+-- where the sum is large enough, and what the search found there
+abbrev large : tie.After-trail-zeros → tie.Then2
+large c = c .before .before
+
+abbrev searched : tie.Then2 → tie.After-shared-slice-known
+searched c = c .before .before
 
 returns : tie.Need-returns
 returns c =
@@ -38,9 +48,9 @@ returns c =
     chosen-reference (l d) (v d) (p d) (s d) (known d) (v64 d) (found d) (c .if1 .taken)
 
 -- the place is in the slice, by the two tests
-in-slice : (c : tie.Then2) → p (c .before .before) < length (l (c .before .before))
+in-slice : (c : tie.Then2) → p (searched c) < length (l (searched c))
 in-slice c =
-    let d = c .before .before in
+    let d = searched c in
     chosen-in (l d) (v d) (p d) (s d) (known d) (v64 d) (found d) (c .before .if1 .left) (c .if2 .taken)
 
 sub-x : tie.Need-sub-x
@@ -60,15 +70,15 @@ trail-zeros-requires c κs = search needs
 
 sub-t9 : tie.Need-sub-t9
 sub-t9 c =
-    let b = c .before .before in
-    let d = b .before .before in
+    let b = large c in
+    let d = searched b in
     omega (arith, chosen-small (l d) (v d) (p d) (s d) (known d) (v64 d) (found d) (b .before .if1 .left) (b .if2 .taken))
 
 -- the trailing count is below 8
 short : (c : tie.After-trail-zeros) → c .trail-zeros .result < 8
 short c =
-    let b = c .before .before in
-    let d = b .before .before in
+    let b = large c in
+    let d = searched b in
     omega (arith, chosen-short (l d) (v d) (p d) (s d) (known d) (v64 d) (found d) (b .before .if1 .left) (b .if2 .taken))
 
 mul-t10 : tie.Need-mul-t10
@@ -79,8 +89,8 @@ shr-t15 c = omega (arith, short c)
 
 returns-2 : tie.Need-returns-2
 returns-2 c =
-    let b = c .before .before in
-    let d = b .before .before in
+    let b = large c in
+    let d = searched b in
     chosen-xor (l d) (v d) (p d) (s d) (known d) (v64 d) (found d) (b .before .if1 .left) (b .if2 .taken) (c .trail-zeros .result) (c .trail-zeros .ensures .0)
 
 returns-3 : tie.Need-returns-3

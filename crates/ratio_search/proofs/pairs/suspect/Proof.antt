@@ -16,11 +16,22 @@ Inv-loop planes slot v a b c d x y z w any₀ j₀ any j =
 abbrev μ-loop : tie.MeasureT-loop
 μ-loop planes slot v a b c d x y z w any₀ j₀ any j = 16 - j
 
--- the start, from where the four bytes are known
-abbrev startOf : tie.After-byte-of4 Inv-loop μ-loop → tie.Start Inv-loop μ-loop
-startOf c =
-    let first = c .before .before .before .before in
-    first .before .before .before .before
+-- the start, from where the four indices are known; and where each of the first three bytes is known, from where all four are
+abbrev start : tie.After-struct-known4 Inv-loop μ-loop → tie.Start Inv-loop μ-loop
+start c = c .before .before .before .before
+
+abbrev one : tie.After-byte-of4 Inv-loop μ-loop → tie.After-byte-of Inv-loop μ-loop
+one c = c .before .before .before
+
+abbrev two : tie.After-byte-of4 Inv-loop μ-loop → tie.After-byte-of2 Inv-loop μ-loop
+two c = c .before .before
+
+abbrev three : tie.After-byte-of4 Inv-loop μ-loop → tie.After-byte-of3 Inv-loop μ-loop
+three c = c .before
+
+-- where the loop's test passed, from where the turn's four cells are read
+abbrev inside : tie.After-any4 Inv-loop μ-loop → tie.In-loop Inv-loop μ-loop
+inside c = c .before .before .before .before
 
 mul-a : tie.Need-mul-a Inv-loop μ-loop
 mul-a c = omega arith
@@ -105,16 +116,14 @@ loop-less c = omega arith
 
 loop-again : tie.Need-loop-again Inv-loop μ-loop
 loop-again c =
-    let copied = c .before .before .before in
-    let turn = copied .before .before in
-    let l = turn .loop in
-    let bytes = turn .before in
-    let a = startOf bytes .args in
+    let l = inside c .before .loop in
+    let bytes = inside c .before .before in
+    let a = start (one bytes .before) .args in
     let p = a .p in (
       omega arith,
       λ e. quiet-more (a .planes .now)
-          (p .a * slots + a .slot) (bytes .before .before .before .byte-of .result) (p .b * slots + a .slot) (bytes .before .before .byte-of2 .result)
-          (p .c * slots + a .slot) (bytes .before .byte-of3 .result) (p .d * slots + a .slot) (bytes .byte-of4 .result)
+          (p .a * slots + a .slot) (one bytes .byte-of .result) (p .b * slots + a .slot) (two bytes .byte-of2 .result)
+          (p .c * slots + a .slot) (three bytes .byte-of3 .result) (p .d * slots + a .slot) (bytes .byte-of4 .result)
           (l .any) (l .j) (l .inv .1) e,
     )
 
@@ -122,12 +131,12 @@ returns : tie.Need-returns Inv-loop μ-loop
 returns c = λ e t h g.
     let turn = c .before in
     let bytes = turn .before in
-    let a = startOf bytes .args in
+    let a = start (one bytes .before) .args in
     let ps = a .planes .now in
     let p = a .p in
     ⊎-map
-    (slot-differs ps (a .v) (p .a) (p .b) (a .slot) _ _ t (bytes .before .before .before .byte-of .ensures) (bytes .before .before .byte-of2 .ensures) h)
-    (slot-differs ps (a .v) (p .c) (p .d) (a .slot) _ _ t (bytes .before .byte-of3 .ensures) (bytes .byte-of4 .ensures) h)
+    (slot-differs ps (a .v) (p .a) (p .b) (a .slot) _ _ t (one bytes .byte-of .ensures) (two bytes .byte-of2 .ensures) h)
+    (slot-differs ps (a .v) (p .c) (p .d) (a .slot) _ _ t (three bytes .byte-of3 .ensures) (bytes .byte-of4 .ensures) h)
     (turn .loop .inv .1 e (t - a .slot) (omega arith))
 
 pub suspect-spec : {M : Type 1} → statement M

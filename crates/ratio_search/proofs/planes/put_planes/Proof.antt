@@ -1,7 +1,7 @@
 -- `put_planes` meets its contract. The invariant: the lowest j bytes are put, and all other slots stay.
 use Prim.Native.Nat.{_-_}
 use native.Mathlib.Omega.{arith}
-use Rattle.ratio_search.proofs.BytePlanes.{InSlot, in-slot-none, in-slot-more}
+use Rattle.ratio_search.proofs.BytePlanes.{InSlot, in-slot-start, in-slot-more}
 use Rattle.ratio_search.proofs.planes.put_planes.Statement.{statement}
 use Rattle.ratio_search.proofs.planes.put_planes.Tie as tie
 
@@ -12,7 +12,7 @@ abbrev μ-loop : tie.MeasureT-loop
 μ-loop planes₀ i v slot j₀ planes j = 8 - j
 
 loop-holds : tie.Need-loop-holds Inv-loop μ-loop
-loop-holds c = in-slot-none (c .args .planes .now) (c .args .i) (c .args .v) (c .pre)
+loop-holds c = in-slot-start (c .args .planes .now) (c .args .i) (c .args .v) (c .pre)
 
 byte-of-requires : tie.Need-byte-of-requires Inv-loop μ-loop
 byte-of-requires c κs = omega arith

@@ -8,7 +8,7 @@ use lib.ListN.{getD}
 use Rattle.ratio_format.specs.Windows.{windowSize}
 use Rattle.ratio_format.specs.Zeros.{sumOf}
 use Rattle.ratio_format.proofs.Zeros.Sums.{xor-zero, sum-other}
-use Rattle.ratio_search.proofs.search.Searching.{Searching, searching-none, searching-as, searching-pass, searching-all, searching-wins, searching-loses, searching-equal}
+use Rattle.ratio_search.proofs.search.Searching.{Searching, searching-start, searching-as, searching-pass, searching-all, searching-wins, searching-loses, searching-equal}
 use Rattle.ratio_search.proofs.search.find.Statement.{statement}
 use Rattle.ratio_search.proofs.search.find.Tie as tie
 
@@ -17,6 +17,22 @@ Inv-loop planes ratios i v from own at₀ trail₀ sum₀ q₀ at trail sum q = 
 
 abbrev μ-loop : tie.MeasureT-loop
 μ-loop planes ratios i v from own at₀ trail₀ sum₀ q₀ at trail sum q = q
+
+-- the start, before the loop; the loop's turn in which a ratio is looked at; and where it is not equal, from where its sum was compared
+abbrev start : tie.After-trail-zeros Inv-loop μ-loop → tie.Start Inv-loop μ-loop
+start c = c .before .before .before
+
+abbrev turnAt : tie.After-shared-slice-known2 Inv-loop μ-loop → tie.At-loop Inv-loop μ-loop
+turnAt c = c .before .before
+
+abbrev unequal : tie.Joined2 Inv-loop μ-loop → tie.Else1 Inv-loop μ-loop
+unequal c = c .before .before .before
+
+abbrev turnOf : tie.Joined2 Inv-loop μ-loop → tie.At-loop Inv-loop μ-loop
+turnOf c = turnAt (unequal c .before)
+
+abbrev startOf : tie.Joined2 Inv-loop μ-loop → tie.Start Inv-loop μ-loop
+startOf c = start (turnOf c .before)
 
 window-start-requires : tie.Need-window-start-requires Inv-loop μ-loop
 window-start-requires c κs = tt
@@ -29,9 +45,9 @@ sub-at c = omega arith
 
 loop-holds : tie.Need-loop-holds Inv-loop μ-loop
 loop-holds c =
-    let d = c .before .before .before in
+    let d = start c in
     let a = d .args in
-    searching-none (a .v) (a .ratios .now) (a .i) (d .pre .0)
+    searching-start (a .v) (a .ratios .now) (a .i) (d .pre .0)
 
 sub-x : tie.Need-sub-x Inv-loop μ-loop
 sub-x c = omega arith
@@ -47,11 +63,11 @@ sub-t20 c = omega arith
 
 returns : tie.Need-returns Inv-loop μ-loop
 returns c =
-    let turn = c .before .before .before in
+    let turn = turnAt (c .before) in
     let l = turn .loop in
-    let start = turn .before .before .before .before in
-    let a = start .args in
-    searching-equal (a .v) (a .ratios .now) (a .i) (l .q) (l .at) (l .trail) (l .sum) (l .inv) (omega arith) (start .pre .1)
+    let s = start (turn .before) in
+    let a = s .args in
+    searching-equal (a .v) (a .ratios .now) (a .i) (l .q) (l .at) (l .trail) (l .sum) (l .inv) (omega arith) (s .pre .1)
     (sym (xor-zero (a .v) (getD (a .ratios .now) (l .q - 1) 0) (c .if1 .taken)))
 
 trail-zeros-requires-2 : tie.Need-trail-zeros-requires-2 Inv-loop μ-loop
@@ -66,30 +82,21 @@ add-s c = omega arith
 sub-at-2 : tie.Need-sub-at-2 Inv-loop μ-loop
 sub-at-2 c = omega arith
 
--- the loop's turn in which a sum is compared, and the start
-abbrev turnOf : tie.Joined2 Inv-loop μ-loop → tie.At-loop Inv-loop μ-loop
-turnOf c =
-    let unequal = c .before .before .before in
-    unequal .before .before .before
-
-abbrev startOf : tie.Joined2 Inv-loop μ-loop → tie.Start Inv-loop μ-loop
-startOf c = turnOf c .before .before .before .before
-
 -- the ratio before q is counted
 counted : (c : tie.Joined2 Inv-loop μ-loop)
     → let a = startOf c .args in
     Searching (a .v) (a .ratios .now) (a .i) (turnOf c .loop .q - 1) (c .if2 .at) (c .if2 .trail) (c .if2 .sum)
 unfolding sumOf
 counted c =
-    let start = startOf c in
-    let a = start .args in
+    let s = startOf c in
+    let a = s .args in
     let l = turnOf c .loop in
-    let e = c .before .before .before in
+    let e = unequal c in
     let u = getD (a .ratios .now) (l .q - 1) 0 in
     let t = c .before .before .trail-zeros2 in
     let n = c .before .lead-zeros in
     let known = e .before .shared-slice-known2 .given (l .q - 1) .fits in
-    let small = sum-other (a .v) u (start .fits .v .fits) known (λ q. e .if1 .left (ap (bitXor (a .v)) (sym q) ∙ xor-self (a .v))) in
+    let small = sum-other (a .v) u (s .fits .v .fits) known (λ q. e .if1 .left (ap (bitXor (a .v)) (sym q) ∙ xor-self (a .v))) in
     let sum : sumOf (a .v) u ≡ n .result + t .result = ap₂ (λ (x y : ℕ). x + y) (sym (n .ensures .0)) (sym (t .ensures .0)) in
     let from : a .i - windowSize < l .q = omega arith in
     ⊎-elim
@@ -131,7 +138,7 @@ returns-2 : tie.Need-returns-2 Inv-loop μ-loop
 returns-2 c =
     let turn = c .before in
     let l = turn .loop in
-    let d = turn .before .before .before .before in
+    let d = start (turn .before) in
     let a = d .args in
     searching-all (a .v) (a .ratios .now) (a .i) (l .q) (l .at) (l .trail) (l .sum) (l .inv) (d .pre .1) (omega arith)
 

@@ -2,7 +2,7 @@
 use Prim.Native.Nat.{_≤_}
 use native.Mathlib.Omega.{arith}
 use borrow.Author.Needs.{needs}
-use Rattle.ratio_search.proofs.pairs.Blocks.{Behind, behind-none, behind-block}
+use Rattle.ratio_search.proofs.pairs.Blocks.{Behind, behind-start, behind-block}
 use Rattle.ratio_search.proofs.search.pass_blocks.Statement.{statement}
 use Rattle.ratio_search.proofs.search.pass_blocks.Tie as tie
 
@@ -15,7 +15,7 @@ abbrev μ-loop : tie.MeasureT-loop
 loop-holds : tie.Need-loop-holds Inv-loop μ-loop
 loop-holds c =
     let a = c .before .args in
-    (omega arith, behind-none (a .v) (a .ratios .now) (a .sum) (a .from) (a .high))
+    (omega arith, behind-start (a .v) (a .ratios .now) (a .sum) (a .from) (a .high))
 
 sub-low : tie.Need-sub-low Inv-loop μ-loop
 sub-low c = omega arith

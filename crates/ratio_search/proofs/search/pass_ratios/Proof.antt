@@ -4,7 +4,7 @@ use native.Mathlib.Omega.{arith}
 use borrow.Author.Needs.{needs}
 use Rattle.ratio_format.specs.Zeros.{sumOf}
 use Rattle.ratio_window.specs.Passed.{Passed}
-use Rattle.ratio_window.proofs.Passed.{passed-none, passed-more}
+use Rattle.ratio_window.proofs.Passed.{passed-start, passed-more}
 use Rattle.ratio_search.proofs.search.pass_ratios.Statement.{statement}
 use Rattle.ratio_search.proofs.search.pass_ratios.Tie as tie
 
@@ -17,7 +17,7 @@ abbrev μ-loop : tie.MeasureT-loop
 loop-holds : tie.Need-loop-holds Inv-loop μ-loop
 loop-holds c =
     let a = c .before .args in
-    (omega arith, omega arith, passed-none (a .v) (a .ratios .now) (a .sum) (a .high))
+    (omega arith, omega arith, passed-start (a .v) (a .ratios .now) (a .sum) (a .high))
 
 sub-beats : tie.Need-sub-beats Inv-loop μ-loop
 sub-beats c = omega arith

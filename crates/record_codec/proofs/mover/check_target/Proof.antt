@@ -1,25 +1,32 @@
--- `check_target` meets its contract, by the form.
+-- `check_target` meets its contract, by the number of points and by the steps.
+use mathlib.Core.Path.{subst, _∙_}
+use Prim.Native.Nat.{ℕ, _≤_, _<_}
 use borrow.Author.Needs.{needs}
+use lib.ListN.{length}
+use Rattle.record_codec.proofs.mover.Movings.{target-many, target-few}
 use Rattle.record_codec.proofs.mover.check_target.Statement.{statement}
 use Rattle.record_codec.proofs.mover.check_target.Tie as tie
 
-enum-told : tie.Need-enum-told
-enum-told c = search needs
+abbrev entry : tie.After-points-of → tie.Start
+entry k = k .before .before
 
-old-steps-requires : tie.Need-old-steps-requires
-old-steps-requires c κs = search needs
-
-enum-told-2 : tie.Need-enum-told-2
-enum-told-2 c = search needs
-
-wide-points-requires : tie.Need-wide-points-requires
-wide-points-requires c κs = search needs
+points-of-requires : tie.Need-points-of-requires
+points-of-requires c κs = search needs
 
 returns : tie.Need-returns
-returns c = rw (c .before .enum-told .given .1) (c .old-steps .ensures)
+returns c =
+    let k = c .before in
+    let ts = entry k .args .positions .now in
+    target-many (entry k .args .form) ts (entry k .pre .1) (subst (λ (n : ℕ). n < length ts) (k .points-of .ensures) (c .if1 .taken))
+
+check-steps-requires : tie.Need-check-steps-requires
+check-steps-requires c κs = search needs
 
 returns-2 : tie.Need-returns-2
-returns-2 c = rw (c .before .enum-told2 .given .1) (c .wide-points .ensures)
+returns-2 c =
+    let k = c .before .before in
+    let ts = entry k .args .positions .now in
+    c .check-steps .ensures ∙ target-few (entry k .args .form) ts (subst (λ (n : ℕ). length ts ≤ n) (k .points-of .ensures) (c .before .if1 .left))
 
 pub check-target-spec : {M : Type 1} → statement M
-check-target-spec = tie.close (tie.spec enum-told old-steps-requires enum-told-2 wide-points-requires returns returns-2)
+check-target-spec = tie.close (tie.spec points-of-requires returns check-steps-requires returns-2)

@@ -1,11 +1,11 @@
 -- `move_by` meets its contract: a law of moves answers each return.
 use mathlib.Core.List.{List}
-use mathlib.Core.Path.{_∙_}
+use mathlib.Core.Path.{_≡_, _∙_}
 use Prim.Native.Nat.{ℕ, _≤_}
 use borrow.Author.Needs.{needs}
 use lib.ListN.{length}
 use Rattle.lists.proofs.Below.{below-of}
-use Rattle.record_format.proofs.Reading.{refusal}
+use Rattle.refusals.specs.Tests.{refusal}
 use Rattle.record_codec.proofs.mover.Movings.{PointsFound, moved-as, refused-as, points-stop, points-count, points-low, field-order, target-stops, points-valid, room-stops, all-moved}
 use Rattle.record_codec.proofs.mover.move_by.Statement.{statement}
 use Rattle.record_codec.proofs.mover.move_by.Tie as tie
@@ -39,11 +39,22 @@ told k = k .before .before .before .before
 abbrev wrote : tie.After-n → tie.After-put-moved
 wrote k = k .before .before .before .before
 
+-- ---- the outputs as they are left
+
+abbrev positions-out : tie.After-read-points → List ℕ
+positions-out k = k .read-points .last .1 .1 .1 .0
+
+abbrev ratios-out : tie.After-read-points → List ℕ
+ratios-out k = k .read-points .last .1 .1 .1 .1 .0
+
+abbrev moved-out : tie.After-put-moved → List ℕ
+moved-out k = k .put-moved .last .1 .1 .1 .1 .1 .0
+
 -- ---- what holds past the points
 
 found : (k : tie.After-read-points)
-    → PointsFound (entry k .args .form) (entry k .args .input .now) (entry k .args .positions .now) (entry k .args .ratios .now) (entry k .args .count)
-    (k .read-points .result) (k .read-points .last .1 .1 .1 .1 .1 .0) (k .read-points .last .1 .1 .1 .1 .1 .1 .0)
+    → PointsFound (entry k .args .form) (entry k .args .input .now) (entry k .args .positions .now) (entry k .args .ratios .now) (entry k .args .front .count)
+    (k .read-points .result) (positions-out k) (ratios-out k)
 found k = record {
   bytes = below-of 256 (entry k .args .input .now) (λ i. shared k .shared-slice-known .given i .fits);
   elsewhere = entry k .pre .0 .elsewhere;
@@ -68,6 +79,10 @@ module _ (k : tie.Else2) where
 
   abbrev past : tie.Else1
   past = tested target
+
+-- the last output stays as long as it was
+moved-length : (k : tie.After-put-moved) → length (moved-out k) ≡ length (out (past (putting k)))
+moved-length k = k .put-moved .kept .1 .1 .1 .1 .1 .0
 
 -- ---- the needs
 
@@ -188,9 +203,9 @@ returns-3 c =
     let t = target e in
     let k = past e in
     moved-as
-    (refused-as (refusal 6 0) (out k) (w .put-moved .last .1 .1 .1 .1 .1 .0) (w .put-moved .kept .1 .1 .1 .1 .1 .0)
+    (refused-as (refusal 6 0) (out k) (moved-out w) (moved-length w)
     ∙ room-stops (found (read k)) (out k) (k .if1 .left)
-    (t .check-target .result) (t .check-target .ensures) (e .if2 .left) _ _ (start k .pre .0 .rated) (start k .pre .0 .sided) _ _ (w .put-moved .ensures) (n .enum-told .given .1))
+    (t .check-target .result) (t .check-target .ensures) (e .if2 .left) _ _ (start k .pre .0 .found .rate) (start k .pre .0 .found .side) _ _ (w .put-moved .ensures) (n .enum-told .given .1))
     (cleared .refuse-move3 .ensures)
 
 same-length-10 : tie.Need-same-length-10
@@ -210,7 +225,7 @@ returns-4 c =
     let t = target e in
     let k = past e in
     all-moved (found (read k)) (out k) (k .if1 .left)
-    (t .check-target .result) (t .check-target .ensures) (e .if2 .left) _ _ (start k .pre .0 .rated) (start k .pre .0 .sided) _ _ (w .put-moved .ensures) _ (n .n .given .1)
+    (t .check-target .result) (t .check-target .ensures) (e .if2 .left) _ _ (start k .pre .0 .found .rate) (start k .pre .0 .found .side) _ _ (w .put-moved .ensures) _ (n .n .given .1)
 
 pub move-by-spec : {M : Type 1} → statement M
 move-by-spec =

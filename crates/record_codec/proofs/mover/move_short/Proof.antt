@@ -4,6 +4,9 @@ use Rattle.record_codec.proofs.mover.Movings.{moved-as}
 use Rattle.record_codec.proofs.mover.move_short.Statement.{statement}
 use Rattle.record_codec.proofs.mover.move_short.Tie as tie
 
+abbrev entry : tie.After-refusal → tie.Start
+entry k = k .before .before .before
+
 refuse-move-requires : tie.Need-refuse-move-requires
 refuse-move-requires c κs = search needs
 
@@ -14,13 +17,13 @@ returns : tie.Need-returns
 returns c =
     let cleared = c .before .before in
     let i = cleared .before .before in
-    let s = i .before .before .before in
+    let s = entry (i .before) in
     moved-as (s .pre .0 .refused (i .if1 .taken) (s .args .out .now)) (cleared .refuse-move .ensures)
 
 move-up-to-64-requires : tie.Need-move-up-to-64-requires
 move-up-to-64-requires c κs =
     let i = c .before in
-    let s = i .before .before .before in
+    let s = entry (i .before) in
     (s .pre .0 .movable (i .if1 .left), s .pre .1)
 
 same-length-2 : tie.Need-same-length-2

@@ -9,7 +9,7 @@ use Rattle.lists.specs.Compare.{both}
 use Rattle.record_format.specs.Fields.{headSize, tagAt}
 use Rattle.record_format.specs.Runs.{positionsTag}
 use Rattle.record_format.proofs.Moves.{headOf}
-use Rattle.record_parts.specs.Fields.{CountFound}
+use Rattle.record_parts.specs.Fields.{FrontFound}
 use Rattle.record_codec.proofs.mover.Movings.{opened-front, opened-form, opened-good}
 use Rattle.record_codec.proofs.mover.open_front.Statement.{statement}
 use Rattle.record_codec.proofs.mover.open_front.Tie as tie
@@ -28,8 +28,8 @@ module _ (k : tie.Else1) where
   abbrev start : tie.Start
   start = entry (front k)
 
-  found : CountFound (start .args .input .now) (front k .read-front .result .count) (front k .read-front .result .place) (front k .read-front .result .end)
-  found = front k .read-front .ensures .found (k .if1 .left) .count
+  found : FrontFound (start .args .input .now) (front k .read-front .result)
+  found = front k .read-front .ensures .found (k .if1 .left)
 
 -- what the test of the head says
 head-is : (k : tie.After-is-in) → k .is-in .result ≡ headOf (start (k .before) .args .form) (start (k .before) .args .input .now)

@@ -1,6 +1,8 @@
 -- `read_record` meets its contract: a law of readings answers each return.
 use mathlib.Core.Bool.{false}
+use mathlib.Core.List.{List}
 use mathlib.Core.Path.{_≡_, sym, _∙_}
+use Prim.Native.Nat.{ℕ}
 use native.Mathlib.Omega.{arith}
 use borrow.Author.Needs.{needs}
 use lib.ListN.{length}
@@ -38,6 +40,14 @@ room-cleared k = k .before .before .before .before
 abbrev points-cleared : tie.After-slice-known10 → tie.After-refuse-read3
 points-cleared k = k .before .before .before .before
 
+-- ---- the outputs as reading the points leaves them
+
+abbrev positions-out : tie.After-read-points → List ℕ
+positions-out k = k .read-points .last .1 .1 .1 .0
+
+abbrev ratios-out : tie.After-read-points → List ℕ
+ratios-out k = k .read-points .last .1 .1 .1 .1 .0
+
 -- ---- what holds past the test of room
 
 module _ (k : tie.Else2) where
@@ -58,6 +68,14 @@ module _ (k : tie.Else2) where
 
   enough : lacksRoom (length (start .args .positions .now)) (length (start .args .ratios .now)) (fronted .read-front .result .count) ≡ false
   enough = sym (lacked .lacks .ensures) ∙ k .if2 .left
+
+-- the outputs stay as long as they were
+module _ (k : tie.After-read-points) where
+  positions-kept : length (positions-out k) ≡ length (start (room k) .args .positions .now)
+  positions-kept = k .read-points .kept .1 .1 .1 .0
+
+  ratios-kept : length (ratios-out k) ≡ length (start (room k) .args .ratios .now)
+  ratios-kept = k .read-points .kept .1 .1 .1 .1 .0
 
 -- ---- the needs
 
@@ -88,7 +106,7 @@ lacks-requires c κs = search needs
 cast-t22 : tie.Need-cast-t22
 cast-t22 c =
     let l = c .before .before in
-    let near = place-near (front (l .before) .read-front .ensures .found (l .before .if1 .left) .count) in
+    let near = place-near (front (l .before) .read-front .ensures .found (l .before .if1 .left)) in
     omega arith
 
 refuse-read-requires-2 : tie.Need-refuse-read-requires-2
@@ -116,7 +134,7 @@ read-points-requires c κs =
     let k = c .before .before in
     let a = start k .args in
     let r = room-both (a .openly) (a .expected) (a .input .now) (a .positions .now) (a .ratios .now) _ (fronted k .read-front .ensures) (good-front k) (enough k) in
-    (found k .count, r .0, r .1)
+    (found k, r .0, r .1)
 
 refuse-read-requires-3 : tie.Need-refuse-read-requires-3
 refuse-read-requires-3 c κs = search needs
@@ -136,14 +154,14 @@ returns-3 c =
     let a = start r .args in
     answered-as
     (read-points (a .openly) (a .expected) (a .input .now) (a .positions .now) (a .ratios .now) (f .read-front .result) (f .read-front .ensures) (good-front r) (enough r)
-    (p .read-points .result) _ _ (p .read-points .ensures) (i .if3 .taken) (p .read-points .kept .1 .1 .1 .1 .1 .0) (p .read-points .kept .1 .1 .1 .1 .1 .1 .0))
+    (p .read-points .result) (positions-out p) (ratios-out p) (p .read-points .ensures) (i .if3 .taken) (positions-kept p) (ratios-kept p))
     (points-cleared c .refuse-read3 .ensures)
 
 cast-t36 : tie.Need-cast-t36
 cast-t36 c =
     let r = room (points (c .before)) in
-    let counted = found r .count .counted in
-    let few = found r .count .few in
+    let counted = found r .counted in
+    let few = found r .few in
     omega arith
 
 form-tag-requires : tie.Need-form-tag-requires
@@ -166,7 +184,7 @@ returns-4 c =
     let f = fronted r in
     let a = start r .args in
     read-found (a .openly) (a .expected) (a .input .now) (a .positions .now) (a .ratios .now) (f .read-front .result) (f .read-front .ensures) (good-front r) (enough r)
-    (p .read-points .result) _ _ (p .read-points .ensures) (last .if3 .left) (c .form-tag .result) (c .form-tag .ensures)
+    (p .read-points .result) (positions-out p) (ratios-out p) (p .read-points .ensures) (last .if3 .left) (c .form-tag .result) (c .form-tag .ensures)
 
 pub read-record-spec : {M : Type 1} → statement M
 read-record-spec =

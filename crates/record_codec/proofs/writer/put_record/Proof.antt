@@ -1,18 +1,19 @@
 -- `put_record` meets its contract: the fields up to the positions', and then the ratios' field past them.
 use mathlib.Core.List.{List, [], _∷_, _++_, append-assoc}
 use mathlib.Core.Path.{_≡_, sym}
-use Prim.Native.Nat.{ℕ}
+use Prim.Native.Nat.{ℕ, _≤_}
+use native.Mathlib.Omega.{arith}
 use borrow.Author.Needs.{needs}
 use lib.ListN.{length}
-use Rattle.outputs.proofs.Outputs.Writers.{rest-left}
+use Rattle.outputs.proofs.Outputs.Writers.{rest-left, both-fit, next-placed}
 use Rattle.record_format.specs.Fields.{Field, laid}
 use Rattle.record_format.specs.Runs.{Run, run, frontFields, fieldsOf, recordOf, positionsField, ratiosField}
 use Rattle.record_parts.specs.Leads.{leadFields}
-use Rattle.record_parts.proofs.putting.Writings.{fields-next}
+use Rattle.record_parts.proofs.putting.Writings.{fields-next, fields-short}
 use Rattle.record_codec.proofs.writer.put_record.Statement.{statement}
 use Rattle.record_codec.proofs.writer.put_record.Tie as tie
 
--- ---- places: the call of each writer, and the output as the first leaves it
+-- ---- places: the call of each writer
 
 abbrev lent : tie.After-put-lead → tie.After-slice-known
 lent k = k .before .before
@@ -20,11 +21,19 @@ lent k = k .before .before
 abbrev entry : tie.After-put-lead → tie.Start
 entry k = lent k .before .before .before
 
-abbrev led : tie.After-put-coded-next → tie.After-put-lead
+abbrev led : tie.After-lead-end → tie.After-put-lead
 led k = k .before .before .before .before
+
+abbrev coding : tie.After-put-coded → tie.After-lead-end
+coding k = k .before .before .before
+
+-- ---- the output as the first leaves it, and the rest as the second does
 
 abbrev lead-out : tie.After-put-lead → List ℕ
 lead-out k = k .put-lead .last .1 .1 .1 .1 .0
+
+abbrev ratios-out : tie.After-put-coded → List ℕ
+ratios-out k = k .put-coded .last .1 .1 .0
 
 -- ---- the fields
 
@@ -45,16 +54,24 @@ module _ (e : tie.Start) where
       (append-assoc (frontFields (e .args .rate) (e .args .side) (length (e .args .positions .now)))
       (positionsField (e .args .form) (e .args .positions .now) ∷ []) ratios-field)
 
+-- the lead is written, and the rest is lent
+module _ (k : tie.After-lead-end) where
+  abbrev start : tie.Start
+  start = entry (led k)
+
+  inside : k .lead-end .given .0 .0 ≤ length (lead-out (led k))
+  inside = rest-left (laid (lead start)) (start .args .out .now) (lead-out (led k)) (led k .put-lead .result) (led k .put-lead .ensures) _ (k .lead-end .given .1)
+
 -- ---- the needs
 
 put-lead-requires : tie.Need-put-lead-requires
 put-lead-requires c κs = search needs
 
-put-coded-next-requires : tie.Need-put-coded-next-requires
-put-coded-next-requires c κs =
-    let k = c .before .before .before in
-    let e = entry k in
-    (rest-left (laid (lead e)) (e .args .out .now) (lead-out k) (k .put-lead .result) (k .put-lead .ensures), e .pre .2)
+enum-known-lead-end : tie.Need-enum-known-lead-end
+enum-known-lead-end c = search needs
+
+enum-told : tie.Need-enum-told
+enum-told c = search needs
 
 same-length : tie.Need-same-length
 same-length c = search needs
@@ -62,10 +79,58 @@ same-length c = search needs
 returns : tie.Need-returns
 unfolding recordOf
 returns c =
-    let k = c .before .before in
-    let e = entry (led k) in
-    fields-next (lead e) (ratios-field e) (fieldsOf (given-run e)) (last-then e) (led k .put-lead .result) (k .put-coded-next .result) (e .args .out .now) (lead-out (led k)) (k .put-coded-next .last .1 .1 .1 .0)
-    (k .put-coded-next .ensures) (led k .put-lead .ensures)
+    let k = c .before .before .before .before in
+    let e = entry k in
+    fields-short (lead e) (ratios-field e) (fieldsOf (given-run e)) (last-then e) (k .put-lead .result) (e .args .out .now) (lead-out k) (c .enum-told .given .1) (k .put-lead .ensures)
+
+sub-put-coded : tie.Need-sub-put-coded
+sub-put-coded c = inside (c .before)
+
+part-put-coded-start : tie.Need-part-put-coded-start
+part-put-coded-start c = inside (c .before)
+
+part-put-coded-end : tie.Need-part-put-coded-end
+part-put-coded-end c = search needs
+
+put-coded-requires : tie.Need-put-coded-requires
+put-coded-requires c κs = search needs
+
+sum-of-requires : tie.Need-sum-of-requires
+sum-of-requires c κs m is =
+    let p = c .before .before in
+    let k = coding p in
+    let e = start k in
+    let fit = both-fit (laid (ratios-field e)) (lead-out (led k)) (led k .put-lead .result) _ (k .lead-end .given .1)
+    (ratios-out p) (p .put-coded .result) (p .put-coded .ensures) (laid (lead e)) (e .args .out .now) (led k .put-lead .ensures) m is in
+    omega (arith, e .good)
+
+same-length-2 : tie.Need-same-length-2
+same-length-2 c = search needs
+
+returns-2 : tie.Need-returns-2
+unfolding recordOf
+returns-2 c =
+    let p = c .before .before .before in
+    let k = coding p in
+    let e = start k in
+    fields-next (lead e) (ratios-field e) (fieldsOf (given-run e)) (last-then e) (led k .put-lead .result) (c .sum-of .result) (e .args .out .now) (lead-out (led k)) _
+    (next-placed (laid (ratios-field e)) (lead-out (led k)) (led k .put-lead .result) _ (k .lead-end .given .1)
+    (ratios-out p) (p .put-coded .result) (p .put-coded .ensures) (c .sum-of .result) (c .sum-of .ensures))
+    (led k .put-lead .ensures)
 
 pub put-record-spec : {M : Type 1} → statement M
-put-record-spec = tie.close (tie.spec put-lead-requires put-coded-next-requires same-length returns)
+put-record-spec =
+    tie.close
+    (tie.spec
+    put-lead-requires
+    enum-known-lead-end
+    enum-told
+    same-length
+    returns
+    sub-put-coded
+    part-put-coded-start
+    part-put-coded-end
+    put-coded-requires
+    sum-of-requires
+    same-length-2
+    returns-2)

@@ -3,7 +3,7 @@ use mathlib.Core.Path.{_≡_, sym, ap, _∙_}
 use Prim.Native.Nat.{ℕ}
 use native.Mathlib.Omega.{arith}
 use borrow.Author.Needs.{needs}
-use lib.ListN.{replicate}
+use lib.ListN.{length, replicate}
 use Rattle.refusals.specs.declared.Refusal.{Refusal}
 use Rattle.refusals.specs.Tests.{firstOf}
 use Rattle.record_format.specs.declared.WriteAnswer.{WriteAnswer}
@@ -27,6 +27,10 @@ told k = k .before .before .before .before
 
 abbrev accepted : tie.After-put-record → tie.Else1
 accepted k = k .before .before
+
+-- the output stays as long as it was
+out-length : (k : tie.After-put-record) → length (k .put-record .last .1 .1 .1 .1 .1 .0) ≡ length (entry (accepted k .before) .args .out .now)
+out-length k = k .put-record .kept .1 .1 .1 .1 .1 .0
 
 -- ---- the run, and that its tests refuse nothing
 
@@ -90,7 +94,7 @@ returns-2 c =
     let o = entry (k .before) .args .out .now in
     let h = run-no-room r o (clear k) (short-of (recordOf r) o _ _ (p .put-record .ensures) (t .enum-told .given .1)) in
     let e = cleared .refuse-write2 .ensures in
-    (e .0 ∙ h .0, e .1 ∙ ap (λ (n : ℕ). replicate n 0) (p .put-record .kept .1 .1 .1 .1 .1 .0) ∙ h .1)
+    (e .0 ∙ h .0, e .1 ∙ ap (λ (n : ℕ). replicate n 0) (out-length p) ∙ h .1)
 
 same-length-3 : tie.Need-same-length-3
 same-length-3 c = search needs

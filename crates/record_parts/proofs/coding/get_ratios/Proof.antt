@@ -12,6 +12,13 @@ use Rattle.ratio_bodies.proofs.Taking.{filled-whole}
 use Rattle.record_parts.proofs.coding.get_ratios.Statement.{statement}
 use Rattle.record_parts.proofs.coding.get_ratios.Tie as tie
 
+-- the output as each rule leaves it
+abbrev open-out : tie.After-get-open → List ℕ
+open-out k = k .get-open .last .1 .1 .0
+
+abbrev strict-out : tie.After-get-strict → List ℕ
+strict-out k = k .get-strict .last .1 .1 .0
+
 get-open-requires : tie.Need-get-open-requires
 get-open-requires c κs = search needs
 
@@ -35,8 +42,8 @@ returns c =
     let a = openly .before .before .before .args in
     let s = a .body .now in
     rw (openly .if1 .taken)
-    (subst (λ (x : Option (List ℕ)). Filled x (c .whole .result) (a .out .now) (g .last .1 .1 .0)) (sym (open-taken (a .count) s))
-    (filled-whole (a .count) s (openTaken (a .count) s) (g .result) (c .whole .result) (a .out .now) (g .last .1 .1 .0) (g .ensures) (c .whole .ensures)))
+    (subst (λ (x : Option (List ℕ)). Filled x (c .whole .result) (a .out .now) (open-out took)) (sym (open-taken (a .count) s))
+    (filled-whole (a .count) s (openTaken (a .count) s) (g .result) (c .whole .result) (a .out .now) (open-out took) (g .ensures) (c .whole .ensures)))
 
 same-length-2 : tie.Need-same-length-2
 same-length-2 c = search needs
@@ -50,8 +57,8 @@ returns-2 c =
     let a = known .before .args in
     let s = a .body .now in
     rw (strictly .if1 .left)
-    (subst (λ (x : Option (List ℕ)). Filled x (c .whole2 .result) (a .out .now) (g .last .1 .1 .0)) (sym (strict-taken (a .count) s (below-of 256 s (λ i. known .shared-slice-known .given i .fits))))
-    (filled-whole (a .count) s (strictTaken (a .count) s) (g .result) (c .whole2 .result) (a .out .now) (g .last .1 .1 .0) (g .ensures) (c .whole2 .ensures)))
+    (subst (λ (x : Option (List ℕ)). Filled x (c .whole2 .result) (a .out .now) (strict-out took)) (sym (strict-taken (a .count) s (below-of 256 s (λ i. known .shared-slice-known .given i .fits))))
+    (filled-whole (a .count) s (strictTaken (a .count) s) (g .result) (c .whole2 .result) (a .out .now) (strict-out took) (g .ensures) (c .whole2 .ensures)))
 
 pub get-ratios-spec : {M : Type 1} → statement M
 get-ratios-spec =

@@ -9,11 +9,11 @@ use borrow.Author.Tests.{not-true, not-false}
 use Rattle.refusals.specs.Tests.{Test, firstOf}
 use Rattle.position_format.specs.Positions.{readPositions}
 use Rattle.position_format.specs.Tables.{tableOf}
-use Rattle.record_format.specs.Fields.{nextAt}
 use Rattle.record_format.specs.Runs.{positionsTags}
 use Rattle.record_format.specs.Reading.{positionsTests}
 use Rattle.record_parts.proofs.Fields.{part-refused}
-use Rattle.record_parts.proofs.coding.Codings.{codedTests, many-refused, many-passed, coded-refused, body-order, body-inside, coded-none, coded-found}
+use Rattle.record_parts.proofs.front.Fronts.{place-near}
+use Rattle.record_parts.proofs.coding.Codings.{CodedField, codedTests, many-refused, many-passed, coded-refused, body-order, body-inside, coded-none, coded-found}
 use Rattle.record_parts.proofs.coding.read_positions.Statement.{statement}
 use Rattle.record_parts.proofs.coding.read_positions.Tie as tie
 
@@ -37,36 +37,46 @@ abbrev tests : tie.Start → List Test
 tests e = positionsTests (e .args .input .now)
 
 abbrev reads : tie.Start → List ℕ → Option (List ℕ)
-reads e = readPositions (tableOf (e .args .form)) (e .args .count)
+reads e = readPositions (tableOf (e .args .form)) (e .args .front .count)
 
 module _ (k : tie.Else1) where
   abbrev start : tie.Start
   start = entry (k .before)
 
-  passed : firstOf (tests start) ≡ firstOf (codedTests (start .args .input .now) positionsTags (reads start) 17 (start .args .at))
+  passed : firstOf (tests start) ≡ firstOf (codedTests (start .args .input .now) positionsTags (reads start) 17 (start .args .front .end))
   passed =
       let a = start .args in
-      let p = start .pre in
-      many-passed (a .input .now) (a .form) (a .count) (a .at) (p .0) (p .1) (p .3) (k .before .has-many .result) (k .before .has-many .ensures) (k .if1 .left)
+      let h = start .pre .1 in
+      many-passed (a .input .now) (a .form) (a .front .count) (a .front .end) (start .pre .0) (h .next) (h .counted) (k .before .has-many .result) (k .before .has-many .ensures) (k .if1 .left)
+
+-- the field that was read
+module _ (k : tie.After-read-field) where
+  abbrev begun : tie.Start
+  begun = start (few k)
+
+  coded : CodedField (tests begun) positionsTags (reads begun) 17 (begun .args .input .now) (begun .args .front .end) (k .read-field .result)
+  coded = record { numbered = λ z. omega arith; same = passed (few k); read = k .read-field .ensures }
 
 -- ---- the needs
 
 has-many-requires : tie.Need-has-many-requires
-has-many-requires c κs = search needs
+has-many-requires c κs =
+    let h = c .before .before .pre .1 in
+    omega (arith, h .next, h .inside)
 
 cast-t14 : tie.Need-cast-t14
-unfolding nextAt
-cast-t14 c = let e = entry (c .before) in omega (arith, e .pre .1, e .pre .2, e .pre .5)
+cast-t14 c = omega (arith, place-near (entry (c .before .before) .pre .1))
 
 returns : tie.Need-returns
 returns c =
-    let m = c .before in
+    let m = c .before .before in
     let e = entry m in
     let a = e .args in
-    let p = e .pre in
+    let h = e .pre .1 in
     record {
-      part = part-refused (tests e) (a .input .now) (a .at) _ 0 (λ z. omega arith)
-          (many-refused (a .input .now) (a .form) (a .count) (a .at) (p .0) (p .1) (p .3) (m .has-many .result) (m .has-many .ensures) (c .if1 .taken) (p .7) (a .place) (p .2));
+      part = part-refused (tests e) (a .input .now) (a .front .end) _ 0 (λ z. omega arith)
+          (many-refused (a .input .now) (a .form) (a .front .count) (a .front .end) (e .pre .0) (h .next) (h .counted) (m .has-many .result) (m .has-many .ensures) (c .before .if1 .taken)
+          (omega (arith, h .counted, h .few)) (a .front .place) (h .stands));
       filled = λ z. absurd (omega arith);
     }
 
@@ -74,35 +84,24 @@ slice-aggregate-read-field : tie.Need-slice-aggregate-read-field
 slice-aggregate-read-field c = search needs
 
 read-field-requires : tie.Need-read-field-requires
-read-field-requires c κs = search needs
+read-field-requires c κs =
+    let h = start (c .before) .pre .1 in
+    (omega (arith, h .next, h .inside), omega (arith, h .next, h .near))
 
 returns-2 : tie.Need-returns-2
 returns-2 c =
     let k = c .before .before in
-    let e = start (few k) in
-    let a = e .args in
-    coded-refused (tests e) positionsTags (reads e) 17 (λ z. omega arith) (a .input .now) (a .at) (passed (few k)) (k .read-field .result) (k .read-field .ensures) (a .out .now) (a .out .now) (c .if2 .taken)
+    let o = begun k .args .out .now in
+    coded-refused (coded k) o o (c .if2 .taken)
 
 sub-get-positions : tie.Need-sub-get-positions
-sub-get-positions c =
-    let k = field c in
-    let e = start (few k) in
-    let a = e .args in
-    body-order (tests e) positionsTags (reads e) 17 (λ z. omega arith) (a .input .now) (a .at) (passed (few k)) (k .read-field .result) (k .read-field .ensures) (c .if2 .left)
+sub-get-positions c = body-order (coded (field c)) (c .if2 .left)
 
 part-get-positions-start : tie.Need-part-get-positions-start
-part-get-positions-start c =
-    let k = field c in
-    let e = start (few k) in
-    let a = e .args in
-    body-order (tests e) positionsTags (reads e) 17 (λ z. omega arith) (a .input .now) (a .at) (passed (few k)) (k .read-field .result) (k .read-field .ensures) (c .if2 .left)
+part-get-positions-start c = body-order (coded (field c)) (c .if2 .left)
 
 part-get-positions-end : tie.Need-part-get-positions-end
-part-get-positions-end c =
-    let k = field c in
-    let e = start (few k) in
-    let a = e .args in
-    body-inside (tests e) positionsTags (reads e) 17 (λ z. omega arith) (a .input .now) (a .at) (passed (few k)) (k .read-field .result) (k .read-field .ensures) (c .if2 .left)
+part-get-positions-end c = body-inside (coded (field c)) (c .if2 .left)
 
 get-positions-requires : tie.Need-get-positions-requires
 get-positions-requires c κs = search needs
@@ -118,10 +117,7 @@ returns-3 c =
     let b = c .before .before .before in
     let g = found b in
     let k = field g in
-    let e = start (few k) in
-    let a = e .args in
-    coded-none (tests e) positionsTags (reads e) 17 (λ z. omega arith) (a .input .now) (a .at) (passed (few k)) (k .read-field .result) (k .read-field .ensures) (g .if2 .left)
-    (b .get-positions .result) (a .out .now) _ (b .get-positions .ensures) (not-true _ (c .if3 .taken))
+    coded-none (coded k) (g .if2 .left) (b .get-positions .result) (begun k .args .out .now) _ (b .get-positions .ensures) (not-true _ (c .if3 .taken))
 
 same-length-2 : tie.Need-same-length-2
 same-length-2 c = search needs
@@ -131,10 +127,7 @@ returns-4 c =
     let b = c .before .before .before in
     let g = found b in
     let k = field g in
-    let e = start (few k) in
-    let a = e .args in
-    coded-found (tests e) positionsTags (reads e) 17 (λ z. omega arith) (a .input .now) (a .at) (passed (few k)) (k .read-field .result) (k .read-field .ensures) (g .if2 .left)
-    (b .get-positions .result) (a .out .now) _ (b .get-positions .ensures) (not-false _ (c .if3 .left))
+    coded-found (coded k) (g .if2 .left) (b .get-positions .result) (begun k .args .out .now) _ (b .get-positions .ensures) (not-false _ (c .if3 .left))
 
 pub read-positions-spec : {M : Type 1} → statement M
 read-positions-spec =

@@ -1,15 +1,16 @@
 -- `read_ratios` meets its contract, by what `read_field` and `get_ratios` find.
-use mathlib.Core.List.{[], _∷_}
-use mathlib.Core.Path.{_≡_, sym, ap₂}
+use mathlib.Core.List.{List, [], _∷_}
+use mathlib.Core.Option.{Option}
+use mathlib.Core.Path.{sym, ap₂}
 use Prim.Native.Nat.{ℕ}
 use native.Mathlib.Omega.{arith}
 use borrow.Author.Needs.{needs}
 use borrow.Author.Tests.{not-true, not-false}
-use Rattle.refusals.specs.Tests.{firstOf}
+use Rattle.refusals.specs.Tests.{Test, firstOf}
 use Rattle.record_format.specs.Runs.{ratiosTag}
 use Rattle.record_format.specs.Reading.{ratiosTests}
 use Rattle.record_parts.specs.Fields.{ratiosBy}
-use Rattle.record_parts.proofs.coding.Codings.{codedTests, coded-refused, body-order, body-inside, coded-none, coded-found}
+use Rattle.record_parts.proofs.coding.Codings.{CodedField, codedTests, coded-refused, body-order, body-inside, coded-none, coded-found}
 use Rattle.record_parts.proofs.coding.read_ratios.Statement.{statement}
 use Rattle.record_parts.proofs.coding.read_ratios.Tie as tie
 
@@ -23,12 +24,29 @@ field k = k .before .before
 abbrev found : tie.After-get-ratios → tie.Else1
 found k = k .before .before .before
 
--- the tests of the field, at the offset that was given
-tests-are : (e : tie.Start) → let a = e .args in let s = a .input .now in
-    firstOf (ratiosTests (ratiosBy (a .openly)) s) ≡ firstOf (codedTests s (ratiosTag ∷ []) (ratiosBy (a .openly) (a .count)) 18 (a .at))
-tests-are e =
-    let a = e .args in
-    ap₂ (λ (c p : ℕ). firstOf (codedTests (a .input .now) (ratiosTag ∷ []) (ratiosBy (a .openly) c) 18 p)) (sym (e .pre .1)) (sym (e .pre .0))
+-- ---- the tests of the field, and what reads its body
+
+abbrev tests : tie.Start → List Test
+tests e = ratiosTests (ratiosBy (e .args .openly)) (e .args .input .now)
+
+abbrev reads : tie.Start → List ℕ → Option (List ℕ)
+reads e = ratiosBy (e .args .openly) (e .args .count)
+
+-- the field that was read, at the offset that was given
+module _ (k : tie.After-read-field) where
+  abbrev begun : tie.Start
+  begun = entry k
+
+  coded : CodedField (tests begun) (ratiosTag ∷ []) (reads begun) 18 (begun .args .input .now) (begun .args .at) (k .read-field .result)
+  coded =
+      let a = begun .args in
+      record {
+        numbered = λ z. omega arith;
+        same = ap₂ (λ (c p : ℕ). firstOf (codedTests (a .input .now) (ratiosTag ∷ []) (ratiosBy (a .openly) c) 18 p)) (sym (begun .pre .counted)) (sym (begun .pre .here));
+        read = k .read-field .ensures;
+      }
+
+-- ---- the needs
 
 slice-aggregate-read-field : tie.Need-slice-aggregate-read-field
 slice-aggregate-read-field c = search needs
@@ -39,26 +57,17 @@ read-field-requires c κs = search needs
 returns : tie.Need-returns
 returns c =
     let k = c .before .before in
-    let a = entry k .args in
-    coded-refused (ratiosTests (ratiosBy (a .openly)) (a .input .now)) (ratiosTag ∷ []) (ratiosBy (a .openly) (a .count)) 18 (λ z. omega arith) (a .input .now) (a .at) (tests-are (entry k)) (k .read-field .result) (k .read-field .ensures) (a .out .now) (a .out .now) (c .if1 .taken)
+    let o = begun k .args .out .now in
+    coded-refused (coded k) o o (c .if1 .taken)
 
 sub-get-ratios : tie.Need-sub-get-ratios
-sub-get-ratios c =
-    let k = field c in
-    let a = entry k .args in
-    body-order (ratiosTests (ratiosBy (a .openly)) (a .input .now)) (ratiosTag ∷ []) (ratiosBy (a .openly) (a .count)) 18 (λ z. omega arith) (a .input .now) (a .at) (tests-are (entry k)) (k .read-field .result) (k .read-field .ensures) (c .if1 .left)
+sub-get-ratios c = body-order (coded (field c)) (c .if1 .left)
 
 part-get-ratios-start : tie.Need-part-get-ratios-start
-part-get-ratios-start c =
-    let k = field c in
-    let a = entry k .args in
-    body-order (ratiosTests (ratiosBy (a .openly)) (a .input .now)) (ratiosTag ∷ []) (ratiosBy (a .openly) (a .count)) 18 (λ z. omega arith) (a .input .now) (a .at) (tests-are (entry k)) (k .read-field .result) (k .read-field .ensures) (c .if1 .left)
+part-get-ratios-start c = body-order (coded (field c)) (c .if1 .left)
 
 part-get-ratios-end : tie.Need-part-get-ratios-end
-part-get-ratios-end c =
-    let k = field c in
-    let a = entry k .args in
-    body-inside (ratiosTests (ratiosBy (a .openly)) (a .input .now)) (ratiosTag ∷ []) (ratiosBy (a .openly) (a .count)) 18 (λ z. omega arith) (a .input .now) (a .at) (tests-are (entry k)) (k .read-field .result) (k .read-field .ensures) (c .if1 .left)
+part-get-ratios-end c = body-inside (coded (field c)) (c .if1 .left)
 
 get-ratios-requires : tie.Need-get-ratios-requires
 get-ratios-requires c κs = search needs
@@ -74,9 +83,7 @@ returns-2 c =
     let b = c .before .before .before in
     let g = found b in
     let k = field g in
-    let a = entry k .args in
-    coded-none (ratiosTests (ratiosBy (a .openly)) (a .input .now)) (ratiosTag ∷ []) (ratiosBy (a .openly) (a .count)) 18 (λ z. omega arith) (a .input .now) (a .at) (tests-are (entry k)) (k .read-field .result) (k .read-field .ensures) (g .if1 .left)
-    (b .get-ratios .result) (a .out .now) _ (b .get-ratios .ensures) (not-true _ (c .if2 .taken))
+    coded-none (coded k) (g .if1 .left) (b .get-ratios .result) (begun k .args .out .now) _ (b .get-ratios .ensures) (not-true _ (c .if2 .taken))
 
 same-length-2 : tie.Need-same-length-2
 same-length-2 c = search needs
@@ -86,9 +93,7 @@ returns-3 c =
     let b = c .before .before .before in
     let g = found b in
     let k = field g in
-    let a = entry k .args in
-    coded-found (ratiosTests (ratiosBy (a .openly)) (a .input .now)) (ratiosTag ∷ []) (ratiosBy (a .openly) (a .count)) 18 (λ z. omega arith) (a .input .now) (a .at) (tests-are (entry k)) (k .read-field .result) (k .read-field .ensures) (g .if1 .left)
-    (b .get-ratios .result) (a .out .now) _ (b .get-ratios .ensures) (not-false _ (c .if2 .left))
+    coded-found (coded k) (g .if1 .left) (b .get-ratios .result) (begun k .args .out .now) _ (b .get-ratios .ensures) (not-false _ (c .if2 .left))
 
 pub read-ratios-spec : {M : Type 1} → statement M
 read-ratios-spec =

@@ -1,13 +1,14 @@
 -- `read_points` meets its contract: a law of points answers each return.
+use mathlib.Core.List.{List}
+use mathlib.Core.Option.{Option}
 use mathlib.Core.Path.{_≡_, ap, _∙_}
 use Prim.Native.Nat.{ℕ}
-use native.Mathlib.Omega.{arith}
 use borrow.Author.Needs.{needs}
 use Rattle.record_format.specs.Fields.{tagAt}
 use Rattle.record_format.specs.Runs.{formOf}
 use Rattle.record_format.specs.Reading.{formIn}
 use Rattle.record_parts.specs.Fields.{ratiosBy}
-use Rattle.record_parts.proofs.points.ReadPoints.{points-positions, ratios-at, ratios-inside, ratios-near, points-ratios, points-found}
+use Rattle.record_parts.proofs.points.ReadPoints.{PositionsPast, ratios-due, points-positions, points-ratios, points-found}
 use Rattle.record_parts.proofs.points.read_points.Statement.{statement}
 use Rattle.record_parts.proofs.points.read_points.Tie as tie
 
@@ -28,9 +29,29 @@ later k = k .before .before
 abbrev ratios : tie.After-ratios-refused → tie.After-read-ratios
 ratios k = k .before .before .before
 
+-- ---- what is read
+
 -- the form of the positions, which the tag past the front names
 form-is : (k : tie.After-form-at) → k .form-at .result ≡ formIn (entry k .args .input .now)
 form-is k = k .form-at .ensures ∙ ap (λ (p : ℕ). formOf (tagAt (entry k .args .input .now) p)) (entry k .pre .0 .next)
+
+-- the output of the positions, and of the ratios
+abbrev positions-out : tie.After-read-positions → List ℕ
+positions-out p = p .read-positions .last .1 .1 .1 .0
+
+abbrev ratios-out : tie.After-read-ratios → List ℕ
+ratios-out q = q .read-ratios .last .1 .1 .1 .1 .0
+
+-- the positions, past the front
+module _ (p : tie.After-read-positions) where
+  abbrev start : tie.Start
+  start = entry (formed p)
+
+  abbrev reading : ℕ → List ℕ → Option (List ℕ)
+  reading = ratiosBy (start .args .openly)
+
+  past : PositionsPast (start .args .input .now) (start .args .positions .now) (start .args .front) (formed p .form-at .result) (p .read-positions .result) (positions-out p)
+  past = record { front = start .pre .0; form = form-is (formed p); read = p .read-positions .ensures }
 
 -- ---- the needs
 
@@ -40,13 +61,7 @@ form-at-requires c κs = search needs
 read-positions-requires : tie.Need-read-positions-requires
 read-positions-requires c κs =
     let k = c .before in
-    let h = entry k .pre .0 in
-    let next = h .next in
-    let inside = h .inside in
-    let near = h .near in
-    let count = h .counted in
-    let few = h .few in
-    (form-is k, next, h .stands, count, omega arith, omega arith, entry k .pre .1, omega arith)
+    (form-is k, entry k .pre .0, entry k .pre .1)
 
 no-points-requires : tie.Need-no-points-requires
 no-points-requires c κs = search needs
@@ -58,25 +73,14 @@ returns : tie.Need-returns
 returns c =
     let i = c .before in
     let p = positions (i .before) in
-    let k = formed p in
-    let a = entry k .args in
-    points-positions (ratiosBy (a .openly)) (a .input .now) (a .positions .now) (a .ratios .now) (entry k .pre .0) (k .form-at .result) (form-is k) (p .read-positions .result) _ (p .read-positions .ensures)
-    _ _ (c .no-points .ensures) (i .if1 .taken)
+    let vs = start p .args .ratios .now in
+    points-positions (past p) (reading p) vs _ vs (c .no-points .ensures) (i .if1 .taken)
 
 read-ratios-requires : tie.Need-read-ratios-requires
 read-ratios-requires c κs =
     let i = c .before in
     let p = positions (i .before) in
-    let k = formed p in
-    let a = entry k .args in
-    let h = entry k .pre .0 in
-    let count = h .counted in
-    let few = h .few in
-    let r = ratiosBy (a .openly) in
-    let at = ratios-at r (a .input .now) (a .positions .now) (a .ratios .now) h (k .form-at .result) (form-is k) (p .read-positions .result) _ (p .read-positions .ensures) (i .if1 .left) in
-    let inside = ratios-inside r (a .input .now) (a .positions .now) (a .ratios .now) h (k .form-at .result) (form-is k) (p .read-positions .result) _ (p .read-positions .ensures) (i .if1 .left) in
-    let near = ratios-near r (a .input .now) (a .positions .now) (a .ratios .now) h (k .form-at .result) (form-is k) (p .read-positions .result) _ (p .read-positions .ensures) (i .if1 .left) in
-    (at, count, inside, omega arith, entry k .pre .2, omega arith)
+    ratios-due (past p) (i .if1 .left) (start p .args .ratios .now) (start p .pre .2)
 
 no-points-requires-2 : tie.Need-no-points-requires-2
 no-points-requires-2 c κs = search needs
@@ -93,10 +97,7 @@ returns-2 c =
     let q = ratios (j .before) in
     let i = later q in
     let p = positions (i .before) in
-    let k = formed p in
-    let a = entry k .args in
-    points-ratios (ratiosBy (a .openly)) (a .input .now) (a .positions .now) (a .ratios .now) (entry k .pre .0) (k .form-at .result) (form-is k) (p .read-positions .result) _ (p .read-positions .ensures) (i .if1 .left)
-    (q .read-ratios .result) _ (q .read-ratios .ensures) _ (c .no-points2 .ensures) (j .if2 .taken)
+    points-ratios (past p) (reading p) (start p .args .ratios .now) (i .if1 .left) (q .read-ratios .result) (ratios-out q) (q .read-ratios .ensures) _ (c .no-points2 .ensures) (j .if2 .taken)
 
 same-length-4 : tie.Need-same-length-4
 same-length-4 c = search needs
@@ -109,10 +110,7 @@ returns-3 c =
     let q = ratios (c .before) in
     let i = later q in
     let p = positions (i .before) in
-    let k = formed p in
-    let a = entry k .args in
-    points-found (ratiosBy (a .openly)) (a .input .now) (a .positions .now) (a .ratios .now) (entry k .pre .0) (k .form-at .result) (form-is k) (p .read-positions .result) _ (p .read-positions .ensures) (i .if1 .left)
-    (q .read-ratios .result) _ (q .read-ratios .ensures) (c .if2 .left)
+    points-found (past p) (reading p) (start p .args .ratios .now) (i .if1 .left) (q .read-ratios .result) (ratios-out q) (q .read-ratios .ensures) (c .if2 .left)
 
 pub read-points-spec : {M : Type 1} → statement M
 read-points-spec =

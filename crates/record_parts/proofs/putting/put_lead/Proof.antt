@@ -1,16 +1,17 @@
 -- `put_lead` meets its contract: each writer puts its field past those before.
 use mathlib.Core.List.{List, [], _∷_, _++_}
 use mathlib.Core.Path.{refl}
-use Prim.Native.Nat.{ℕ}
+use Prim.Native.Nat.{ℕ, _≤_}
+use native.Mathlib.Omega.{arith}
 use borrow.Author.Needs.{needs}
 use lib.ListN.{length}
 use Rattle.bits.specs.Digits.{bytesOf}
 use Rattle.outputs.specs.Outputs.{Placed}
-use Rattle.outputs.proofs.Outputs.Writers.{rest-left}
+use Rattle.outputs.proofs.Outputs.Writers.{rest-left, both-fit, next-placed}
 use Rattle.record_format.specs.Fields.{Field, fieldOf, laid}
 use Rattle.record_format.specs.Runs.{rateTag, countTag, rateSize, countSize, sideFields, frontFields, positionsField}
 use Rattle.record_parts.specs.Leads.{leadFields}
-use Rattle.record_parts.proofs.putting.Writings.{fields-next}
+use Rattle.record_parts.proofs.putting.Writings.{fields-next, fields-short}
 use Rattle.record_parts.proofs.putting.put_lead.Statement.{statement}
 use Rattle.record_parts.proofs.putting.put_lead.Tie as tie
 
@@ -25,8 +26,11 @@ rated k = k .before .before .before .before
 abbrev sided : tie.After-put-number-next → tie.After-put-side-next
 sided k = k .before .before .before .before
 
-abbrev counted : tie.After-put-coded-next → tie.After-put-number-next
+abbrev counted : tie.After-front-end → tie.After-put-number-next
 counted k = k .before .before .before .before
+
+abbrev coding : tie.After-put-coded → tie.After-front-end
+coding k = k .before .before .before
 
 -- ---- the fields, and the output as each writer leaves it
 
@@ -46,6 +50,9 @@ module _ (e : tie.Start) where
   abbrev positions-field : List Field
   positions-field = positionsField (e .args .form) (e .args .positions .now) ∷ []
 
+  abbrev all : List Field
+  all = leadFields (e .args .rate) (e .args .side) (e .args .form) (e .args .positions .now)
+
 abbrev rate-out : tie.After-put-number → List ℕ
 rate-out k = k .put-number .last .0
 
@@ -54,6 +61,10 @@ side-out k = k .put-side-next .last .1 .1 .0
 
 abbrev count-out : tie.After-put-number-next → List ℕ
 count-out k = k .put-number-next .last .1 .0
+
+-- what the last leaves in the rest
+abbrev positions-out : tie.After-put-coded → List ℕ
+positions-out k = k .put-coded .last .1 .1 .0
 
 -- ---- what stands there
 
@@ -70,6 +81,17 @@ count-done k =
     let e = entry (rated (sided k)) in
     fields-next (rate-field e ++ side-field e) (count-field e) _ refl (sided k .put-side-next .result) (k .put-number-next .result) (e .args .out .now) (side-out (sided k)) (count-out k)
     (k .put-number-next .ensures) (side-done (sided k))
+
+-- the front is written, and the rest is lent
+module _ (k : tie.After-front-end) where
+  abbrev start : tie.Start
+  start = entry (rated (sided (counted k)))
+
+  abbrev front : List Field
+  front = frontFields (start .args .rate) (start .args .side) (count start)
+
+  inside : k .front-end .given .0 .0 ≤ length (count-out (counted k))
+  inside = rest-left (laid front) (start .args .out .now) (count-out (counted k)) (counted k .put-number-next .result) (count-done (counted k)) _ (k .front-end .given .1)
 
 -- ---- the needs
 
@@ -88,22 +110,55 @@ put-number-next-requires c κs =
     let e = entry (rated k) in
     (rest-left (laid (rate-field e ++ side-field e)) (e .args .out .now) (side-out k) (k .put-side-next .result) (side-done k), search needs)
 
-put-coded-next-requires : tie.Need-put-coded-next-requires
-put-coded-next-requires c κs =
-    let k = c .before .before .before in
-    let e = entry (rated (sided k)) in
-    (rest-left (laid (frontFields (e .args .rate) (e .args .side) (count e))) (e .args .out .now) (count-out k) (k .put-number-next .result) (count-done k), e .pre)
+enum-known-front-end : tie.Need-enum-known-front-end
+enum-known-front-end c = search needs
+
+enum-told : tie.Need-enum-told
+enum-told c = search needs
 
 same-length : tie.Need-same-length
 same-length c = search needs
 
 returns : tie.Need-returns
 returns c =
-    let k = c .before .before in
-    let e = entry (rated (sided (counted k))) in
-    fields-next (frontFields (e .args .rate) (e .args .side) (count e)) (positions-field e) (leadFields (e .args .rate) (e .args .side) (e .args .form) (e .args .positions .now)) refl
-    (counted k .put-number-next .result) (k .put-coded-next .result) (e .args .out .now) (count-out (counted k)) (k .put-coded-next .last .1 .1 .1 .0)
-    (k .put-coded-next .ensures) (count-done (counted k))
+    let k = c .before .before .before .before in
+    let e = entry (rated (sided k)) in
+    fields-short (frontFields (e .args .rate) (e .args .side) (count e)) (positions-field e) (all e) refl
+    (k .put-number-next .result) (e .args .out .now) (count-out k) (c .enum-told .given .1) (count-done k)
+
+sub-put-coded : tie.Need-sub-put-coded
+sub-put-coded c = inside (c .before)
+
+part-put-coded-start : tie.Need-part-put-coded-start
+part-put-coded-start c = inside (c .before)
+
+part-put-coded-end : tie.Need-part-put-coded-end
+part-put-coded-end c = search needs
+
+put-coded-requires : tie.Need-put-coded-requires
+put-coded-requires c κs = search needs
+
+sum-of-requires : tie.Need-sum-of-requires
+sum-of-requires c κs m is =
+    let p = c .before .before in
+    let k = coding p in
+    let e = start k in
+    let fit = both-fit (laid (positions-field e)) (count-out (counted k)) (counted k .put-number-next .result) _ (k .front-end .given .1)
+    (positions-out p) (p .put-coded .result) (p .put-coded .ensures) (laid (front k)) (e .args .out .now) (count-done (counted k)) m is in
+    omega (arith, e .good)
+
+same-length-2 : tie.Need-same-length-2
+same-length-2 c = search needs
+
+returns-2 : tie.Need-returns-2
+returns-2 c =
+    let p = c .before .before .before in
+    let k = coding p in
+    let e = start k in
+    fields-next (front k) (positions-field e) (all e) refl (counted k .put-number-next .result) (c .sum-of .result) (e .args .out .now) (count-out (counted k)) _
+    (next-placed (laid (positions-field e)) (count-out (counted k)) (counted k .put-number-next .result) _ (k .front-end .given .1)
+    (positions-out p) (p .put-coded .result) (p .put-coded .ensures) (c .sum-of .result) (c .sum-of .ensures))
+    (count-done (counted k))
 
 pub put-lead-spec : {M : Type 1} → statement M
 put-lead-spec =
@@ -112,6 +167,14 @@ put-lead-spec =
     put-number-requires
     put-side-next-requires
     put-number-next-requires
-    put-coded-next-requires
+    enum-known-front-end
+    enum-told
     same-length
-    returns)
+    returns
+    sub-put-coded
+    part-put-coded-start
+    part-put-coded-end
+    put-coded-requires
+    sum-of-requires
+    same-length-2
+    returns-2)

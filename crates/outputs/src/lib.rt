@@ -1,6 +1,6 @@
 // Outputs that a caller lends: what a call leaves in them.
 ghost use mathlib.Core.Path.{_≡_};
-ghost use Rattle.outputs.specs.Outputs.{zeros, Placed, Left, sumOf, Summed, Next};
+ghost use Rattle.outputs.specs.Outputs.{zeros, Placed, Left, bothWrote, BothFit, Next};
 
 // What an internal writer did: the number of bytes that it wrote, or that there is no room for them.
 pub enum Wrote {
@@ -42,9 +42,9 @@ pub fn put_copy(from: &[u8], out: &mut [u8]) -> Wrote
 }
 
 // What two writers wrote, the second in the rest that the first left: n bytes, and then what it says.
-pub fn sum_of(n: usize, wrote: Wrote) -> Wrote
-    requires { ⌜ Summed n wrote ⌝ }
-    ensures { λ r. ⌜ r ≡ sumOf n wrote ⌝ }
+pub fn both_wrote(n: usize, wrote: Wrote) -> Wrote
+    requires { ⌜ BothFit n wrote ⌝ }
+    ensures { λ r. ⌜ r ≡ bothWrote n wrote ⌝ }
 {
     match wrote {
         Wrote::Done(m) => Wrote::Done(n + m),
@@ -60,5 +60,5 @@ pub fn put_copy_next(wrote: Wrote, from: &[u8], out: &mut [u8]) -> Wrote
     let Wrote::Done(n) = wrote else {
         return Wrote::NoRoom;
     };
-    sum_of(n, put_copy(from, &mut out[n..]))
+    both_wrote(n, put_copy(from, &mut out[n..]))
 }

@@ -11,7 +11,7 @@ ghost use Rattle.refusals.specs.Tests.{firstOf};
 ghost use Rattle.record_format.specs.Runs.{run, recordOf};
 ghost use Rattle.record_format.specs.Writing.{outsideTests, runTests, writeAnswer, writeOutput};
 use outputs::Wrote;
-use outputs::sum_of;
+use outputs::both_wrote;
 use position_format::Form;
 use record_format::WriteAnswer;
 use record_parts::coding::Coding;
@@ -35,7 +35,7 @@ fn put_record(
     let Wrote::Done(lead_end) = put_lead(rate, side, form, positions, out) else {
         return Wrote::NoRoom;
     };
-    sum_of(
+    both_wrote(
         lead_end,
         put_coded(Coding::Ratios, ratios, &mut out[lead_end..]),
     )

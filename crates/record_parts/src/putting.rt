@@ -19,7 +19,7 @@ use super::coding::tag_of;
 use super::field::LENGTH_SIZE;
 use super::field::TAG_SIZE;
 use outputs::Wrote;
-use outputs::sum_of;
+use outputs::both_wrote;
 use position_format::Form;
 use record_format::COUNT_SIZE;
 use record_format::COUNT_TAG;
@@ -75,7 +75,7 @@ fn put_number_next(wrote: Wrote, out: &mut [u8], tag: u8, n: usize, x: u64) -> W
     let Wrote::Done(at) = wrote else {
         return Wrote::NoRoom;
     };
-    sum_of(at, put_number(&mut out[at..], tag, n, x))
+    both_wrote(at, put_number(&mut out[at..], tag, n, x))
 }
 
 // The field of a side: nothing for side 0.
@@ -100,7 +100,7 @@ pub fn put_lead(rate: u32, side: u32, form: Form, positions: &[u64], out: &mut [
     let Wrote::Done(front_end) = put_number_next(side_end, out, COUNT_TAG, COUNT_SIZE, count) else {
         return Wrote::NoRoom;
     };
-    sum_of(
+    both_wrote(
         front_end,
         put_coded(Coding::Positions(form), positions, &mut out[front_end..]),
     )

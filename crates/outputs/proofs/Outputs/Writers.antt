@@ -6,7 +6,7 @@ use native.Mathlib.Omega.{arith}
 use borrow.Rule.Slice.PartMut.{putMid}
 use lib.ListN.{length, take, drop, length-append, length-drop}
 use lib.Seq.{take-at, drop-at, drop-drop}
-use Rattle.outputs.specs.Outputs.{over, Placed, Left, sumOf, Next}
+use Rattle.outputs.specs.Outputs.{over, Placed, Left, bothWrote, Next}
 use Rattle.outputs.specs.declared.Wrote.{Wrote}
 use Rattle.outputs.specs.declared.Wrote.the-variants.{Done, NoRoom}
 use Rattle.outputs.proofs.Outputs.Parts.{rest-is, put-rest}
@@ -54,7 +54,7 @@ module _ (ys p : List ℕ) (w : Wrote) where
           let h = wrote-all ys (drop n o) q v in-rest m is in
           omega (arith, h .0, h .1, length-drop n o, done .0, done .1)
 
-      both-placed : (x : Wrote) → Placed ys x (drop n o) q → Placed (xs ++ ys) (sumOf n x) o (putMid n (length p - n) p q)
+      both-placed : (x : Wrote) → Placed ys x (drop n o) q → Placed (xs ++ ys) (bothWrote n x) o (putMid n (length p - n) p q)
       both-placed (Done m) h =
           let l : n + length ys ≡ length (xs ++ ys) = omega (arith, length-append xs ys, done .0) in (
             omega (arith, h .0, l),
@@ -68,6 +68,6 @@ module _ (ys p : List ℕ) (w : Wrote) where
       both-placed NoRoom h = omega (arith, h, length-append xs ys, length-drop n o, done .0, done .1)
 
     -- both, in turn
-    pub next-placed : (r : Wrote) → r ≡ sumOf n v → Next ys w r p (putMid n (length p - n) p q)
+    pub next-placed : (r : Wrote) → r ≡ bothWrote n v → Next ys w r p (putMid n (length p - n) p q)
     next-placed r is xs o first =
         subst (λ (x : Wrote). Placed (xs ++ ys) x o (putMid n (length p - n) p q)) (sym is) (both-placed xs o first v (in-rest xs o first))

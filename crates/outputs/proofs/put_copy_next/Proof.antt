@@ -44,8 +44,8 @@ part-put-copy-end c = search needs
 put-copy-requires : tie.Need-put-copy-requires
 put-copy-requires c κs = search needs
 
-sum-of-requires : tie.Need-sum-of-requires
-sum-of-requires c κs m e =
+both-wrote-requires : tie.Need-both-wrote-requires
+both-wrote-requires c κs m e =
     let k = c .before .before in
     let w = past k in
     let s = begun w in
@@ -60,7 +60,7 @@ returns-2 c =
     let k = c .before .before .before in
     let w = past k in
     let s = begun w in
-    next-placed (s .args .from .now) (s .args .out .now) (s .args .wrote) _ (w .wrote .given .1) (left k) (k .put-copy .result) (k .put-copy .ensures) _ (c .sum-of .ensures)
+    next-placed (s .args .from .now) (s .args .out .now) (s .args .wrote) _ (w .wrote .given .1) (left k) (k .put-copy .result) (k .put-copy .ensures) _ (c .both-wrote .ensures)
 
 pub put-copy-next-spec : {M : Type 1} → statement M
 put-copy-next-spec =
@@ -73,6 +73,6 @@ put-copy-next-spec =
     part-put-copy-start
     part-put-copy-end
     put-copy-requires
-    sum-of-requires
+    both-wrote-requires
     same-length
     returns-2)

@@ -95,8 +95,8 @@ part-put-coded-end c = search needs
 put-coded-requires : tie.Need-put-coded-requires
 put-coded-requires c κs = search needs
 
-sum-of-requires : tie.Need-sum-of-requires
-sum-of-requires c κs m is =
+both-wrote-requires : tie.Need-both-wrote-requires
+both-wrote-requires c κs m is =
     let p = c .before .before in
     let k = coding p in
     let e = start k in
@@ -113,9 +113,9 @@ returns-2 c =
     let p = c .before .before .before in
     let k = coding p in
     let e = start k in
-    fields-next (lead e) (ratios-field e) (fieldsOf (given-run e)) (last-then e) (led k .put-lead .result) (c .sum-of .result) (e .args .out .now) (lead-out (led k)) _
+    fields-next (lead e) (ratios-field e) (fieldsOf (given-run e)) (last-then e) (led k .put-lead .result) (c .both-wrote .result) (e .args .out .now) (lead-out (led k)) _
     (next-placed (laid (ratios-field e)) (lead-out (led k)) (led k .put-lead .result) _ (k .lead-end .given .1)
-    (ratios-out p) (p .put-coded .result) (p .put-coded .ensures) (c .sum-of .result) (c .sum-of .ensures))
+    (ratios-out p) (p .put-coded .result) (p .put-coded .ensures) (c .both-wrote .result) (c .both-wrote .ensures))
     (led k .put-lead .ensures)
 
 pub put-record-spec : {M : Type 1} → statement M
@@ -131,6 +131,6 @@ put-record-spec =
     part-put-coded-start
     part-put-coded-end
     put-coded-requires
-    sum-of-requires
+    both-wrote-requires
     same-length-2
     returns-2)

@@ -138,8 +138,8 @@ part-put-coded-end c = search needs
 put-coded-requires : tie.Need-put-coded-requires
 put-coded-requires c κs = search needs
 
-sum-of-requires : tie.Need-sum-of-requires
-sum-of-requires c κs m is =
+both-wrote-requires : tie.Need-both-wrote-requires
+both-wrote-requires c κs m is =
     let p = c .before .before in
     let k = coding p in
     let e = start k in
@@ -155,9 +155,9 @@ returns-2 c =
     let p = c .before .before .before in
     let k = coding p in
     let e = start k in
-    fields-next (front k) (positions-field e) (all e) refl (counted k .put-number-next .result) (c .sum-of .result) (e .args .out .now) (count-out (counted k)) _
+    fields-next (front k) (positions-field e) (all e) refl (counted k .put-number-next .result) (c .both-wrote .result) (e .args .out .now) (count-out (counted k)) _
     (next-placed (laid (positions-field e)) (count-out (counted k)) (counted k .put-number-next .result) _ (k .front-end .given .1)
-    (positions-out p) (p .put-coded .result) (p .put-coded .ensures) (c .sum-of .result) (c .sum-of .ensures))
+    (positions-out p) (p .put-coded .result) (p .put-coded .ensures) (c .both-wrote .result) (c .both-wrote .ensures))
     (count-done (counted k))
 
 pub put-lead-spec : {M : Type 1} → statement M
@@ -175,6 +175,6 @@ put-lead-spec =
     part-put-coded-start
     part-put-coded-end
     put-coded-requires
-    sum-of-requires
+    both-wrote-requires
     same-length-2
     returns-2)

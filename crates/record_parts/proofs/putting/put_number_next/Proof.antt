@@ -50,8 +50,8 @@ part-put-number-end c = search needs
 put-number-requires : tie.Need-put-number-requires
 put-number-requires c κs = search needs
 
-sum-of-requires : tie.Need-sum-of-requires
-sum-of-requires c κs m e =
+both-wrote-requires : tie.Need-both-wrote-requires
+both-wrote-requires c κs m e =
     let k = c .before .before in
     let w = past k in
     let s = begun w in
@@ -66,7 +66,7 @@ returns-2 c =
     let k = c .before .before .before in
     let w = past k in
     let s = begun w in
-    next-placed (bytes s) (s .args .out .now) (s .args .wrote) _ (w .wrote .given .1) (left k) (k .put-number .result) (k .put-number .ensures) _ (c .sum-of .ensures)
+    next-placed (bytes s) (s .args .out .now) (s .args .wrote) _ (w .wrote .given .1) (left k) (k .put-number .result) (k .put-number .ensures) _ (c .both-wrote .ensures)
 
 pub put-number-next-spec : {M : Type 1} → statement M
 put-number-next-spec =
@@ -79,6 +79,6 @@ put-number-next-spec =
     part-put-number-start
     part-put-number-end
     put-number-requires
-    sum-of-requires
+    both-wrote-requires
     same-length
     returns-2)

@@ -1,16 +1,14 @@
 -- What the program prints of two records, of equal ones, and of all else.
 use mathlib.Core.List.{List, [], _∷_, _++_, cons≢nil}
-use mathlib.Core.Logic.{inl, inr}
+use mathlib.Core.Logic.{inl}
 use mathlib.Core.Path.{_≡_, refl, sym, ap, ap₂, _∙_}
 use Prim.Native.Nat.{ℕ, zero, suc, _-_}
 use native.Mathlib.Omega.{arith}
 use lib.ListN.{length, take}
 use lib.Seq.{take-all}
 use Rattle.lists.proofs.Below.{below-take}
-use Rattle.kind.specs.declared.Kind.the-variants.{Number, Infinity, Nan}
-use Rattle.record_format.specs.Claims.{Accepted, Beginning, Bytes}
 use Rattle.record_format.specs.Reading.{Answer}
-use Rattle.record_format.specs.Runs.{Run, recordOf}
+use Rattle.record_format.specs.Runs.{recordOf}
 use Rattle.record_format.proofs.Sizes.{within}
 use Rattle.inputs.specs.Inputs.{inputLimit, readInput}
 use Rattle.inputs.proofs.Inputs.{record-uncut, reads-record, reads-no-other, begins-whole}

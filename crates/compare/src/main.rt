@@ -29,29 +29,29 @@ fn output_room() -> [u8; TEXT]
 }
 
 // A word of up to 10 bytes: the first `length` of these.
-pub struct Word {
+pub struct Label {
     pub bytes: [u8; 10],
     pub length: usize,
 }
 
 // The word of a property, and a space.
-fn property_word(property: Property) -> Word
+fn property_label(property: Property) -> Label
     ensures { λ r. ⌜ (r .length ≤ 10) × (take (r .length) (r .bytes) ≡ propertyWord property) ⌝ }
 {
     match property {
-        Property::Rate => Word {
+        Property::Rate => Label {
             bytes: *b"rate      ",
             length: 5,
         },
-        Property::Side => Word {
+        Property::Side => Label {
             bytes: *b"side      ",
             length: 5,
         },
-        Property::Count => Word {
+        Property::Count => Label {
             bytes: *b"count     ",
             length: 6,
         },
-        Property::Form => Word {
+        Property::Form => Label {
             bytes: *b"form      ",
             length: 5,
         },
@@ -59,19 +59,19 @@ fn property_word(property: Property) -> Word
 }
 
 // The word of a kind, between two spaces.
-fn kind_word(kind: Kind) -> Word
+fn kind_label(kind: Kind) -> Label
     ensures { λ r. ⌜ (r .length ≤ 10) × (take (r .length) (r .bytes) ≡ kindWord kind) ⌝ }
 {
     match kind {
-        Kind::Number(_) => Word {
+        Kind::Number(_) => Label {
             bytes: *b" number   ",
             length: 8,
         },
-        Kind::Infinity(_) => Word {
+        Kind::Infinity(_) => Label {
             bytes: *b" infinity ",
             length: 10,
         },
-        Kind::Nan(_) => Word {
+        Kind::Nan(_) => Label {
             bytes: *b" nan      ",
             length: 5,
         },
@@ -79,7 +79,7 @@ fn kind_word(kind: Kind) -> Word
 }
 
 // Puts a word.
-fn put_word(out: &mut [u8], at: usize, word: Word) -> usize
+fn put_label(out: &mut [u8], at: usize, word: Label) -> usize
     requires { ⌜ (at + 10 ≤ length (now out)) × (word .length ≤ 10) ⌝ }
     ensures { λ r. ⌜ PlacedAt 10 (take (word .length) (word .bytes)) at r (now (out .entry)) (now (out .exit)) ⌝ }
 {
@@ -93,8 +93,8 @@ fn put_property(out: &mut [u8], at: usize, property: Property, first: u32, secon
     requires { ⌜ at + lineLimit ≤ length (now out) ⌝ }
     ensures { λ r. ⌜ PlacedAt lineLimit (propertyLine property first second) at r (now (out .entry)) (now (out .exit)) ⌝ }
 {
-    let word = property_word(property);
-    let number = put_word(out, at, word);
+    let word = property_label(property);
+    let number = put_label(out, at, word);
     let rest = text::put_decimal(out, number, first as u64);
     text::put_one(out, rest, b" ", second as u64)
 }
@@ -104,8 +104,8 @@ fn put_kind(out: &mut [u8], at: usize, kind: Kind) -> usize
     requires { ⌜ at + 10 ≤ length (now out) ⌝ }
     ensures { λ r. ⌜ PlacedAt 10 (kindWord kind) at r (now (out .entry)) (now (out .exit)) ⌝ }
 {
-    let word = kind_word(kind);
-    put_word(out, at, word)
+    let word = kind_label(kind);
+    put_label(out, at, word)
 }
 
 // The line of a ratio: the bits of the first record's, of kind k, and of the second's, of kind l.

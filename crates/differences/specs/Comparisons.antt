@@ -1,9 +1,9 @@
 -- Document 02, No. 7: two records laid side by side.
---   Comparison         the refusal of one of two records (number, place, and which it was, 1 or 2), or 0, 0 and 0 with all differences
---   runOf a            the run that a reading answered: the first `count` numbers of its outputs are the run's
+--   Comparison              the refusal of one of two records (number, place, and which it was, 1 or 2), or 0, 0 and 0 with all differences
+--   runOf a                 the run that a reading answered: the first `count` numbers of its outputs are the run's
 --   refusedComparison a w   the refusal that the reading a of the record w answered
---   compared a b       the comparison by what strict reading answered of each
---   comparison s t     that of the records that the bytes s and t begin with: each is read strictly, with no rate expected and room for every run
+--   compared a b            the comparison by what strict reading answered of each
+--   comparison s t          that of the records that the bytes s and t begin with: each is read strictly, with no rate expected and room for every run
 use mathlib.Core.Bool.{cond}
 use mathlib.Core.List.{List, []}
 use Prim.Native.Nat.{ℕ}

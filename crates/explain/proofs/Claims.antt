@@ -18,12 +18,12 @@ use Rattle.inputs.proofs.Inputs.{record-uncut, reads-record, reads-no-other}
 use Rattle.explain.specs.Indexes.{givenIndex}
 use Rattle.explain.specs.Printed.{bodyIn, indexText, answerText, printed}
 use Rattle.explain.specs.Claims.{BytesThere, PrintsReason, PrintsPast, PrintsOnly}
-use Rattle.explain.proofs.Printed.Offsets.{body-same, ratio-bytes}
+use Rattle.explain.proofs.Printed.Offsets.{body-same, offset-bytes}
 use Rattle.explain.proofs.Printed.{point-lines, point-past}
 
 pub bytes-there : BytesThere
 unfolding coded
-bytes-there r a i h = (ratio-bytes r (accepted-fits r (a .passes)) i h, refl)
+bytes-there r a i h = (offset-bytes r (accepted-fits r (a .passes)) i h, refl)
 
 -- of a record, whatever follows, the text for the index
 record-text : (r : Run) → Accepted r → (rest t : List ℕ) → printed (recordOf r ++ rest) t ≡ indexText (bodyIn (recordOf r)) (r .ratios) (givenIndex t)

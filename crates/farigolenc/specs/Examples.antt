@@ -1,12 +1,12 @@
 -- Document 02, No. 7: differences and their numbers, as one table, proved from the definitions by one statement.
---   Example, example    a difference, and its numbers as they should be
---   kindIs, differs     numbers of a kind and of a difference, each of them written out
---   floatZero, kindless   0 as a float, and the numbers of no kind
---   noNumbers           all of them 0
---   examples            the rows; examples-hold: each is as it is given
+--   Example, example      a difference, and its numbers as they should be
+--   kindIs, differs       numbers of a kind and of a difference, each of them written out
+--   floatZero, kindless   0 as a float, and the numbers of no kind, written out and not by the definitions
+--   noNumbers             all of them 0
+--   examples              the rows; examples-hold: each is as it is given
 --   first, second, refusedAnswer   what strict reading answered of two records, and of one that was refused
---   overall-hold        the numbers of two records that differ in every property and in their counts
---   refused-hold        those of a refusal of the second record
+--   overall-hold          the numbers of two records that differ in every property and in their counts
+--   refused-hold          those of a refusal of the second record
 use mathlib.Core.Bool.{true, false}
 use mathlib.Core.List.{List, [], _∷_, map}
 use mathlib.Core.Path.{_≡_, refl}
@@ -21,7 +21,6 @@ use Rattle.differences.specs.Overall.{overallOf}
 use Rattle.record_format.specs.declared.ReadAnswer.{ReadAnswer}
 use Rattle.farigolenc.specs.declared.KindAnswer.{KindAnswer}
 use Rattle.farigolenc.specs.declared.DifferenceAnswer.{DifferenceAnswer}
-use Rattle.farigolenc.specs.declared.OverallAnswer.{OverallAnswer}
 use Rattle.farigolenc.specs.Differences.{differenceNumbers, overallNumbers}
 
 -- an example: a difference, and its numbers

@@ -6,7 +6,6 @@ use native.Mathlib.Omega.{arith}
 use lib.ListN.{length, take, drop, length-append, take-append-drop}
 use lib.Seq.{take-all, take-at, take-append-add}
 use Rattle.lists.proofs.Below.{below-take}
-use Rattle.limits.specs.Points.{maxPoints}
 use Rattle.record_format.specs.Claims.{Accepted, Beginning, Bytes, ownAnswer}
 use Rattle.record_format.specs.Reading.{Answer, readStrict, blank}
 use Rattle.record_format.specs.Runs.{Run, recordOf}
@@ -15,7 +14,7 @@ use Rattle.record_format.proofs.Writing.{accepted-fits, fitting-few}
 use Rattle.record_format.proofs.Sizes.{within}
 use Rattle.record_format.proofs.Claims.{reads-only, reads-blank}
 use Rattle.inputs.specs.Inputs.{inputLimit, readInput, ReadsFar}
-use Rattle.inputs.specs.Readings.{answerOf, Reading, Held}
+use Rattle.inputs.specs.Readings.{answerOf, Reading, RunHeld}
 
 -- ---- what reading an input left
 
@@ -44,12 +43,12 @@ module _ {s : List ℕ} {r : ReadAnswer} {ts vs : List ℕ} (h : Reading s r ts 
       (o .0, o .1, o .2, read-all ∙ o .3)
 
   -- and its numbers stand at the front of the outputs
-  pub read-held : r .number ≡ 0 → Held (r .count) ts vs
+  pub read-held : r .number ≡ 0 → RunHeld (r .count) ts vs
   read-held ok =
       let o = read-own ok in
       let own : Run = o .0 in
       let f = accepted-fits own (o .1 .passes) in
-      subst (λ (a : Answer). Held (a .answer .count) (a .positions) (a .ratios)) (sym (o .3))
+      subst (λ (a : Answer). RunHeld (a .answer .count) (a .positions) (a .ratios)) (sym (o .3))
       (record {
         few = fitting-few own f;
         positions = simp length-append (omega arith);

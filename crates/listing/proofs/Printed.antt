@@ -10,12 +10,12 @@ use lib.Seq.{length-take-le}
 use Rattle.record_format.specs.declared.ReadAnswer.{ReadAnswer}
 use Rattle.span.specs.Spans.{spanned}
 use Rattle.text.specs.Lines.{refusedLine}
-use Rattle.inputs.specs.Readings.{Reading, Held}
+use Rattle.inputs.specs.Readings.{Reading, RunHeld}
 use Rattle.listing.specs.Lines.{listing}
 use Rattle.listing.specs.Printed.{textLimit, runText, textOf, printed}
 
 -- the text of a run fits
-pub listing-within : {n : ℕ} {ts vs : List ℕ} → Held n ts vs → 106 + 38 * length (take n ts) ≤ textLimit
+pub listing-within : {n : ℕ} {ts vs : List ℕ} → RunHeld n ts vs → 106 + 38 * length (take n ts) ≤ textLimit
 listing-within {n} {ts} h = omega (arith, length-take-le n ts (h .positions), h .few)
 
 module _ {s : List ℕ} {r : ReadAnswer} {ts vs : List ℕ} (h : Reading s r ts vs) where

@@ -1,19 +1,17 @@
 -- Laws of two texts that are compared byte by byte, and of the words that name a form.
 use mathlib.Core.Path.{_≡_, sym, ap, ap₂, _∙_}
 use mathlib.Core.Bool.{Bool, true, false}
-use mathlib.Core.List.{List, [], _∷_}
+use mathlib.Core.List.{List, _∷_}
 use Prim.Native.Nat.{ℕ, _+_, _≤_, _<_}
 use native.Mathlib.Nat.{add-zero}
 use native.Mathlib.Numerals.{add-one}
 use native.Mathlib.Omega.{arith}
 use borrow.Author.Tests.{eq-eqb}
-use lib.Dec.{eqb}
 use lib.ListN.{length, getD, drop}
 use lib.Seq.{drop-cons, drop-length, getD-drop}
 use Rattle.lists.specs.Compare.{same}
 use Rattle.lists.proofs.Compare.{same-own, same-not}
 use Rattle.position_format.specs.declared.Form.the-variants.{Old, Wide}
-use Rattle.move_record.specs.declared.Word.{Word}
 use Rattle.move_record.specs.declared.Word.the-variants.{To, Other}
 use Rattle.move_record.specs.Words.{wideWord, oldWord, formNamed}
 use Rattle.move_record.specs.Claims.{NamesForms}

@@ -1,4 +1,4 @@
--- The bytes with which a form begins, before its middle or its ratio.
+-- The bytes with which a ratio form begins, before its middle or its ratio.
 --   ratioFormHead f    a place; a place plus 128 and the two counts; 255
 use mathlib.Core.List.{List, [], _∷_}
 use Prim.Native.Nat.{ℕ, _+_, _*_}

@@ -227,25 +227,25 @@ module _ (b : List ℕ) (c : Cursor) (v : ℕ) (vs : List ℕ) (hv : v < 2 ^ 64)
       })
 
 -- before no more ratios it answers the end, and its state stays
-ends : (b : List ℕ) (c : Cursor) → Standing b c [] → (stepAnswer b c ≡ ended) × (stepCursor b c ≡ c)
+standing-ends : (b : List ℕ) (c : Cursor) → Standing b c [] → (stepAnswer b c ≡ ended) × (stepCursor b c ≡ c)
 unfolding codedFrom
-ends b c s =
+standing-ends b c s =
     let n = ap length (s .rest) in
     left-end b c (s .good) (omega (arith, s .more)) (omega (arith, n, length-drop (c .place) b, good-cursor b c (s .good) .place))
 
-ends-on : (b : List ℕ) (c : Cursor) → Standing b c [] → (m : ℕ) → stepAnswers b c m ≡ replicate m ended
+standing-ends-on : (b : List ℕ) (c : Cursor) → Standing b c [] → (m : ℕ) → stepAnswers b c m ≡ replicate m ended
 unfolding stepAnswers
-ends-on b c s zero = refl
-ends-on b c s (suc m) =
-    let e = ends b c s in
-    ap₂ (λ (a : StepAnswer) (l : List StepAnswer). a ∷ l) (e .0) (ap (λ (d : Cursor). stepAnswers b d m) (e .1) ∙ ends-on b c s m)
+standing-ends-on b c s zero = refl
+standing-ends-on b c s (suc m) =
+    let e = standing-ends b c s in
+    ap₂ (λ (a : StepAnswer) (l : List StepAnswer). a ∷ l) (e .0) (ap (λ (d : Cursor). stepAnswers b d m) (e .1) ∙ standing-ends-on b c s m)
 
-steps : (b : List ℕ) (c : Cursor) (vs : List ℕ) → Below (2 ^ 64) vs → Standing b c vs → (m : ℕ) → stepAnswers b c (length vs + m) ≡ map given vs ++ replicate m ended
+standing-steps : (b : List ℕ) (c : Cursor) (vs : List ℕ) → Below (2 ^ 64) vs → Standing b c vs → (m : ℕ) → stepAnswers b c (length vs + m) ≡ map given vs ++ replicate m ended
 unfolding stepAnswers Below
-steps b c [] h s m = rw zero-add (ends-on b c s m)
-steps b c (v ∷ vs) h s m =
+standing-steps b c [] h s m = rw zero-add (standing-ends-on b c s m)
+standing-steps b c (v ∷ vs) h s m =
     rw suc-add
-    (ap₂ (λ (a : StepAnswer) (l : List StepAnswer). a ∷ l) (gives b c v vs (h .0) s) (steps b (stepCursor b c) vs (h .1) (stands b c v vs (h .0) s) m))
+    (ap₂ (λ (a : StepAnswer) (l : List StepAnswer). a ∷ l) (gives b c v vs (h .0) s) (standing-steps b (stepCursor b c) vs (h .1) (stands b c v vs (h .0) s) m))
 
 stands-after : (b : List ℕ) (c : Cursor) (vs : List ℕ) → Below (2 ^ 64) vs → Standing b c vs → Standing b (stepCursors b c (length vs)) []
 unfolding stepCursors Below
@@ -286,13 +286,13 @@ made-stands vs h =
 
 pub stepping-gives : SteppingGives
 stepping-gives vs h hs m =
-    rw (made-good (length vs) (codedRatios vs) h .1) (steps (codedRatios vs) (madeCursor (length vs)) vs hs (made-stands vs h) m)
+    rw (made-good (length vs) (codedRatios vs) h .1) (standing-steps (codedRatios vs) (madeCursor (length vs)) vs hs (made-stands vs h) m)
 
 pub stepping-ends : SteppingEnds
 stepping-ends vs h hs =
     let b = codedRatios vs in
     rw (made-good (length vs) b h .1)
-    (ends b (stepCursors b (madeCursor (length vs)) (length vs)) (stands-after b (madeCursor (length vs)) vs hs (made-stands vs h)))
+    (standing-ends b (stepCursors b (madeCursor (length vs)) (length vs)) (stands-after b (madeCursor (length vs)) vs hs (made-stands vs h)))
 
 -- ---- no other body
 
@@ -328,8 +328,8 @@ says-ratio b c v e = go (step-outcome b c)
         (k, g, r ∙ ap (λ (x : ℕ). Ratio x k) q, l .1 ∙ ap (λ (x : ℕ). moved c x k) q)
 
 -- the bytes of a ratio, and those of the others after it
-joins : (b : List ℕ) (at k : ℕ) (x t y : List ℕ) → drop at b ≡ x ++ t → k ≡ length x → drop (at + k) b ≡ y → drop at b ≡ x ++ y
-joins b at k x t y e q f =
+drop-joins : (b : List ℕ) (at k : ℕ) (x t y : List ℕ) → drop at b ≡ x ++ t → k ≡ length x → drop (at + k) b ≡ y → drop at b ≡ x ++ y
+drop-joins b at k x t y e q f =
     e ∙ ap (λ (l : List ℕ). x ++ l) (sym (drop-at x t k (sym q)) ∙ sym (ap (drop k) e) ∙ drop-drop k at b ∙ f)
 
 only-from : (b : List ℕ) (c : Cursor) (vs : List ℕ) → Below 256 b → length (c .window .ratios) ≡ windowSize → Below (2 ^ 64) (held (c .window))
@@ -352,7 +352,7 @@ only-from b c (v ∷ vs) hb size below e =
     let p = held-pushed (c .window) v size fits in
     let others = only-from b (moved c v k) vs hb (pushed-size (c .window) v size) (rw p (push-below (2 ^ 64) windowSize v w hv below))
     (ap (λ (d : Cursor). stepAnswers b d (length vs + 1)) (sym (y .3)) ∙ ap (drop 1) q) in
-    joins b (c .place) k (coded v w) (o .0) (codedFrom windowSize (push windowSize v w) vs) (o .1) (o .2)
+    drop-joins b (c .place) k (coded v w) (o .0) (codedFrom windowSize (push windowSize v w) vs) (o .1) (o .2)
     (others ∙ ap (λ (l : List ℕ). codedFrom windowSize l vs) p)
 
 -- a refused making gives a reader whose first step ends

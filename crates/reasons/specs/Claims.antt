@@ -1,13 +1,13 @@
 -- Document 02, No. 1, as statements about the answer `explained`; proved in proofs/Claims.
---   NoneEqual v w n   no ratio of the window w before place n is v; NoneAbove v w s: none of it has a sum above s
---   Says v w r        what the reason r says of the ratio v is true of the window w
---   SaysTrue          the answer for an index says what is true of the window there
---   SaysOne           no two answers are true of the same ratio and window
---   WindowIs          what that window holds: the ratio before the index at place 0, up to 127 of them, and not the ratio itself
---   ratioFormNamed v w r   the form of v that the reason r names; a refusal names none
---   NamesRatioForm         it is the form that the writer chooses there, and its bytes are those at that point of the body of the whole run
---   OnlyWindow        the answer goes by the ratio at the index and the 127 before it, and by no other
---   RefusesExactly    it is the refusal 3 for more than 4,096 ratios, else 22 for an index not below their number, and else no refusal
+--   NoneEqual v w n        no ratio of the window w before place n is v; NoneAbove v w s: none of it has a sum above s
+--   Says v w r             what the reason r says of the ratio v is true of the window w
+--   SaysTrue               the answer for an index says what is true of the window there
+--   SaysOne                no two answers are true of the same ratio and window
+--   WindowIs               what that window holds: the ratio before the index at place 0, up to 127 of them, and not the ratio itself
+--   ratioFormNamed v w r   the ratio form of v that the reason r names; a refusal names none
+--   NamesRatioForm         it is the ratio form that the writer chooses there, and its bytes are those at that point of the body of the whole run
+--   OnlyWindow             the answer goes by the ratio at the index and the 127 before it, and by no other
+--   RefusesExactly         it is the refusal 3 for more than 4,096 ratios, else 22 for an index not below their number, and else no refusal
 use mathlib.Core.List.{List, _++_}
 use mathlib.Core.Option.{Option, none, some}
 use mathlib.Core.Path.{_≡_}

@@ -5,15 +5,14 @@ pub mod Admitted
 use mathlib.Core.Path.{_≡_, refl, sym, ap, ap₂, _∙_}
 use mathlib.Core.Bool.{Bool, true, false, not, cond, false≢true}
 use mathlib.Core.List.{List, [], _∷_, _++_, append-nil, append-assoc}
-use mathlib.Core.Logic.{_⊎_, inl, inr}
+use mathlib.Core.Logic.{_⊎_, inl}
 use mathlib.Core.Option.{Option}
-use Prim.Native.Nat.{ℕ, zero, suc, _≤_}
+use Prim.Native.Nat.{ℕ, zero, suc, _≤_, _<_}
 use native.Mathlib.Omega.{arith}
-use borrow.Author.Tests.{eqb-true, eq-eqb, le-ltb, not-false}
+use borrow.Author.Tests.{le-ltb}
 use lib.Dec.{eqb, lit<, lit≤}
 use lib.ListN.{length, drop}
 use Rattle.lists.specs.Below.{Below}
-use Rattle.lists.specs.Compare.{both}
 use Rattle.lists.proofs.Lists.{every}
 use Rattle.bits.specs.Digits.{bytesOf, numberOf}
 use Rattle.bits.proofs.Digits.{number-digits-lt}
@@ -36,11 +35,11 @@ use Rattle.ratio_format.proofs.Bodies.Strict.{strict-coded}
 use Rattle.record_format.specs.Fields.{Field, fieldBytes, laid}
 use Rattle.record_format.specs.Runs.{Run, formOf, ratiosTag, rateSize, countSize, sideFields, positionsField, ratiosField, frontFields, fieldsOf, recordOf}
 use Rattle.record_format.specs.Writing.{runTests, accepts}
-use Rattle.record_format.specs.Reading.{Answer, refusalAnswer, recordAnswer, answerBy, readTests, readWith, readStrict, readOpen, blank, formIn, listOf, otherRate}
+use Rattle.record_format.specs.Reading.{Answer, refusalAnswer, recordAnswer, answerBy, readTests, readWith, readStrict, readOpen, blank, formIn, listOf}
 use Rattle.record_format.specs.Moves.{Move, moveOf}
-use Rattle.record_format.specs.Claims.{Accepted, AllAccepted, joined, ownTests, ownAnswer, runAnswer, ReadsBack, ReadsOnly, AcceptsExactly, OpenAgrees, Writes, ReadsWhole, ReadsFront, PrefixFree, ListsApart, TrailingBytes, Shortest, NineEach}
+use Rattle.record_format.specs.Claims.{Accepted, AllAccepted, joined, ownTests, ownAnswer, runAnswer, ReadsBack, ReadsOnly, AcceptsExactly, OpenAgrees, Writes, ReadsWhole, ReadsFront, PrefixFree, ListsApart, TrailingBytes, Shortest, NineEach, countPlace, positionsPlace, FieldPlaces}
 use Rattle.record_format.proofs.Fields.{fieldIn, closed, closed-append, laid-same}
-use Rattle.record_format.proofs.Reading.{room-enough, answer-clear, answer-good}
+use Rattle.record_format.proofs.Reading.{room-enough, answer-clear, answer-good, other-rate-not, other-rate-none}
 use Rattle.record_format.proofs.Runs.{same-run, form-of, rateIndex, countIndex, positionsIndex, ratiosIndex, fields-small}
 use Rattle.record_format.proofs.Reading.Rooms.{roomy}
 use Rattle.record_format.proofs.Reading.Sides.{sides-same}
@@ -98,6 +97,13 @@ reading-clear : (k : ℕ → List ℕ → Option (List ℕ)) (e : ℕ) (s ts vs 
 unfolding readWith
 reading-clear k e s ts vs h = answer-clear (readTests k e s (length ts) (length vs)) (recordAnswer k s ts vs) ts vs h
 
+pub field-places : FieldPlaces
+field-places = ((refl, refl), go)
+  where
+    go : (d : ℕ) → 0 < d → (countPlace d ≡ 11) × (positionsPlace d ≡ 16)
+    go zero h = absurd (omega arith)
+    go (suc d) h = (refl, refl)
+
 pub reads-only : ReadsOnly
 reads-only e s ts vs bytes h =
     let b = accepted-begins e s ts vs bytes h in
@@ -106,28 +112,12 @@ reads-only e s ts vs bytes h =
     let q : readStrict e s ts vs ≡ runAnswer r e ts vs = ap (λ (l : List ℕ). readStrict e l ts vs) (b .splits) ∙ reads-back r a e (b .rest) ts vs .0 in
     (r, a, (b .rest, b .splits), q ∙ own-of r e ts vs (sym (ap (λ (x : Answer). x .answer .number) q) ∙ h))
 
--- no other rate is expected
-pub no-other : (e r : ℕ) → (e ≡ 0) ⊎ (e ≡ r) → otherRate e r ≡ false
-no-other e r (inl h) = rw (eq-eqb e 0 h)
-no-other e r (inr h) = go (eqb e 0)
-  where
-    go : (b : Bool) → both (not b) (not (eqb e r)) ≡ false
-    go true = refl
-    go false = rw (eq-eqb e r h)
-
-pub other-none : (e r : ℕ) → otherRate e r ≡ false → (e ≡ 0) ⊎ (e ≡ r)
-other-none e r h = go (eqb e 0) refl h
-  where
-    go : (b : Bool) → eqb e 0 ≡ b → both (not b) (not (eqb e r)) ≡ false → (e ≡ 0) ⊎ (e ≡ r)
-    go true q k = inl (eqb-true e 0 q)
-    go false q k = inr (eqb-true e r (not-false (eqb e r) k))
-
 module _ (r : Run) (e : ℕ) (ts vs : List ℕ) where
   -- the tests of a run's record refuse nothing exactly where no other rate is expected and there is room
   own-clear : (e ≡ 0) ⊎ (e ≡ r .rate) → length (r .positions) ≤ length ts → length (r .positions) ≤ length vs → runAnswer r e ts vs ≡ ownAnswer r ts vs
   own-clear o m n =
       answer-good (ownAnswer r ts vs) ts vs (ownTests r e (length ts) (length vs))
-      (firstOf-skip _ _ (no-other e (r .rate) o)
+      (firstOf-skip _ _ (other-rate-not e (r .rate) o)
       ∙ firstOf-skip _ _ (ap₂ (λ (a b : Bool). cond a true b) (le-ltb _ _ m) (le-ltb _ _ n)))
 
   own-only : runAnswer r e ts vs .answer .number ≡ 0 → ((e ≡ 0) ⊎ (e ≡ r .rate)) × (length (r .positions) ≤ length ts) × (length (r .positions) ≤ length vs)
@@ -135,7 +125,7 @@ module _ (r : Run) (e : ℕ) (ts vs : List ℕ) where
       let a = firstOf-clear _ _ (lit< tt) (answer-clear (ownTests r e (length ts) (length vs)) (ownAnswer r ts vs) ts vs h) in
       let b = firstOf-clear _ _ (lit< tt) (a .1) in
       let c = room-enough (length ts) (length vs) (length (r .positions)) (b .0) in
-      (other-none e (r .rate) (a .0), c .0, c .1)
+      (other-rate-none e (r .rate) (a .0), c .0, c .1)
 
 -- with room, and no other rate expected, the answer is the run's own
 pub with-room : (r : Run) (ts vs : List ℕ) → length (r .positions) ≤ length ts → length (r .positions) ≤ length vs → runAnswer r 0 ts vs ≡ ownAnswer r ts vs
@@ -200,7 +190,7 @@ same-fields r q a b e =
     let g = accepted-fits q (b .passes) in
     let rates : bytesOf rateSize (r .rate) ≡ bytesOf rateSize (q .rate) = ap (body-of rateIndex) e in
     let d = sides-same (r .side) (q .side) (f .sided) (g .sided) _ _ _ _ refl refl
-    (sym (append-assoc (sideFields (r .side)) _ _) ∙ ap (drop 1) e ∙ append-assoc (sideFields (q .side)) _ _) in
+    (sym (append-assoc (sideFields (r .side)) _ _) ∙ ap (drop (suc rateIndex)) e ∙ append-assoc (sideFields (q .side)) _ _) in
     let counts : bytesOf countSize (length (r .positions)) ≡ bytesOf countSize (length (q .positions)) = ap (body-of countIndex) (d .1) in
     let forms : r .form ≡ q .form = sym (form-of (r .form)) ∙ ap (λ (fs : List Field). formOf (fieldIn fs positionsIndex .tag)) (d .1) ∙ form-of (q .form) in
     let bodies : codedPositions (tableOf (r .form)) (r .positions) ≡ codedPositions (tableOf (q .form)) (q .positions) = ap (body-of positionsIndex) (d .1) in
@@ -250,21 +240,21 @@ prefix-free r q a b n = (
 )
 
 -- a record is not empty
-filled : (r : Run) (x : List ℕ) → [] ≡ recordOf r ++ x → ⊥
+record-nonempty : (r : Run) (x : List ℕ) → [] ≡ recordOf r ++ x → ⊥
 unfolding recordOf laid fieldBytes
-filled r x e = let z : _≡_ {A = ℕ} 0 1 = cc in omega arith
+record-nonempty r x e = let z : _≡_ {A = ℕ} 0 1 = cc in omega arith
 
-apart : (rs qs : List Run) → AllAccepted rs → AllAccepted qs → joined rs ≡ joined qs → rs ≡ qs
+joined-apart : (rs qs : List Run) → AllAccepted rs → AllAccepted qs → joined rs ≡ joined qs → rs ≡ qs
 unfolding joined
-apart [] [] a b e = refl
-apart [] (q ∷ qs) a b e = absurd (filled q (joined qs) e)
-apart (r ∷ rs) [] a b e = absurd (filled r (joined rs) (sym e))
-apart (r ∷ rs) (q ∷ qs) a b e =
+joined-apart [] [] a b e = refl
+joined-apart [] (q ∷ qs) a b e = absurd (record-nonempty q (joined qs) e)
+joined-apart (r ∷ rs) [] a b e = absurd (record-nonempty r (joined rs) (sym e))
+joined-apart (r ∷ rs) (q ∷ qs) a b e =
     let h = records-unique r q (a .0) (b .0) (joined rs) (joined qs) e in
-    ap₂ (λ (p : Run) (l : List Run). p ∷ l) (h .0) (apart rs qs (a .1) (b .1) (h .1))
+    ap₂ (λ (p : Run) (l : List Run). p ∷ l) (h .0) (joined-apart rs qs (a .1) (b .1) (h .1))
 
 pub lists-apart : ListsApart
-lists-apart rs qs a b = (apart rs qs a b, ap joined)
+lists-apart rs qs a b = (joined-apart rs qs a b, ap joined)
 
 -- a move of a run's record to its own form is refused at the positions' tag, and one to the other form answers by the run
 moved-own : (r : Run) → Accepted r → (f : Form) (o : List ℕ) → (m : Move) × ((rest : List ℕ) → moveOf f (recordOf r ++ rest) o ≡ m)

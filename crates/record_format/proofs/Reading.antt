@@ -1,11 +1,12 @@
 -- Laws of reading: the tests of a field by how it turns out, and the answer by the tests that are left to make.
-pub mod Moved
+pub mod Shifted
 pub mod Rooms
 pub mod Fronts
 pub mod Sides
 use mathlib.Core.Path.{_≡_, refl, sym, ap, ap₂, _∙_, subst}
 use mathlib.Core.Bool.{Bool, true, false, not, cond, false≢true}
 use mathlib.Core.List.{List, [], _∷_, _++_, append-assoc}
+use mathlib.Core.Logic.{_⊎_, inl, inr}
 use mathlib.Core.Option.{Option, none, some}
 use Prim.Native.Nat.{ℕ, zero, suc, _+_, _≤_, _<_}
 use native.Mathlib.Omega.{arith}
@@ -13,6 +14,7 @@ use borrow.Author.Tests.{eqb-true, eq-eqb, ne-eqb, ltb-false, le-ltb, lt-ltb, no
 use lib.Dec.{ltb, eqb, lit<, eqb·suc-zero}
 use lib.ListN.{length, drop}
 use Rattle.lists.specs.Below.{Below}
+use Rattle.lists.specs.Compare.{both}
 use Rattle.lists.specs.Lists.{member}
 use Rattle.bits.specs.Digits.{bytesOf, digitsOf, numberOf}
 use Rattle.bits.proofs.Digits.{digits-number}
@@ -24,7 +26,7 @@ use Rattle.refusals.proofs.Tests.{numbered, never, firstOf-here, firstOf-skip, 
 use Rattle.position_format.specs.declared.Form.the-variants.{Wide}
 use Rattle.position_format.specs.Tables.{pointsOf}
 use Rattle.record_format.specs.Fields.{Field, fieldOf, headSize, fieldBytes, tagAt, lengthAt, bodyAt, nextAt, lengthTests, fieldTests}
-use Rattle.record_format.specs.Reading.{Answer, refusalAnswer, recordAnswer, answerBy, readWith, missing, sideAt, hasSide, countAt, positionsAt, sideIn, countIn, formIn, positionsIn, lacksRoom, rateTests, sideTests, countTests, frontTests, roomTests, positionsTests, ratiosTests, readTests}
+use Rattle.record_format.specs.Reading.{Answer, refusalAnswer, recordAnswer, answerBy, readWith, missing, sideAt, hasSide, countAt, positionsAt, sideIn, countIn, formIn, positionsIn, otherRate, lacksRoom, rateTests, sideTests, countTests, frontTests, roomTests, positionsTests, ratiosTests, readTests}
 use Rattle.record_format.specs.Runs.{sideTag, positionsTag, positionsTags, formOf, sideSize}
 use Rattle.record_format.proofs.Fields.{FieldStands, length-body, field-here, below-body}
 
@@ -238,3 +240,21 @@ pub read-refused : (k : ℕ → List ℕ → Option (List ℕ)) (e : ℕ) (s ts 
     → readWith k e s ts vs ≡ refusalAnswer (refusal n p) ts vs
 unfolding readWith
 read-refused k e s ts vs n p d q = answer-refused (recordAnswer k s ts vs) ts vs (readTests k e s (length ts) (length vs)) (refusal n p) (sym q) d
+
+-- ---- the rate that is expected
+
+-- none is, or the record's own
+pub other-rate-not : (e r : ℕ) → (e ≡ 0) ⊎ (e ≡ r) → otherRate e r ≡ false
+other-rate-not e r (inl h) = rw (eq-eqb e 0 h)
+other-rate-not e r (inr h) = go (eqb e 0)
+  where
+    go : (b : Bool) → both (not b) (not (eqb e r)) ≡ false
+    go true = refl
+    go false = rw (eq-eqb e r h)
+
+pub other-rate-none : (e r : ℕ) → otherRate e r ≡ false → (e ≡ 0) ⊎ (e ≡ r)
+other-rate-none e r h = go (eqb e 0) refl h
+  where
+    go : (b : Bool) → eqb e 0 ≡ b → both (not b) (not (eqb e r)) ≡ false → (e ≡ 0) ⊎ (e ≡ r)
+    go true q k = inl (eqb-true e 0 q)
+    go false q k = inr (eqb-true e r (not-false (eqb e r) k))

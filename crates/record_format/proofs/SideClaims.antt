@@ -28,11 +28,10 @@ use Rattle.record_format.specs.Runs.{rateTag, sideTag, countTag, positio
 use Rattle.record_format.specs.Reading.{Answer, refusalAnswer, recordAnswer, readTests, readWith, rateAt, sideAt, hasSide, countAt, rateIn, sideIn, countIn, otherRate, sideTests, countTests, roomTests, positionsTests, ratiosTests}
 use Rattle.record_format.specs.SideClaims.{rateBytes, sideBytes, Expects, refusedBy, RateRefused, RateFirst, HeadCut, TagRefused, LengthRefused, BodyCut, SideRefused, CountRefused, shifted, SideShifts}
 use Rattle.record_format.proofs.Fields.{FieldStands, length-field, field-stands, head-stands}
-use Rattle.record_format.proofs.Reading.{head-short, tag-other, length-other, body-short, field-passes, tests-flat, read-refused}
-use Rattle.record_format.proofs.Reading.Moved.{FieldsMoved, later-fields, end-moved, count-same, form-same, positions-same, ratios-same, count-tests-moved, room-tests-moved, positions-tests-moved, ratios-tests-moved}
+use Rattle.record_format.proofs.Reading.{head-short, tag-other, length-other, body-short, field-passes, tests-flat, read-refused, other-rate-not, other-rate-none}
+use Rattle.record_format.proofs.Reading.Shifted.{FieldsShifted, later-fields, end-shifted, count-same, form-same, positions-same, ratios-same, count-tests-shifted, room-tests-shifted, positions-tests-shifted, ratios-tests-shifted}
 use Rattle.record_format.proofs.Runs.{pointFieldCount}
 use Rattle.record_format.proofs.Reading.Sides.{absent-count, absent-tests, present-count, present-side, present-tests}
-use Rattle.record_format.proofs.Claims.{no-other, other-none}
 
 -- the offset of the side's field, past the rate's
 abbrev side-place : ℕ
@@ -140,7 +139,7 @@ module _ (k : ℕ → List ℕ → Option (List ℕ)) (e r : ℕ) (rest ts vs : 
       where
         differs : (b : Bool) → otherRate e r ≡ b → otherRate e r ≡ true
         differs true q = q
-        differs false q = absurd (d (other-none e r q))
+        differs false q = absurd (d (other-rate-none e r q))
 
   module _ (listed : isRate r ≡ true) (o : Expects e r) where
     rate-small : r < 2 ^ 32
@@ -150,7 +149,7 @@ module _ (k : ℕ → List ℕ → Option (List ℕ)) (e r : ℕ) (rest ts vs : 
     past-rate =
         rate-tests
         ∙ firstOf-skip _ _ (ap (λ (x : ℕ). not (isRate x)) (rate-is rate-small) ∙ ap not listed)
-        ∙ firstOf-skip _ _ (ap (otherRate e) (rate-is rate-small) ∙ no-other e r o)
+        ∙ firstOf-skip _ _ (ap (otherRate e) (rate-is rate-small) ∙ other-rate-not e r o)
 
     past-absent : hasSide s ≡ false → firstOf tests ≡ firstOf from-count
     past-absent a = past-rate ∙ ap (λ (l : List Test). firstOf (l ++ from-count)) (absent-tests s a)
@@ -380,7 +379,7 @@ module _ (k : ℕ → List ℕ → Option (List ℕ)) (e r d : ℕ) (rest ts vs 
     count-here : countAt without ≡ side-place
     count-here = absent-count without absent ∙ at-side k e r rest ts vs
 
-    points : FieldsMoved side-takes without (countAt without) with-side (countAt with-side) pointFieldCount
+    points : FieldsShifted side-takes without (countAt without) with-side (countAt with-side) pointFieldCount
     points =
         later-fields side-takes without with-side (omega (arith, length-both, length-all k e r rest ts vs)) (countAt without) (countAt with-side) pointFieldCount (at-count ∙ omega (arith, count-here))
         (rest-past ∙ sym (ap (λ (p : ℕ). drop p without) count-here ∙ rest-here k e r rest ts vs))
@@ -389,9 +388,9 @@ module _ (k : ℕ → List ℕ → Option (List ℕ)) (e r d : ℕ) (rest ts vs 
     tests-further =
         let room = roomTests without (length ts) (length vs) in
         let later = positionsTests without ++ ratiosTests k without in
-        further-append side-takes (countTests without) (room ++ later) (count-tests-moved points)
-        (further-append side-takes room later (room-tests-moved points (length ts) (length vs))
-        (further-append side-takes (positionsTests without) (ratiosTests k without) (positions-tests-moved points positionsTags) (ratios-tests-moved points k)))
+        further-append side-takes (countTests without) (room ++ later) (count-tests-shifted points)
+        (further-append side-takes room later (room-tests-shifted points (length ts) (length vs))
+        (further-append side-takes (positionsTests without) (ratiosTests k without) (positions-tests-shifted points positionsTags) (ratios-tests-shifted points k)))
 
     refusal-further : Further side-takes (firstOf (tests k e r rest ts vs)) (firstOf (tests k e r (sideBytes d ++ rest) ts vs))
     refusal-further =
@@ -405,7 +404,7 @@ module _ (k : ℕ → List ℕ → Option (List ℕ)) (e r d : ℕ) (rest ts vs 
         let a : rateIn with-side ≡ rateIn without = rate-is k e r (sideBytes d ++ rest) ts vs here ∙ sym (rate-is k e r rest ts vs here) in
         let b : sideIn with-side ≡ d = present-side with-side (present k e r d rest ts vs listed o small) ∙ stored-is k e r d rest ts vs listed o small in
         let c = count-same points in
-        let u = end-moved points in
+        let u = end-shifted points in
         let p = positions-same points in
         let q = ratios-same points k in
         let f = form-same points in

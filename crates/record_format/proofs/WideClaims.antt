@@ -34,10 +34,10 @@ use Rattle.record_format.specs.Claims.{countPlace, positionsPlace}
 use Rattle.record_format.specs.WideClaims.{FormNumbers, RecordFields, RefusesWide, AcceptsWide, FormsApart, frontBytes, CountFirst, TagFirst, BodyByForm, RatiosByReading}
 use Rattle.record_format.proofs.Fields.{FieldStands, StandAll, length-field, field-stands, laid-stand, pastAll, stand-past, small-append, stand-append, past-append, head-stands}
 use Rattle.record_format.proofs.Reading.Fronts.{count-at, positions-at, front-past, rate-is, side-is, count-is, front-tests, input, front-all, front-length, input-length, tag-there, form-is, positions-are, positions-pass}
-use Rattle.record_format.proofs.Reading.{body-short, field-good, positions-few, positions-many, answer-good, read-refused}
+use Rattle.record_format.proofs.Reading.{body-short, field-good, positions-few, positions-many, answer-good, read-refused, other-rate-not}
 use Rattle.record_format.proofs.Runs.{form-of, tag-good, front-small, coded-size, form-bodies}
 use Rattle.record_format.proofs.Writing.{refuses-by-form, fitting-accepted}
-use Rattle.record_format.proofs.Claims.{no-other, prefix-free}
+use Rattle.record_format.proofs.Claims.{prefix-free}
 
 -- ---- the forms' numbers
 
@@ -84,7 +84,7 @@ module _ (k : ℕ → List ℕ → Option (List ℕ)) (e r d n : ℕ) (s ts vs :
   refuses x p z q = read-refused k e s ts vs x p z q
 
   past-rate : firstOf tests ≡ firstOf (test (ltb maxPoints n) 15 (countAt s) ∷ test (lacksRoom (length ts) (length vs) n) 16 (countAt s) ∷ (positionsTests s ++ ratiosTests k s))
-  past-rate = front-tests s r d n listed sided counts all k e (length ts) (length vs) ∙ firstOf-skip _ _ (no-other e r o)
+  past-rate = front-tests s r d n listed sided counts all k e (length ts) (length vs) ∙ firstOf-skip _ _ (other-rate-not e r o)
 
   fifteen : maxPoints < n → readWith k e s ts vs ≡ refusedBy 15 (countPlace d) ts vs
   fifteen h = refuses 15 (countPlace d) (λ z. omega arith) (past-rate ∙ firstOf-here _ _ (lt-ltb _ _ h) ∙ ap (refusal 15) at-count)

@@ -8,6 +8,7 @@
 --   joined rs           the records of the runs rs, joined in their order: their concatenation
 --   countPlace d        the offset of the count's field past a front with the side d, 7 or 11: what countAt finds there; positionsPlace d: that of
 --                       the positions', 12 or 16
+--   FieldPlaces         these offsets, in numbers
 --   ownTests r e m n    the tests that can apply to the record of r; ownAnswer r ts vs: the answer where none does
 --   runAnswer r e ts vs what reading the record of r answers
 --   WritesRun, Writes   writing gives exactly the record, where the run is accepted and there is room for it, and else the refusal, and zeros
@@ -74,6 +75,10 @@ countPlace d = headSize + rateSize + sideLength d
 -- and the positions', past the count's
 abbrev pub positionsPlace : ℕ → ℕ
 positionsPlace d = countPlace d + (headSize + countSize)
+
+-- as the documents give them: on no side, and on any other
+abbrev pub FieldPlaces : Type 0
+FieldPlaces = ((countPlace 0 ≡ 7) × (positionsPlace 0 ≡ 12)) × ((d : ℕ) → 0 < d → (countPlace d ≡ 11) × (positionsPlace d ≡ 16))
 
 -- the tests that can apply to the record of an accepted run
 abbrev pub ownTests : Run → ℕ → ℕ → ℕ → List Test

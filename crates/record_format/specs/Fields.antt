@@ -1,19 +1,19 @@
 -- Document 01, "The record": fields. The standard term is tag, length, value.
---   Field          a tag and a body
---   fieldOf t b    such a field
---   tagSize, lengthSize   how many bytes a field's tag and the length of its body take
---   headSize       how many bytes stand before a field's body: its head, in the standard term a header
---   maxBody        the longest body that a head can state
---   fieldBytes f   the bytes of the field f: the tag, the length of the body in two bytes, and the body
---   laid fs        the fields fs, laid end to end
---   tagAt s p      the tag of the field at the offset p of the bytes s, and 0, which is no field's, past their end
---   lengthAt s p   its stated length
---   bodyAt s p     its body
---   nextAt s p     the offset past it
---   headTests s tags p     the tests of the head of a field at p: whole, and a tag of the list
---   lengthTests s n p      the test of the stated length, where one is asked for
---   bodyTests s p          the test of its whole body
---   fieldTests s tags n p  the tests of a field at p before those of its contents: head, stated length where one is asked for, body
+--   Field                   a tag and a body
+--   fieldOf t b             such a field
+--   tagSize, lengthSize     how many bytes a field's tag and the length of its body take
+--   headSize                how many bytes stand before a field's body: its head, in the standard term a header
+--   maxBody                 the longest body that a head can state
+--   fieldBytes f            the bytes of the field f: the tag, the length of the body in two bytes, and the body
+--   laid fs                 the fields fs, laid end to end
+--   tagAt s p               the tag of the field at the offset p of the bytes s, and 0, which is no field's, past their end
+--   lengthAt s p            its stated length
+--   bodyAt s p              its body
+--   nextAt s p              the offset past it
+--   headTests s tags p      the tests of the head of a field at p: whole, and a tag of the list
+--   lengthTests s n p       the test of the stated length, where one is asked for
+--   bodyTests s p           the test of its whole body
+--   fieldTests s tags n p   the tests of a field at p before those of its contents: head, stated length where one is asked for, body
 use mathlib.Core.Bool.{not}
 use mathlib.Core.List.{List, [], _∷_, _++_}
 use mathlib.Core.Option.{Option, none, some}

@@ -1,11 +1,11 @@
 -- Document 01, "Numbers that come back", with 21 of document 02, No. 2, and the form of No. 3: writing a run.
 --   outsideTests f ts   the test of the steps of the positions ts: 5, only in the old form
---   runTests r       the tests of writing on the run alone, in their order: 1, 21, 2 to 5, each over the whole run; 3 and 5 by the form
---   accepts r        none of them applies: the writer accepts the run
---   writeTests r o   all tests, with 6, which asks for room for the whole record
---   writeRefusal r o the refusal of writing, or none
---   writeAnswer r o  the answer: number, place and the record's length
---   writeOutput r o  the output o afterwards
+--   runTests r          the tests of writing on the run alone, in their order: 1, 21, 2 to 5, each over the whole run; 3 and 5 by the form
+--   accepts r           none of them applies: the writer accepts the run
+--   writeTests r o      all tests, with 6, which asks for room for the whole record
+--   writeRefusal r o    the refusal of writing, or none
+--   writeAnswer r o     the answer: number, place and the record's length
+--   writeOutput r o     the output o afterwards
 use mathlib.Core.Bool.{Bool, not, cond}
 use mathlib.Core.List.{List, [], _∷_, _++_}
 use Prim.Native.Nat.{ℕ}

@@ -13,7 +13,7 @@ use Rattle.bits.specs.Digits.{numberOf}
 use Rattle.refusals.specs.declared.Refusal.{Refusal}
 use Rattle.refusals.specs.Tests.{Test, refusal, firstOf, noRefusal}
 use Rattle.refusals.proofs.Tests.{numbered, firstOf-end, firstOf-none, firstOf-append-none, firstOf-append-some}
-use Rattle.record_format.specs.Fields.{headSize, tagAt, lengthAt, bodyAt, nextAt, fieldTests}
+use Rattle.record_format.specs.Fields.{tagSize, lengthSize, headSize, tagAt, lengthAt, bodyAt, nextAt, fieldTests}
 use Rattle.record_format.proofs.Fields.{next-most}
 use Rattle.record_format.proofs.Reading.{Stated, field-clear, head-short, tag-other, length-other, body-short, field-good}
 use Rattle.record_parts.specs.declared.field.Field.{Field}
@@ -57,7 +57,7 @@ module _ (s tags : List ℕ) (n : Option ℕ) (p : ℕ) where
     unfolding tagAt
     field-tag r e h = refused r 11 e (λ z. omega arith) (tag-other s tags n p [] whole-head h)
 
-    module _ (tagged : member (getD s p 0) tags ≡ true) (l : ℕ) (stated : l ≡ numberOf 256 (take 2 (drop (p + 1) s))) where
+    module _ (tagged : member (getD s p 0) tags ≡ true) (l : ℕ) (stated : l ≡ numberOf 256 (take lengthSize (drop (p + tagSize) s))) where
       length-is : lengthAt s p ≡ l
       unfolding lengthAt
       length-is = sym stated

@@ -12,8 +12,8 @@ ghost use Rattle.record_format.specs.Runs.{positionsTag, formOf};
 ghost use Rattle.record_format.specs.Reading.{formIn, positionsTests, ratiosTests};
 ghost use Rattle.record_parts.specs.Fields.{FrontFound, ratiosBy, tagOf, codedBy, Codable, RatiosDue, CodedRead};
 use super::field::Length;
-use super::field::has_head;
 use super::field::has_tag;
+use super::field::is_head_whole;
 use super::field::read_field;
 use super::front::Front;
 use limits::MAX_POINTS;
@@ -72,7 +72,7 @@ pub fn is_in(form: Form, input: &[u8], at: usize) -> bool
     requires { ⌜ at ≤ length (now input) ⌝ }
     ensures { λ r. ⌜ r ≡ both (leb (at + headSize) (length (now (input .entry)))) (eqb (tagAt (now (input .entry)) at) (positionsTag form)) ⌝ }
 {
-    has_head(input, at) && has_tag(input, at, form_tag(form))
+    is_head_whole(input, at) && has_tag(input, at, form_tag(form))
 }
 
 // The tag of its field.
@@ -115,7 +115,7 @@ fn has_many(form: Form, input: &[u8], at: usize, count: usize) -> bool
     requires { ⌜ at ≤ length (now input) ⌝ }
     ensures { λ r. ⌜ r ≡ both (leb (at + headSize) (length (now (input .entry)))) (ltb (pointsOf form) count) ⌝ }
 {
-    has_head(input, at) && points_of(form) < count
+    is_head_whole(input, at) && points_of(form) < count
 }
 
 // The positions' field past a front, in the form that its tag names: its tests, and its positions at the front of the output, which has room for

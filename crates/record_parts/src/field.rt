@@ -43,7 +43,7 @@ fn is_among(tags: &[u8], tag: u8) -> bool
 }
 
 // Whether the head of the field at an offset is whole.
-pub(crate) fn has_head(input: &[u8], at: usize) -> bool
+pub(crate) fn is_head_whole(input: &[u8], at: usize) -> bool
     requires { ⌜ at ≤ length (now input) ⌝ }
     ensures { λ r. ⌜ r ≡ leb (at + headSize) (length (now (input .entry))) ⌝ }
 {

@@ -9,7 +9,7 @@ ghost use Rattle.limits.specs.Points.{maxPoints};
 ghost use Rattle.outputs.specs.Outputs.{over, Placed, Left, Next};
 ghost use Rattle.position_format.specs.Positions.{validPositions};
 ghost use Rattle.position_format.specs.Tables.{tableOf};
-ghost use Rattle.record_format.specs.Fields.{fieldOf, headSize, laid};
+ghost use Rattle.record_format.specs.Fields.{fieldOf, lengthSize, headSize, laid};
 ghost use Rattle.record_format.specs.Runs.{sideFields};
 ghost use Rattle.record_parts.specs.Fields.{tagOf, codedBy, Codable};
 ghost use Rattle.record_parts.specs.Leads.{leadFields};
@@ -32,7 +32,7 @@ use record_format::SIDE_TAG;
 // The tag and the length of a field, at the front of the output.
 fn put_head(out: &mut [u8], tag: u8, n: usize)
     requires { ⌜ headSize ≤ length (now out) ⌝ }
-    ensures { λ _. ⌜ now (out .exit) ≡ over (tag ∷ bytesOf 2 n) (now (out .entry)) ⌝ }
+    ensures { λ _. ⌜ now (out .exit) ≡ over (tag ∷ bytesOf lengthSize n) (now (out .entry)) ⌝ }
 {
     out[0] = tag;
     bits::put_bytes(out, TAG_SIZE, LENGTH_SIZE, n as u64);

@@ -7,7 +7,7 @@ use native.Mathlib.Omega.{arith}
 use lib.Seq.{length-take-le}
 use Rattle.limits.specs.Points.{maxPoints}
 use Rattle.text.proofs.PlacedAt.{placed-same, placed-within, placed-then}
-use Rattle.inputs.specs.Readings.{Held}
+use Rattle.inputs.specs.Readings.{RunHeld}
 use Rattle.inputs.proofs.Inputs.{read-held}
 use Rattle.differences.specs.declared.OverallDifferences.{OverallDifferences}
 use Rattle.differences.proofs.Overall.{overall-clear}
@@ -67,10 +67,10 @@ clear : (c : tie.Else1) → (first (c .before) .read-input .result .number ≡ 0
 clear c = overall-clear _ _ (sym (ap (λ (h : OverallDifferences). h .number) (c .before .overall-of .ensures)) ∙ c .if1 .left)
 
 -- then the outputs hold both runs' numbers
-first-held : (c : tie.Else1) → let k = c .before in Held (first k .read-input .result .count) (first-positions k) (first-ratios k)
+first-held : (c : tie.Else1) → let k = c .before in RunHeld (first k .read-input .result .count) (first-positions k) (first-ratios k)
 first-held c = read-held (first (c .before) .read-input .ensures) (clear c .0)
 
-second-held : (c : tie.Else1) → let k = c .before in Held (second k .read-input2 .result .count) (second-positions k) (second-ratios k)
+second-held : (c : tie.Else1) → let k = c .before in RunHeld (second k .read-input2 .result .count) (second-positions k) (second-ratios k)
 second-held c = read-held (second (c .before) .read-input2 .ensures) (clear c .1)
 
 -- and no more of them than a run has

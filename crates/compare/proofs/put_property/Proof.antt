@@ -14,19 +14,19 @@ rest-lent k = k .before .before .before
 abbrev first-put : tie.After-put-one → tie.After-put-decimal
 first-put k = rest-lent k .before .before
 
-abbrev word-put : tie.After-put-decimal → tie.After-put-word
+abbrev word-put : tie.After-put-decimal → tie.After-put-label
 word-put k = k .before .before .before .before
 
-abbrev word : tie.After-put-word → tie.After-property-word
+abbrev word : tie.After-put-label → tie.After-property-label
 word k = k .before .before
 
 -- ---- the needs
 
-property-word-requires : tie.Need-property-word-requires
-property-word-requires c κs = search needs
+property-label-requires : tie.Need-property-label-requires
+property-label-requires c κs = search needs
 
-put-word-requires : tie.Need-put-word-requires
-put-word-requires c κs = search needs
+put-label-requires : tie.Need-put-label-requires
+put-label-requires c κs = search needs
 
 put-decimal-requires : tie.Need-put-decimal-requires
 put-decimal-requires c κs = search needs
@@ -47,15 +47,15 @@ returns c =
     let first = first-put second in
     let put = word-put first in
     placed-within (omega arith)
-    (placed-then (omega arith) (placed-same (word put .property-word .ensures .1) (put .put-word .ensures))
+    (placed-then (omega arith) (placed-same (word put .property-label .ensures .1) (put .put-label .ensures))
     (placed-then (omega arith) (first .put-decimal .ensures) (second .put-one .ensures)))
 
 pub put-property-spec : {M : Type 1} → statement M
 put-property-spec =
     tie.close
     (tie.spec
-    property-word-requires
-    put-word-requires
+    property-label-requires
+    put-label-requires
     put-decimal-requires
     slice-aggregate-put-one
     put-one-requires

@@ -1,13 +1,12 @@
 -- What the calls answer, of all that they can be given.
 use mathlib.Core.Logic.{_⊎_, inl, inr}
-use mathlib.Core.Path.{_≡_, refl, sym, ap, _∙_}
+use mathlib.Core.Path.{_≡_, sym, ap, _∙_}
 use Prim.Native.Nat.{ℕ, _+_, _-_}
 use native.Mathlib.Omega.{arith}
-use Rattle.record_format.specs.declared.ReadAnswer.{ReadAnswer}
 use Rattle.differences.specs.declared.Property.{Property}
 use Rattle.differences.specs.declared.Property.the-variants.{Rate, Side, Count, Form}
 use Rattle.differences.specs.declared.Difference.{Difference}
-use Rattle.differences.specs.declared.Difference.the-variants.{Equal, More}
+use Rattle.differences.specs.declared.Difference.the-variants.{More}
 use Rattle.differences.specs.declared.OverallDifferences.{OverallDifferences}
 use Rattle.differences.specs.Differences.{propertyDifference, moreDifference, positionBy, ratioBy, positionAt, ratioAt}
 use Rattle.differences.specs.Overall.{overallRead, overallOf}

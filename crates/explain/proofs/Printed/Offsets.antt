@@ -48,9 +48,9 @@ record-body r fit =
     sym (take-all n (drop (bodyIn (recordOf r)) (recordOf r)) (omega (arith, end, length-drop (bodyIn (recordOf r)) (recordOf r)))) ∙ within
 
 -- from the offset of the ratio of index i on stand its bytes and those of the ratios after it
-pub ratio-bytes : (r : Run) → Fitting r → (i : ℕ) → i < length (r .ratios) → let v = getD (r .ratios) i 0 in let w = windowAt (r .ratios) i in
+pub offset-bytes : (r : Run) → Fitting r → (i : ℕ) → i < length (r .ratios) → let v = getD (r .ratios) i 0 in let w = windowAt (r .ratios) i in
     drop (offsetOf (bodyIn (recordOf r)) (r .ratios) i) (recordOf r) ≡ written v (ratioForm v w) ++ codedFrom windowSize (windowAt (r .ratios) (i + 1)) (drop (i + 1) (r .ratios))
-ratio-bytes r fit i h =
+offset-bytes r fit i h =
     let vs = r .ratios in
     let few : length vs ≤ maxPoints = omega (arith, fit .paired, fitting-few r fit) in
     sym (drop-drop (length (codedRatios (take i vs))) (bodyIn (recordOf r)) (recordOf r))

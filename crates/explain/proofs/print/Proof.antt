@@ -9,7 +9,7 @@ use Rattle.limits.specs.Points.{maxPoints}
 use Rattle.ratio_format.specs.Bodies.{codedRatios}
 use Rattle.text.proofs.PlacedAt.{placed-same, placed-within}
 use Rattle.inputs.specs.Inputs.{inputLimit}
-use Rattle.inputs.specs.Readings.{Held}
+use Rattle.inputs.specs.Readings.{RunHeld}
 use Rattle.inputs.proofs.Inputs.{read-held}
 use Rattle.explain.specs.Indexes.{givenIndex}
 use Rattle.explain.specs.Printed.{bodyIn, pointText}
@@ -50,7 +50,7 @@ abbrev indexed : tie.After-index-in → tie.After-body-size
 indexed k = k .before
 
 -- the outputs hold its numbers
-run-held : (c : tie.Else1) → Held (read c .read-input .result .count) (left-positions (read c)) (left-ratios (read c))
+run-held : (c : tie.Else1) → RunHeld (read c .read-input .result .count) (left-positions (read c)) (left-ratios (read c))
 run-held c = read-held (read c .read-input .ensures) (c .if1 .left)
 
 abbrev ratios : tie.Else1 → List ℕ

@@ -9,7 +9,7 @@ use mir.Val.{SFits}
 use mir.ValLaws.{toZ-ofZ}
 use Rattle.span.specs.declared.SpanAnswer.{SpanAnswer}
 use Rattle.text.proofs.PlacedAt.{placed-same, placed-within}
-use Rattle.inputs.specs.Readings.{Held}
+use Rattle.inputs.specs.Readings.{RunHeld}
 use Rattle.inputs.proofs.Inputs.{read-held}
 use Rattle.listing.proofs.Printed.{refused-text, run-text, listing-within}
 use borrow.Author.Needs.{needs}
@@ -39,7 +39,7 @@ abbrev listed : tie.After-struct-told → tie.After-span
 listed k = k .before .before .before .before
 
 -- the outputs hold its numbers
-run-held : (c : tie.Else1) → Held (read c .read-input .result .count) (positions (read c)) (ratios (read c))
+run-held : (c : tie.Else1) → RunHeld (read c .read-input .result .count) (positions (read c)) (ratios (read c))
 run-held c = read-held (read c .read-input .ensures) (c .if1 .left)
 
 -- ---- the needs

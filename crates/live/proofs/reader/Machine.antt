@@ -92,5 +92,5 @@ module _ (c : Cursor) (is : Is TC.the-row c (machC c ∷ [])) where
   pub seen-fits : c .seen < 2 ^ 64
   seen-fits = LL.owed TC.the-type TC′.the-laws c _ is .1 .1 .0 .1
 
-  pub window-is : Is TW.the-row (c .window) (machW (c .window) ∷ [])
-  window-is = LL.owed TC.the-type TC′.the-laws c _ is .1 .1 .1 .0
+  pub window-machine : Is TW.the-row (c .window) (machW (c .window) ∷ [])
+  window-machine = LL.owed TC.the-type TC′.the-laws c _ is .1 .1 .1 .0

@@ -15,14 +15,13 @@ use Rattle.bits.specs.Digits.{bitsOf, numberOf}
 use Rattle.bits.specs.Packing.{bits, ahead}
 use Rattle.bits.proofs.Packing.Ahead.{take-ahead, ahead-first, ahead-field}
 use Rattle.position_format.specs.declared.Form.{Form}
-use Rattle.position_format.specs.declared.Form.the-variants.{Old, Wide}
-use Rattle.position_format.specs.Rows.{Row, rows, wideRows, holds, inTable, reading, code, codeLength, noRow, rowOf}
+use Rattle.position_format.specs.Rows.{Row, wideRows, holds, inTable, reading, code, codeLength, noRow, rowOf}
 use Rattle.position_format.specs.Tables.{tableOf}
 use Rattle.position_format.proofs.Rows.{goodTable, good-full, reading-held}
 use Rattle.position_format.proofs.Rows.Ranges.{widening, row-before, row-first}
 use Rattle.position_format.proofs.Rows.Codes.{inTable-row, row-inTable, length-code, lengths, code-within}
 use Rattle.position_format.proofs.Tables.{shortPrefixes, prefix-short}
-use Rattle.position_format.proofs.Tables.WideRows.{same-range, form-row, form-first}
+use Rattle.position_format.proofs.Tables.WideRows.{same-range, form-row, form-row-first}
 use Rattle.position_format.proofs.Rows.Decoding.{code-begins, prefix-one, front-step, front-table, front-code}
 use Rattle.position_codec.specs.declared.table.GotStep.{GotStep}
 use Rattle.position_codec.specs.declared.table.GotStep.the-variants.{Step, Nothing}
@@ -68,7 +67,7 @@ module _ (rs : List Row) (good : goodTable rs ≡ true) (wide : widening rs ≡ 
 
 pub read-form : (f : Form) (i : ℕ) → i < length (tableOf f) → (n x : ℕ) (g : GotStep) → ReadBy wideRows i n x g → ReadBy (tableOf f) i n x g
 read-form f i h n x (Step z m) e =
-    (e .0 ∙ sym (ap (λ (r : Row). reading r x) (same-range f i h)), form-first f z i h (e .1), e .2)
+    (e .0 ∙ sym (ap (λ (r : Row). reading r x) (same-range f i h)), form-row-first f z i h (e .1), e .2)
 read-form f i h n x Nothing e =
     λ is.
     let same : reading (getD (tableOf f) i noRow) x ≡ reading (getD wideRows i noRow) x = ap (λ (r : Row). reading r x) (same-range f i h) in

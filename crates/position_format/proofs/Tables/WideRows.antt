@@ -70,9 +70,9 @@ form-row Old z e = sym (old-index z e)
 form-row Wide z e = refl
 
 -- a row of either table is the first that holds z in it where it is so in the wide one
-pub form-first : (f : Form) (z : ℤ) (i : ℕ) → i < length (tableOf f) → rowOf wideRows z ≡ i → rowOf (tableOf f) z ≡ i
-form-first Old z i h e = extended-row rows wideRows ranges-same z i h e
-form-first Wide z i h e = e
+pub form-row-first : (f : Form) (z : ℤ) (i : ℕ) → i < length (tableOf f) → rowOf wideRows z ≡ i → rowOf (tableOf f) z ≡ i
+form-row-first Old z i h e = extended-row rows wideRows ranges-same z i h e
+form-row-first Wide z i h e = e
 
 -- document 01's table holds what its last row holds
 pub old-test : (z : ℤ) → holds (getD wideRows 4 noRow) z ≡ inTable rows z

@@ -21,7 +21,7 @@ use Rattle.record_format.specs.Moves.{otherForm, inForm, runIn, sourceTe
 use Rattle.record_format.specs.Claims.{Followed, MoveFollowed}
 use Rattle.record_format.proofs.Fields.{first-whole, next-later}
 use Rattle.record_format.proofs.Runs.{openingFieldCount, pointFieldCount}
-use Rattle.record_format.proofs.Reading.Moved.{FieldsMoved, whole-fields, rate-same, side-same, count-moved, end-moved, count-same, form-same, positions-same, ratios-same, room-tests-moved, positions-tests-moved, ratios-tests-moved, front-tests-moved}
+use Rattle.record_format.proofs.Reading.Shifted.{FieldsShifted, whole-fields, rate-same, side-same, count-shifted, end-shifted, count-same, form-same, positions-same, ratios-same, room-tests-shifted, positions-tests-shifted, ratios-tests-shifted, front-tests-shifted}
 use Rattle.record_format.proofs.Reading.Sides.{absent-count, present-count}
 
 module _ (s rest : List ℕ) (framed : endAt s ≤ length s) where
@@ -37,14 +37,14 @@ module _ (s rest : List ℕ) (framed : endAt s ≤ length s) where
       go false e = subst (λ (p : ℕ). nextAt s p ≤ length s) (absent-count s e) count-whole
 
   -- the rate's field and the one past it, and those from the count's on
-  front : FieldsMoved 0 s rateAt (s ++ rest) rateAt openingFieldCount
+  front : FieldsShifted 0 s rateAt (s ++ rest) rateAt openingFieldCount
   front = whole-fields s rest rateAt rateAt openingFieldCount refl side-whole
 
-  points : FieldsMoved 0 s (countAt s) (s ++ rest) (countAt (s ++ rest)) pointFieldCount
-  points = whole-fields s rest (countAt s) (countAt (s ++ rest)) pointFieldCount (count-moved front ∙ add-zero (countAt s)) framed
+  points : FieldsShifted 0 s (countAt s) (s ++ rest) (countAt (s ++ rest)) pointFieldCount
+  points = whole-fields s rest (countAt s) (countAt (s ++ rest)) pointFieldCount (count-shifted front ∙ add-zero (countAt s)) framed
 
   end-same : endAt (s ++ rest) ≡ endAt s
-  end-same = end-moved points ∙ add-zero (endAt s)
+  end-same = end-shifted points ∙ add-zero (endAt s)
 
 -- ---- readings
 
@@ -54,8 +54,8 @@ module _ (k : ℕ → List ℕ → Option (List ℕ)) (e : ℕ) (s rest ts vs : 
       let p = points s rest framed in
       let room = roomTests s (length ts) (length vs) in
       let later = positionsTestsBy positionsTags s ++ ratiosTests k s in
-      further-append 0 (frontTests e s) (room ++ later) (front-tests-moved (front s rest framed) p e)
-      (further-append 0 room later (room-tests-moved p (length ts) (length vs)) (further-append 0 (positionsTestsBy positionsTags s) (ratiosTests k s) (positions-tests-moved p positionsTags) (ratios-tests-moved p k)))
+      further-append 0 (frontTests e s) (room ++ later) (front-tests-shifted (front s rest framed) p e)
+      (further-append 0 room later (room-tests-shifted p (length ts) (length vs)) (further-append 0 (positionsTestsBy positionsTags s) (ratiosTests k s) (positions-tests-shifted p positionsTags) (ratios-tests-shifted p k)))
       ∙ further-none (readTests k e s (length ts) (length vs))
 
   answer-same : recordAnswer k (s ++ rest) ts vs ≡ recordAnswer k s ts vs
@@ -93,8 +93,8 @@ module _ (f : Form) (s rest o : List ℕ) (framed : endAt s ≤ length s) where
   source-tests =
       let p = points s rest framed in
       let tags = positionsTag (otherForm f) ∷ [] in
-      further-append 0 (frontTests 0 s) (positionsTestsBy tags s ++ ratiosTests strictRatios s) (front-tests-moved (front s rest framed) p 0)
-      (further-append 0 (positionsTestsBy tags s) (ratiosTests strictRatios s) (positions-tests-moved p tags) (ratios-tests-moved p strictRatios))
+      further-append 0 (frontTests 0 s) (positionsTestsBy tags s ++ ratiosTests strictRatios s) (front-tests-shifted (front s rest framed) p 0)
+      (further-append 0 (positionsTestsBy tags s) (ratiosTests strictRatios s) (positions-tests-shifted p tags) (ratios-tests-shifted p strictRatios))
       ∙ further-none (sourceTests f s)
 
   move-tests : moveTests f (s ++ rest) o ≡ moveTests f s o

@@ -76,8 +76,8 @@ module _ (e : ℕ) (s : List ℕ) (f : Number) (h : NumberRead rateSize (fieldTe
   abbrev rate-contents : ℕ → List Test
   rate-contents x = test (not (isRate x)) 13 rateAt ∷ test (otherRate e x) 14 rateAt ∷ []
 
-  pub rate-first : (f .refusal .number ≡ 0 → ⊥) → NumberRead rateSize (rateTests e s) s rateAt f
-  rate-first d = contents-first s rateTag rateSize rateAt (rate-contents (rateIn s)) f h d
+  pub rate-tests-first : (f .refusal .number ≡ 0 → ⊥) → NumberRead rateSize (rateTests e s) s rateAt f
+  rate-tests-first d = contents-first s rateTag rateSize rateAt (rate-contents (rateIn s)) f h d
 
   module _ (clear : f .refusal .number ≡ 0) where
     as-read : firstOf (rate-contents (rateIn s)) ≡ firstOf (rate-contents (f .value))
@@ -161,8 +161,8 @@ module _ (s : List ℕ) (p : ℕ) (at : p ≡ countAt s) (f : Number) (h : Numbe
   moved : (r : Number) → NumberRead countSize (fieldTests s (countTag ∷ []) (some countSize) p ++ count-contents p (numberOf 256 (bodyAt s p))) s p r → NumberRead countSize (countTests s) s p r
   moved r k = subst (λ (l : List Test). NumberRead countSize l s p r) tests-at k
 
-  pub count-first : (f .refusal .number ≡ 0 → ⊥) → NumberRead countSize (countTests s) s p f
-  count-first d = moved f (contents-first s countTag countSize p _ f h d)
+  pub count-tests-first : (f .refusal .number ≡ 0 → ⊥) → NumberRead countSize (countTests s) s p f
+  count-tests-first d = moved f (contents-first s countTag countSize p _ f h d)
 
   module _ (clear : f .refusal .number ≡ 0) where
     counted : firstOf (count-contents p (numberOf 256 (bodyAt s p))) ≡ firstOf (count-contents p (f .value))

@@ -13,7 +13,7 @@ use Rattle.outputs.proofs.Outputs.Parts.{rest-is, put-rest}
 use Rattle.outputs.proofs.Outputs.Writers.{next-short}
 use Rattle.outputs.specs.declared.Wrote.{Wrote}
 use Rattle.outputs.specs.declared.Wrote.the-variants.{Done, NoRoom}
-use Rattle.record_format.specs.Fields.{Field, fieldOf, headSize, fieldBytes, laid}
+use Rattle.record_format.specs.Fields.{Field, fieldOf, lengthSize, headSize, fieldBytes, laid}
 use Rattle.record_format.specs.Runs.{sideTag, sideSize, sideFields}
 use Rattle.record_format.proofs.Fields.{length-field, length-laid, laid-append, laid-one}
 
@@ -21,15 +21,15 @@ use Rattle.record_format.proofs.Fields.{length-field, length-laid, laid-append,
 
 -- a tag, and the length of a body of n bytes
 abbrev head-of : ℕ → ℕ → List ℕ
-head-of tag n = tag ∷ bytesOf 2 n
+head-of tag n = tag ∷ bytesOf lengthSize n
 
 length-head : (tag n : ℕ) → length (head-of tag n) ≡ headSize
-length-head tag n = ap suc (length-digits 256 2 n)
+length-head tag n = ap suc (length-digits 256 lengthSize n)
 
 over-head : (tag n : ℕ) (o : List ℕ) → over (head-of tag n) o ≡ head-of tag n ++ drop headSize o
 over-head tag n o = ap (λ (k : ℕ). head-of tag n ++ drop k o) (length-head tag n)
 
-module _ (o p q : List ℕ) (tag n x : ℕ) (h : p ≡ over (tag ∷ bytesOf 2 n) o) (g : q ≡ overAt p headSize n (bytesOf n x)) where
+module _ (o p q : List ℕ) (tag n x : ℕ) (h : p ≡ over (tag ∷ bytesOf lengthSize n) o) (g : q ≡ overAt p headSize n (bytesOf n x)) where
   headed : p ≡ head-of tag n ++ drop headSize o
   headed = h ∙ over-head tag n o
 
@@ -43,8 +43,8 @@ module _ (o p q : List ℕ) (tag n x : ℕ) (h : p ≡ over (tag ∷ bytesOf 2 n
       ∙ ap₂ (λ (a b : List ℕ). a ++ (bytesOf n x ++ b))
       (ap (take headSize) headed ∙ take-at (head-of tag n) (drop headSize o) headSize (length-head tag n))
       (ap (drop (headSize + n)) headed ∙ sym (drop-drop n headSize (head-of tag n ++ drop headSize o)) ∙ ap (drop n) (drop-at (head-of tag n) (drop headSize o) headSize (length-head tag n)) ∙ drop-drop n headSize o)
-      ∙ ap₂ (λ (k m : ℕ). tag ∷ (bytesOf 2 k ++ (bytesOf n x ++ drop m o))) (sym l) (sym f)
-      ∙ sym (append-assoc (tag ∷ bytesOf 2 (length (bytesOf n x))) (bytesOf n x) (drop (length (fieldBytes (fieldOf tag (bytesOf n x)))) o))
+      ∙ ap₂ (λ (k m : ℕ). tag ∷ (bytesOf lengthSize k ++ (bytesOf n x ++ drop m o))) (sym l) (sym f)
+      ∙ sym (append-assoc (tag ∷ bytesOf lengthSize (length (bytesOf n x))) (bytesOf n x) (drop (length (fieldBytes (fieldOf tag (bytesOf n x)))) o))
 
 -- one field, laid
 one-laid : (f : Field) (o p : List ℕ) (w : Wrote) → Placed (fieldBytes f) w o p → Placed (laid (f ∷ [])) w o p
@@ -78,7 +78,7 @@ module _ (tag : ℕ) (body o q : List ℕ) (w : Wrote) (h : headSize ≤ length 
     pub field-fits : n + headSize ≤ length o
     field-fits = omega (arith, body-done .0, body-done .1, length-drop headSize o)
 
-    pub field-done : (r : List ℕ) (t : ℕ) → t ≡ tag → r ≡ over (t ∷ bytesOf 2 n) (putMid headSize (length o - headSize) o q) → Placed (laid (fieldOf tag body ∷ [])) (Done (n + headSize)) o r
+    pub field-done : (r : List ℕ) (t : ℕ) → t ≡ tag → r ≡ over (t ∷ bytesOf lengthSize n) (putMid headSize (length o - headSize) o q) → Placed (laid (fieldOf tag body ∷ [])) (Done (n + headSize)) o r
     unfolding fieldBytes
     field-done r t tagged g =
         let f : headSize + length body ≡ length (fieldBytes (fieldOf tag body)) = sym (length-field (fieldOf tag body)) in
@@ -87,11 +87,11 @@ module _ (tag : ℕ) (body o q : List ℕ) (w : Wrote) (h : headSize ≤ length 
           omega (arith, field-fits, body-done .0, f),
           g
               ∙ over-head t n (putMid headSize (length o - headSize) o q)
-              ∙ ap (λ (x : ℕ). x ∷ (bytesOf 2 n ++ drop headSize (putMid headSize (length o - headSize) o q))) tagged
-              ∙ ap (λ (l : List ℕ). tag ∷ (bytesOf 2 n ++ l))
+              ∙ ap (λ (x : ℕ). x ∷ (bytesOf lengthSize n ++ drop headSize (putMid headSize (length o - headSize) o q))) tagged
+              ∙ ap (λ (l : List ℕ). tag ∷ (bytesOf lengthSize n ++ l))
               (ap (drop headSize) (put-rest headSize o q) ∙ drop-at (take headSize o) q headSize (length-take-le headSize o h) ∙ body-done .2 ∙ ap (λ (l : List ℕ). body ++ l) (drop-drop (length body) headSize o))
-              ∙ ap₂ (λ (k m : ℕ). tag ∷ (bytesOf 2 k ++ (body ++ drop m o))) (body-done .0) f
-              ∙ sym (append-assoc (tag ∷ bytesOf 2 (length body)) body (drop (length (fieldBytes (fieldOf tag body))) o)),
+              ∙ ap₂ (λ (k m : ℕ). tag ∷ (bytesOf lengthSize k ++ (body ++ drop m o))) (body-done .0) f
+              ∙ sym (append-assoc (tag ∷ bytesOf lengthSize (length body)) body (drop (length (fieldBytes (fieldOf tag body))) o)),
         )
 
 -- ---- fields, and then more fields in the rest

@@ -48,7 +48,7 @@ use Rattle.ratio_format.proofs.Window as TW
 use Rattle.ratio_format.proofs.Window.Laws as TW′
 use Rattle.ratio_format.proofs.Cursor as TC
 use Rattle.ratio_format.proofs.Cursor.Laws as TC′
-use Rattle.live.proofs.reader.Machine.{machF, machC, sliced, passed, passed-vals, bodyOwns, erasedLft, lends-body, number-fits, at-fits, place-fits, count-fits, seen-fits, window-is}
+use Rattle.live.proofs.reader.Machine.{machF, machC, sliced, passed, passed-vals, bodyOwns, erasedLft, lends-body, number-fits, at-fits, place-fits, count-fits, seen-fits, window-machine}
 use Rattle.live.proofs.reader.Reader as T
 use Rattle.live.proofs.reader.Reader.Laws as T′
 use Rattle.live.proofs.reader.Making as TG
@@ -124,7 +124,7 @@ module _ {M : Type 1} (𝓤 : URA M) (H : Heap 𝓤) (A : Atoms 𝓤) (W : Given
   mach d = LL.val D L d
 
   reader-is : (z : RefT (List ℕ)) (c : Cursor) → Is (ShrSlice (named 0) κ u8) z (sliced z ∷ []) → Is TC.the-row c (machC c ∷ []) → Is (T.the-row α) (reader z c) (mach (reader z c) ∷ [])
-  reader-is z c zis g = LL.owes D L (reader z c) (zis, ((refl, place-fits c g), ((refl, count-fits c g), ((refl, seen-fits c g), (window-is c g, tt)))))
+  reader-is z c zis g = LL.owes D L (reader z c) (zis, ((refl, place-fits c g), ((refl, count-fits c g), ((refl, seen-fits c g), (window-machine c g, tt)))))
 
   -- the whole that is returned
   abbrev making : RefT (List ℕ) → Begun → Making
@@ -145,7 +145,7 @@ module _ {M : Type 1} (𝓤 : URA M) (H : Heap 𝓤) (A : Atoms 𝓤) (W : Given
         says ! (ap (λ (t : Refusal). t .number) (e .0), ap (λ (t : Refusal). t .place) (e .0), ez, e .1) $
         move ! (1 ∷ []) $ frame ! $ nothing ! $ with-uint ! w64 n n-fits $ move ! (2 ∷ 0 ∷ []) $ fjoin ! $ frame ! $
         -- [what z owns]: the reader
-        nothing ! $ with-struct ! TW.the-type TW′.the-plain (c .window) _ (window-is c g) $ with-uint ! w64 (c .seen) (seen-fits c g) $ with-uint ! w64 (c .count) (count-fits c g) $ with-uint ! w64 (c .place) (place-fits c g) $ move ! (1 ∷ 0 ∷ []) $ fjoin ! $
+        nothing ! $ with-struct ! TW.the-type TW′.the-plain (c .window) _ (window-machine c g) $ with-uint ! w64 (c .seen) (seen-fits c g) $ with-uint ! w64 (c .count) (count-fits c g) $ with-uint ! w64 (c .place) (place-fits c g) $ move ! (1 ∷ 0 ∷ []) $ fjoin ! $
         use1 W (‵ (T.the-row α .own (reader z c) (mach (reader z c) ∷ []))) (own-shut 𝓤 H A W D L (z, (c .place, (c .count, (c .seen, (c .window, tt)))))) $
         -- the whole
         nothing ! $ move ! (1 ∷ 0 ∷ []) $ fjoin ! $ with-uint ! w32 (r .refusal .place) (at-fits (r .refusal) f) $ with-uint ! w32 (r .refusal .number) (number-fits (r .refusal) f) $
@@ -165,7 +165,7 @@ module _ {M : Type 1} (𝓤 : URA M) (H : Heap 𝓤) (A : Atoms 𝓤) (W : Given
         drop ! $ drop ! $ drop ! $ takes ! (holds ! 14 TX.the-type TX′.the-laws r refl is) $
         sets ! (of-opd ! (field-at ! 14 refl (sub ! 0 refl (whole !)))) (holds ! 12 TF.the-type TF′.the-laws (r .refusal) refl (refusal-is r is)) $
         sets ! (of-opd ! (field-at ! 14 refl (sub ! 1 refl (whole !)))) (holds ! 10 TC.the-type TC′.the-laws (r .cursor) refl (cursor-is r is)) $
-        sets ! (of-opd ! (field-at ! 10 refl (sub ! 3 refl (whole !)))) (holds ! 8 TW.the-type TW′.the-laws (r .cursor .window) refl (window-is (r .cursor) (cursor-is r is))) $
+        sets ! (of-opd ! (field-at ! 10 refl (sub ! 3 refl (whole !)))) (holds ! 8 TW.the-type TW′.the-laws (r .cursor .window) refl (window-machine (r .cursor) (cursor-is r is))) $
         lends-body ! κ q x n n-fits $
         calls-on ! fm body.ended (body.clauses 𝓤 H A at-mem run) known-body (((κ, tt), (q, tt), tt, passed x n, passed-vals x n), tt) (tokenOf κ q) refl refl (λ z ws. Kept z) (λ z ws. id⊢ 𝓤 _) sliced (shr-slice-tells (named 0) κ u8)
         (and-then ! (local-at ! 18 refl) (and-then ! (local-at ! 16 refl) (no-more !))) (λ z _ ez zis.

@@ -51,7 +51,7 @@ use Rattle.ratio_format.proofs.Cursor as TC
 use Rattle.ratio_format.proofs.Cursor.Laws as TC′
 use Rattle.ratio_format.proofs.StepAnswer as TR
 use Rattle.ratio_format.proofs.StepAnswer.Laws as TR′
-use Rattle.live.proofs.reader.Machine.{machC, machR, sliced, place-fits, seen-fits, window-is}
+use Rattle.live.proofs.reader.Machine.{machC, machR, sliced, place-fits, seen-fits, window-machine}
 use Rattle.live.proofs.reader.Reader as T
 use Rattle.live.proofs.reader.Reader.Laws as T′
 use Rattle.live.proofs.stepping.Step as TX
@@ -155,7 +155,7 @@ module _ {M : Type 1} (𝓤 : URA M) (H : Heap 𝓤) (A : Atoms 𝓤) (W : Given
       use2 W (‵ (B κ′ .own (at-place (c .place)) (mach (at-place (c .place)) ∷ []))) (own-put 𝓤 H A W D L 1 vd (c .place) (mach h)) $
       owned ! u64 (Is u64) (uint-makes 𝓤 H A W w64) (c .seen) _ (refl, seen-fits c is) $ move ! (1 ∷ 0 ∷ []) $
       use2 W (‵ (B κ′ .own (at-seen (c .place) (c .seen)) (mach (at-seen (c .place) (c .seen)) ∷ []))) (own-put 𝓤 H A W D L 3 (h .body, (c .place, (h .count, (h .seen, (h .window, tt))))) (c .seen) (mach (at-place (c .place)))) $
-      owned ! TW.the-row (Is TW.the-row) (LL.makes TW.the-type TW′.the-plain 𝓤 H A) (c .window) _ (window-is c is) $ move ! (1 ∷ 0 ∷ []) $
+      owned ! TW.the-row (Is TW.the-row) (LL.makes TW.the-type TW′.the-plain 𝓤 H A) (c .window) _ (window-machine c is) $ move ! (1 ∷ 0 ∷ []) $
       by ! (own-put 𝓤 H A W D L 4 (h .body, (c .place, (h .count, (c .seen, (h .window, tt))))) (c .window) (mach (at-seen (c .place) (c .seen))))
 
   exits : (r : Step) → Is TR.the-row (r .answer) (machR (r .answer) ∷ []) → Said r
@@ -191,10 +191,10 @@ module _ {M : Type 1} (𝓤 : URA M) (H : Heap 𝓤) (A : Atoms 𝓤) (W : Given
         move ! (2 ∷ []) $ drop ! $ takes ! (holds ! 21 TX.the-type TX′.the-laws r refl is) $
         -- [what the result owns; the body's token; what the other fields owned; what the reader owns; its cell; the open borrow; obs; auth; true; _10; …; _9; …; _8; …; _7; …; _6; …; _5; …; _4; …; _3; …; _2; …; _1; …; room for _0; …]
         sets ! (of-opd ! (field-at ! 21 refl (sub ! 1 refl (whole !)))) (holds ! 19 TC.the-type TC′.the-laws (r .cursor) refl (after-is r is)) $
-        sets ! (of-opd ! (field-at ! 19 refl (sub ! 3 refl (whole !)))) (holds ! 17 TW.the-type TW′.the-laws (r .cursor .window) refl (window-is (r .cursor) (after-is r is))) $
+        sets ! (of-opd ! (field-at ! 19 refl (sub ! 3 refl (whole !)))) (holds ! 17 TW.the-type TW′.the-laws (r .cursor .window) refl (window-machine (r .cursor) (after-is r is))) $
         assigns ! (of-opd ! (field-at ! 19 refl (sub ! 0 refl (whole !)))) (from ! (hop ! (look ! 27 refl) (fld ! refl (stop !)))) (store-in ! 4 (sub ! 1 refl (whole !)) (tt, record { fits = place-fits (r .cursor) (after-is r is) })) $
         assigns ! (of-opd ! (field-at ! 19 refl (sub ! 2 refl (whole !)))) (from ! (hop ! (look ! 27 refl) (fld ! refl (stop !)))) (store-in ! 4 (sub ! 3 refl (whole !)) (tt, record { fits = seen-fits (r .cursor) (after-is r is) })) $
-        assigns ! (of-opd ! (local-at ! 17 refl)) (from ! (hop ! (look ! 27 refl) (fld ! refl (stop !)))) (store-in ! 4 (sub ! 4 refl (whole !)) (LL.lawful TW.the-type TW′.the-laws 𝓤 H A W .typed (r .cursor .window) _ (window-is (r .cursor) (after-is r is)) .0)) $
+        assigns ! (of-opd ! (local-at ! 17 refl)) (from ! (hop ! (look ! 27 refl) (fld ! refl (stop !)))) (store-in ! 4 (sub ! 4 refl (whole !)) (LL.lawful TW.the-type TW′.the-laws 𝓤 H A W .typed (r .cursor .window) _ (window-machine (r .cursor) (after-is r is)) .0)) $
         sets ! (of-opd ! (field-at ! 21 refl (sub ! 0 refl (whole !)))) (holds ! 29 TR.the-type TR′.the-laws (r .answer) refl (answer-is r is)) $
         -- the borrow is closed at the new record
         move ! (3 ∷ []) $ use1 W (‵ (B κ′ .own (stored (r .cursor)) (mach (stored (r .cursor)) ∷ []))) (again (r .cursor) (after-is r is)) $ move ! (4 ∷ 0 ∷ 5 ∷ 6 ∷ 7 ∷ []) $

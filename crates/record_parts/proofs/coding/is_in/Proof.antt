@@ -17,15 +17,15 @@ tag-above : (f : Form) → 0 < positionsTag f
 tag-above Old = lit< tt
 tag-above Wide = lit< tt
 
-abbrev entry : tie.After-has-head → tie.Start
+abbrev entry : tie.After-is-head-whole → tie.Start
 entry k = k .before .before
 
 -- the other test
-abbrev tagged : tie.After-has-head → Bool
+abbrev tagged : tie.After-is-head-whole → Bool
 tagged k = eqb (tagAt (entry k .args .input .now) (entry k .args .at)) (positionsTag (entry k .args .form))
 
-has-head-requires : tie.Need-has-head-requires
-has-head-requires c κs = search needs
+is-head-whole-requires : tie.Need-is-head-whole-requires
+is-head-whole-requires c κs = search needs
 
 form-tag-requires : tie.Need-form-tag-requires
 form-tag-requires c κs = search needs
@@ -39,12 +39,12 @@ returns c =
     let k = whole .before in
     c .has-tag .ensures
     ∙ ap (eqb (tagAt (entry k .args .input .now) (entry k .args .at))) (c .before .form-tag .ensures)
-    ∙ sym (ap (λ (b : Bool). both b (tagged k)) (sym (k .has-head .ensures) ∙ whole .if1 .taken))
+    ∙ sym (ap (λ (b : Bool). both b (tagged k)) (sym (k .is-head-whole .ensures) ∙ whole .if1 .taken))
 
 returns-2 : tie.Need-returns-2
 returns-2 c =
     let k = c .before in
-    c .if1 .left ∙ sym (ap (λ (b : Bool). both b (tagged k)) (sym (k .has-head .ensures) ∙ c .if1 .left))
+    c .if1 .left ∙ sym (ap (λ (b : Bool). both b (tagged k)) (sym (k .is-head-whole .ensures) ∙ c .if1 .left))
 
 pub is-in-spec : {M : Type 1} → statement M
-is-in-spec = tie.close (tie.spec has-head-requires form-tag-requires has-tag-requires returns returns-2)
+is-in-spec = tie.close (tie.spec is-head-whole-requires form-tag-requires has-tag-requires returns returns-2)

@@ -1,6 +1,6 @@
 -- `read_count` meets its contract, by what `read_number` finds.
 use borrow.Author.Needs.{needs}
-use Rattle.record_parts.proofs.front.Fronts.{count-first, count-many, count-good}
+use Rattle.record_parts.proofs.front.Fronts.{count-tests-first, count-many, count-good}
 use Rattle.record_parts.proofs.front.read_count.Statement.{statement}
 use Rattle.record_parts.proofs.front.read_count.Tie as tie
 
@@ -14,7 +14,7 @@ read-number-requires c κs = search needs
 returns : tie.Need-returns
 returns c =
     let k = c .before .before in
-    count-first (entry k .args .input .now) (entry k .args .at) (entry k .pre .0) (k .read-number .result) (k .read-number .ensures) (c .if1 .taken)
+    count-tests-first (entry k .args .input .now) (entry k .args .at) (entry k .pre .0) (k .read-number .result) (k .read-number .ensures) (c .if1 .taken)
 
 no-number-requires : tie.Need-no-number-requires
 no-number-requires c κs = search needs

@@ -2,7 +2,7 @@
 use mathlib.Core.Path.{sym, _∙_}
 use borrow.Author.Needs.{needs}
 use borrow.Author.Tests.{not-true, not-false}
-use Rattle.record_parts.proofs.front.Fronts.{rate-first, rate-unlisted, rate-other, rate-good}
+use Rattle.record_parts.proofs.front.Fronts.{rate-tests-first, rate-unlisted, rate-other, rate-good}
 use Rattle.record_parts.proofs.front.read_rate.Statement.{statement}
 use Rattle.record_parts.proofs.front.read_rate.Tie as tie
 
@@ -22,7 +22,7 @@ read-number-requires c κs = search needs
 returns : tie.Need-returns
 returns c =
     let k = c .before .before in
-    rate-first (entry k .args .expected) (entry k .args .input .now) (k .read-number .result) (k .read-number .ensures) (c .if1 .taken)
+    rate-tests-first (entry k .args .expected) (entry k .args .input .now) (k .read-number .result) (k .read-number .ensures) (c .if1 .taken)
 
 cast-rate : tie.Need-cast-rate
 cast-rate c = search needs

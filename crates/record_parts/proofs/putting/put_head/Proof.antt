@@ -5,6 +5,7 @@ use lib.ListN.{length-set}
 use Rattle.bits.specs.Digits.{bytesOf}
 use Rattle.bits.proofs.Digits.{length-digits}
 use Rattle.outputs.proofs.Outputs.Over.{over-one-more}
+use Rattle.record_format.specs.Fields.{lengthSize}
 use Rattle.record_parts.proofs.putting.put_head.Statement.{statement}
 use Rattle.record_parts.proofs.putting.put_head.Tie as tie
 
@@ -21,7 +22,7 @@ returns : tie.Need-returns
 returns c =
     let written = c .before .before in
     let k = written .before .before .before in
-    c .before .before .put-bytes .ensures ∙ over-one-more (k .args .out .now) (bytesOf 2 (k .args .n)) (k .args .tag) 2 (length-digits 256 2 (k .args .n)) (k .pre)
+    c .before .before .put-bytes .ensures ∙ over-one-more (k .args .out .now) (bytesOf lengthSize (k .args .n)) (k .args .tag) lengthSize (length-digits 256 lengthSize (k .args .n)) (k .pre)
 
 pub put-head-spec : {M : Type 1} → statement M
 put-head-spec = tie.close (tie.spec slice-write-out put-bytes-requires same-length returns)

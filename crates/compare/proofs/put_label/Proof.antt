@@ -1,4 +1,4 @@
--- `put_word` meets its contract: the word is at the front of ten bytes.
+-- `put_label` meets its contract: the word is at the front of ten bytes.
 use mathlib.Core.Path.{_≡_, sym}
 use Prim.Native.Nat.{_≤_}
 use native.Mathlib.Omega.{arith}
@@ -6,8 +6,8 @@ use lib.ListN.{length, take}
 use lib.Seq.{length-take-le}
 use Rattle.text.proofs.PlacedAt.{placed-within}
 use borrow.Author.Needs.{needs}
-use Rattle.compare.proofs.put_word.Statement.{statement}
-use Rattle.compare.proofs.put_word.Tie as tie
+use Rattle.compare.proofs.put_label.Statement.{statement}
+use Rattle.compare.proofs.put_label.Tie as tie
 
 -- ---- places
 
@@ -44,8 +44,8 @@ returns c =
     let s = start (put .before) in
     placed-within (omega (arith, long s, s .pre .1)) (put .put-text .ensures)
 
-pub put-word-spec : {M : Type 1} → statement M
-put-word-spec =
+pub put-label-spec : {M : Type 1} → statement M
+put-label-spec =
     tie.close
     (tie.spec
     array-share-prefix-bytes

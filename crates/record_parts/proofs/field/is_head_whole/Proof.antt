@@ -1,4 +1,4 @@
--- `has_head` meets its contract: what is left past the offset holds a head exactly if the head ends inside.
+-- `is_head_whole` meets its contract: what is left past the offset holds a head exactly if the head ends inside.
 use mathlib.Core.Path.{_≡_, refl, sym, _∙_}
 use mathlib.Core.Bool.{Bool, true, false}
 use Prim.Native.Nat.{ℕ, _+_, _-_, _≤_}
@@ -6,8 +6,8 @@ use native.Mathlib.Omega.{arith}
 use borrow.Author.Needs.{needs}
 use borrow.Author.Tests.{leb-true, leb-false, le-leb, lt-leb}
 use lib.Dec.{leb}
-use Rattle.record_parts.proofs.field.has_head.Statement.{statement}
-use Rattle.record_parts.proofs.field.has_head.Tie as tie
+use Rattle.record_parts.proofs.field.is_head_whole.Statement.{statement}
+use Rattle.record_parts.proofs.field.is_head_whole.Tie as tie
 
 left-holds : (h at n : ℕ) → at ≤ n → leb h (n - at) ≡ leb (at + h) n
 left-holds h at n inside = go (leb h (n - at)) refl
@@ -22,5 +22,5 @@ sub-result c = search needs
 returns : tie.Need-returns
 returns c = left-holds _ _ _ (c .pre)
 
-pub has-head-spec : {M : Type 1} → statement M
-has-head-spec = tie.close (tie.spec sub-result returns)
+pub is-head-whole-spec : {M : Type 1} → statement M
+is-head-whole-spec = tie.close (tie.spec sub-result returns)

@@ -83,13 +83,21 @@ fn move_by(
     requires { ⌜ Movable form (now input) front × (front .count ≤ length (now positions)) × (front .count ≤ length (now ratios)) ⌝ }
     ensures { λ r. ⌜ Moved (moveOf form (now (input .entry)) (now (out .entry))) r (now (out .exit)) ⌝ }
 {
-    let points = read_points(false, input, front, positions, ratios);
+    let count = front.count;
+    let points = read_points(
+        false,
+        input,
+        count,
+        front.place,
+        front.end,
+        positions,
+        ratios,
+    );
     let points_refused = points.refusal;
     let points_number = points_refused.number;
     if points_number != 0 {
         return refuse_move(points_refused, out);
     }
-    let count = front.count;
     let target_refused = check_target(form, &positions[..count]);
     let target_number = target_refused.number;
     if target_number != 0 {

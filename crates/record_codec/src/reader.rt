@@ -60,7 +60,15 @@ fn read_record(
             ratios,
         );
     }
-    let points = read_points(openly, input, front, positions, ratios);
+    let points = read_points(
+        openly,
+        input,
+        count,
+        front.place,
+        front.end,
+        positions,
+        ratios,
+    );
     let points_refused = points.refusal;
     let points_number = points_refused.number;
     if points_number != 0 {

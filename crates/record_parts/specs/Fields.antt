@@ -8,7 +8,8 @@
 --   NumberRead ..       the same of a field that holds a number, with the number
 --   SideRead s f        the same of the side's field, which may be missing: then the side is 0, and the count's stands in its place
 --   noFront g           a front with the refusal g, and zeros
---   FrontFound s f      the front f of the bytes s: rate, side and count, the place of the count's field, and the offset past it
+--   CountFound s c q p  of the bytes s: the count c, the place q of its field, and the offset p past it
+--   FrontFound s f      the front f of the bytes s: these, rate and side
 --   FrontRead e s f     the same, or its refusal
 --   tagOf, codedBy      of a coding: its field's tag, and the body of numbers
 --   Codable c ns        the numbers ns can be coded so
@@ -100,16 +101,20 @@ pub record SideRead (s : List ℕ) (f : Number) : Type 0 where
 abbrev pub noFront : Refusal → Front
 noFront g = record { refusal = g; rate = 0; side = 0; count = 0; place = 0; end = 0 }
 
--- rate, side and count, where the count's field stands, and where the positions' does
+-- the count, where its field stands, and where the positions' does
+pub record CountFound (s : List ℕ) (c q p : ℕ) : Type 0 where
+  pub counted : c ≡ countIn s
+  pub few : countIn s ≤ maxPoints
+  pub stands : q ≡ countAt s
+  pub next : p ≡ positionsAt s
+  pub inside : positionsAt s ≤ length s
+  pub near : positionsAt s ≤ farthest 3
+
+-- with rate and side
 pub record FrontFound (s : List ℕ) (f : Front) : Type 0 where
   pub rate : f .rate ≡ rateIn s
   pub side : f .side ≡ sideIn s
-  pub counted : f .count ≡ countIn s
-  pub few : countIn s ≤ maxPoints
-  pub stands : f .place ≡ countAt s
-  pub next : f .end ≡ positionsAt s
-  pub inside : positionsAt s ≤ length s
-  pub near : positionsAt s ≤ farthest 3
+  pub count : CountFound s (f .count) (f .place) (f .end)
 
 -- or their refusal
 pub record FrontRead (e : ℕ) (s : List ℕ) (f : Front) : Type 0 where

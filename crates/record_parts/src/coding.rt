@@ -10,12 +10,11 @@ ghost use Rattle.position_format.specs.Tables.{tableOf, pointsOf};
 ghost use Rattle.record_format.specs.Fields.{headSize, tagAt};
 ghost use Rattle.record_format.specs.Runs.{positionsTag, formOf};
 ghost use Rattle.record_format.specs.Reading.{formIn, positionsTests, ratiosTests};
-ghost use Rattle.record_parts.specs.Fields.{FrontFound, ratiosBy, tagOf, codedBy, Codable, RatiosDue, CodedRead};
+ghost use Rattle.record_parts.specs.Fields.{CountFound, ratiosBy, tagOf, codedBy, Codable, RatiosDue, CodedRead};
 use super::field::Length;
 use super::field::has_tag;
 use super::field::is_head_whole;
 use super::field::read_field;
-use super::front::Front;
 use limits::MAX_POINTS;
 use limits::MAX_WIDE_POINTS;
 use outputs::Wrote;
@@ -118,19 +117,24 @@ fn has_many(form: Form, input: &[u8], at: usize, count: usize) -> bool
     is_head_whole(input, at) && points_of(form) < count
 }
 
-// The positions' field past a front, in the form that its tag names: its tests, and its positions at the front of the output, which has room for
-// them. A run in the form may have fewer points than the count says: 15 at the count's field, before the body is looked at.
-pub fn read_positions(form: Form, input: &[u8], front: Front, out: &mut [u64]) -> Part
-    requires { ⌜ (form ≡ formIn (now input)) × FrontFound (now input) front × (front .count ≤ length (now out)) ⌝ }
-    ensures { λ r. ⌜ CodedRead (positionsTests (now (input .entry))) (readPositions (tableOf form) (front .count)) (now (input .entry)) (front .end) r (now (out .entry)) (now (out .exit)) ⌝ }
+// The positions' field, in the form that its tag names, at its offset: its tests, and its positions at the front of the output, which has room for
+// them. The count's field stands at `place`; a run in the form may have fewer points than it says: 15 there, before the body is looked at.
+pub fn read_positions(
+    form: Form,
+    input: &[u8],
+    count: usize,
+    place: usize,
+    at: usize,
+    out: &mut [u64],
+) -> Part
+    requires { ⌜ (form ≡ formIn (now input)) × CountFound (now input) count place at × (count ≤ length (now out)) ⌝ }
+    ensures { λ r. ⌜ CodedRead (positionsTests (now (input .entry))) (readPositions (tableOf form) count) (now (input .entry)) at r (now (out .entry)) (now (out .exit)) ⌝ }
 {
-    let at = front.end;
-    let count = front.count;
     if has_many(form, input, at, count) {
         return Part {
             refusal: Refusal {
                 number: 15,
-                place: front.place as u32,
+                place: place as u32,
             },
             end: 0,
         };

@@ -2,11 +2,10 @@
 ghost use mathlib.Core.Path.{_≡_};
 ghost use Prim.Native.Nat.{_≤_};
 ghost use lib.ListN.{length};
-ghost use Rattle.record_parts.specs.Fields.{ratiosBy, FrontFound, PointsRead};
+ghost use Rattle.record_parts.specs.Fields.{ratiosBy, CountFound, PointsRead};
 use super::coding::form_at;
 use super::coding::read_positions;
 use super::coding::read_ratios;
-use super::front::Front;
 use position_format::Form;
 use refusals::Refusal;
 
@@ -30,25 +29,28 @@ fn no_points(refusal: Refusal) -> Points
     }
 }
 
-// The points past a front, at the front of the outputs, which have room for the count; the ratios by the open rule or strictly.
+// The points past a count, whose field stands at `place` and ends at `at`, at the front of the outputs, which have room for them; the ratios by the
+// open rule or strictly. They are given one by one: a front as one argument costs the loop over the positions registers.
 pub fn read_points(
     openly: bool,
     input: &[u8],
-    front: Front,
+    count: usize,
+    place: usize,
+    at: usize,
     positions: &mut [u64],
     ratios: &mut [u64],
 ) -> Points
-    requires { ⌜ FrontFound (now input) front × (front .count ≤ length (now positions)) × (front .count ≤ length (now ratios)) ⌝ }
+    requires { ⌜ CountFound (now input) count place at × (count ≤ length (now positions)) × (count ≤ length (now ratios)) ⌝ }
     ensures { λ r. ⌜ PointsRead (ratiosBy openly) (now (input .entry)) (now (positions .entry)) (now (ratios .entry)) r (now (positions .exit)) (now (ratios .exit)) ⌝ }
 {
-    let form = form_at(input, front.end);
-    let points = read_positions(form, input, front, positions);
+    let form = form_at(input, at);
+    let points = read_positions(form, input, count, place, at, positions);
     let positions_refused = points.refusal;
     let positions_number = positions_refused.number;
     if positions_number != 0 {
         return no_points(positions_refused);
     }
-    let values = read_ratios(openly, input, points.end, front.count, ratios);
+    let values = read_ratios(openly, input, points.end, count, ratios);
     let ratios_refused = values.refusal;
     let ratios_number = ratios_refused.number;
     if ratios_number != 0 {

@@ -61,7 +61,7 @@ module _ (f : Form) (s : List ℕ) (g : Front) (h : FrontRead 0 s g) where
 
     -- the form moved to
     pub opened-form : headOf f s ≡ true → (r : Front) → r ≡ noFront (refusal 11 (g .end)) → Opened f s r
-    opened-form e = opened-refused f s (refusal 11 (g .end)) (λ z. omega arith) (ap (refusal 11) (h .found good .next) ∙ sym (source-form f s front-clear e))
+    opened-form e = opened-refused f s (refusal 11 (g .end)) (λ z. omega arith) (ap (refusal 11) (h .found good .count .next) ∙ sym (source-form f s front-clear e))
 
     -- and any other
     pub opened-good : headOf f s ≡ false → Opened f s g

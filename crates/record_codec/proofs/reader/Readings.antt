@@ -59,7 +59,7 @@ module _ (openly : Bool) (e : ℕ) (s ts vs : List ℕ) where
 
       room-test : firstOf (roomTests s (length ts) (length vs) ++ later) ≡ firstOf (test (lacksRoom (length ts) (length vs) (f .count)) 16 (f .place) ∷ later)
       room-test =
-          ap₂ (λ (c p : ℕ). firstOf (test (lacksRoom (length ts) (length vs) c) 16 p ∷ later)) (sym (h .found clear .counted)) (sym (h .found clear .stands))
+          ap₂ (λ (c p : ℕ). firstOf (test (lacksRoom (length ts) (length vs) c) 16 p ∷ later)) (sym (h .found clear .count .counted)) (sym (h .found clear .count .stands))
 
       pub read-lacks : lacksRoom (length ts) (length vs) (f .count) ≡ true → refusalAnswer (refusal 16 (f .place)) ts vs ≡ answer
       read-lacks l = refuses (refusal 16 (f .place)) (sym (past-front ∙ room-test ∙ firstOf-here _ _ l)) (λ z. omega arith) ts vs refl refl
@@ -81,7 +81,7 @@ module _ (openly : Bool) (e : ℕ) (s ts vs : List ℕ) where
           read-found good tag t =
               let a = h .found clear .rate in
               let d = h .found clear .side in
-              let b = h .found clear .counted in
+              let b = h .found clear .count .counted in
               let e : tag ≡ positionsTag (formIn s) = t ∙ ap positionsTag (i .form good) in
               let c = i .next good in
               let own : recordAnswer (ratiosBy openly) s ts vs ≡ answer =

@@ -25,7 +25,7 @@ use Rattle.record_format.proofs.Reading.Sides.{absent-count, absent-side, absen
 use Rattle.record_parts.specs.declared.field.Field.{Field}
 use Rattle.record_parts.specs.declared.front.Number.{Number}
 use Rattle.record_parts.specs.declared.front.Front.{Front}
-use Rattle.record_parts.specs.Fields.{farthest, PartRead, FieldRead, NumberRead, SideRead, noFront, FrontFound, FrontRead}
+use Rattle.record_parts.specs.Fields.{farthest, PartRead, FieldRead, NumberRead, SideRead, noFront, CountFound, FrontRead}
 use Rattle.record_parts.proofs.Fields.{part-refused, part-first, part-then, part-both, field-numbered, number-is}
 
 -- ---- a number
@@ -225,16 +225,18 @@ module _ (e : ℕ) (s : List ℕ) (f : Number) (h : NumberRead rateSize (rateTes
             found = λ _. record {
               rate = h .value clear;
               side = i .value sided;
-              counted = counted;
-              few = few-in z;
-              stands = at;
-              next = k .part .next z ∙ next;
-              inside = subst (λ (q : ℕ). q ≤ length s) next (k .part .inside z);
-              near = omega (arith, h .part .near clear, i .near sided, k .part .near z, next, at);
+              count = record {
+                counted = counted;
+                few = few-in z;
+                stands = at;
+                next = k .part .next z ∙ next;
+                inside = subst (λ (q : ℕ). q ≤ length s) next (k .part .inside z);
+                near = omega (arith, h .part .near clear, i .near sided, k .part .near z, next, at);
+              };
             };
           }
 
 -- the count's field begins before it ends
-pub place-near : {s : List ℕ} {f : Front} → FrontFound s f → f .place ≤ farthest 3
+pub place-near : {s : List ℕ} {c q p : ℕ} → CountFound s c q p → q ≤ farthest 3
 unfolding nextAt
 place-near h = omega (arith, h .stands, h .near)

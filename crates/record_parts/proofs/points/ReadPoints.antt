@@ -15,9 +15,8 @@ use Rattle.position_format.specs.Tables.{tableOf}
 use Rattle.record_format.specs.Fields.{bodyAt, nextAt}
 use Rattle.record_format.specs.Reading.{positionsAt, ratiosAt, endAt, countIn, formIn, listOf, positionsTests, ratiosTests}
 use Rattle.record_parts.specs.declared.coding.Part.{Part}
-use Rattle.record_parts.specs.declared.front.Front.{Front}
 use Rattle.record_parts.specs.declared.points.Points.{Points}
-use Rattle.record_parts.specs.Fields.{farthest, PartRead, FrontFound, RatiosDue, CodedRead, PointsRead}
+use Rattle.record_parts.specs.Fields.{farthest, PartRead, CountFound, RatiosDue, CodedRead, PointsRead}
 
 -- a part that is not refused: its tests refuse nothing
 part-clear : {tests : List Test} {s : List ℕ} {p : ℕ} {f : Refusal} {e : ℕ} → PartRead tests s p f e → f .number ≡ 0 → firstOf tests .number ≡ 0
@@ -39,38 +38,38 @@ points-none k s ts vs r ps qs g q d e =
       ratios = λ z. absurd (n z);
     }
 
--- past the front f: the positions in the form o, read as g into the output ts, which is now ps
-pub record PositionsPast (s ts : List ℕ) (f : Front) (o : Form) (g : Part) (ps : List ℕ) : Type 0 where
-  pub front : FrontFound s f
+-- past the count c, whose field stands at m: the positions at p, in the form o, read as g into the output ts, which is now ps
+pub record PositionsPast (s ts : List ℕ) (c m p : ℕ) (o : Form) (g : Part) (ps : List ℕ) : Type 0 where
+  pub count : CountFound s c m p
   pub form : o ≡ formIn s
-  pub read : CodedRead (positionsTests s) (readPositions (tableOf o) (f .count)) s (f .end) g ts ps
+  pub read : CodedRead (positionsTests s) (readPositions (tableOf o) c) s p g ts ps
 
 -- where the ratios' field stands
-module _ {s ts : List ℕ} {f : Front} {o : Form} {g : Part} {ps : List ℕ} (h : PositionsPast s ts f o g ps) (good : g .refusal .number ≡ 0) where
+module _ {s ts : List ℕ} {c m p : ℕ} {o : Form} {g : Part} {ps : List ℕ} (h : PositionsPast s ts c m p o g ps) (good : g .refusal .number ≡ 0) where
   ratios-at : g .end ≡ ratiosAt s
-  ratios-at = h .read .part .next good ∙ ap (nextAt s) (h .front .next)
+  ratios-at = h .read .part .next good ∙ ap (nextAt s) (h .count .next)
 
   ratios-near : g .end ≤ farthest 4
-  ratios-near = omega (arith, h .read .part .next good, h .read .part .near good, h .front .next, h .front .near)
+  ratios-near = omega (arith, h .read .part .next good, h .read .part .near good, h .count .next, h .count .near)
 
-  pub ratios-due : (vs : List ℕ) → f .count ≤ length vs → RatiosDue s (g .end) (f .count) vs
+  pub ratios-due : (vs : List ℕ) → c ≤ length vs → RatiosDue s (g .end) c vs
   ratios-due vs room = record {
     here = ratios-at;
     inside = omega (arith, h .read .part .next good, h .read .part .inside good);
     near = omega (arith, ratios-near);
-    counted = h .front .counted;
-    few = omega (arith, h .front .counted, h .front .few);
+    counted = h .count .counted;
+    few = omega (arith, h .count .counted, h .count .few);
     room = room;
   }
 
 -- and then ratios by the reading k
-module _ {s ts : List ℕ} {f : Front} {o : Form} {g : Part} {ps : List ℕ} (h : PositionsPast s ts f o g ps) (k : ℕ → List ℕ → Option (List ℕ)) (vs : List ℕ) where
+module _ {s ts : List ℕ} {c m p : ℕ} {o : Form} {g : Part} {ps : List ℕ} (h : PositionsPast s ts c m p o g ps) (k : ℕ → List ℕ → Option (List ℕ)) (vs : List ℕ) where
   pub points-positions : (r : Points) (qs : List ℕ) → r .refusal ≡ g .refusal → (g .refusal .number ≡ 0 → ⊥) → PointsRead k s ts vs r ps qs
   points-positions r qs q d =
       points-none k s ts vs r ps qs (g .refusal) q d
       (h .read .part .refuses ∙ sym (firstOf-append-some (positionsTests s) _ (λ z. d (ap (λ (x : Refusal). x .number) (h .read .part .refuses) ∙ z))))
 
-  module _ (good : g .refusal .number ≡ 0) (l : Part) (qs : List ℕ) (j : CodedRead (ratiosTests k s) (k (f .count)) s (g .end) l vs qs) where
+  module _ (good : g .refusal .number ≡ 0) (l : Part) (qs : List ℕ) (j : CodedRead (ratiosTests k s) (k c) s (g .end) l vs qs) where
     past-positions : firstOf (positionsTests s ++ ratiosTests k s) ≡ firstOf (ratiosTests k s)
     past-positions = firstOf-append-none (positionsTests s) _ refl (part-clear (h .read .part) good)
 
@@ -79,7 +78,7 @@ module _ {s ts : List ℕ} {f : Front} {o : Form} {g : Part} {ps : List ℕ} (h 
 
     pub points-found : l .refusal .number ≡ 0 → PointsRead k s ts vs (record { refusal = l .refusal; form = o; from = g .end; end = l .end }) ps qs
     points-found whole =
-        let b = h .front .counted in
+        let b = h .count .counted in
         let at = ratios-at h good in
         let e : l .end ≡ endAt s = j .part .next whole ∙ ap (nextAt s) at in
         record {
@@ -91,7 +90,7 @@ module _ {s ts : List ℕ} {f : Front} {o : Form} {g : Part} {ps : List ℕ} (h 
           near = λ _. omega (arith, e, j .part .next whole, j .part .near whole, ratios-near h good);
           positions = λ _.
               h .read .filled good
-              ∙ ap₂ (λ (n q : ℕ). over (listOf (readPositions (tableOf o) n (bodyAt s q))) ts) b (h .front .next)
+              ∙ ap₂ (λ (n q : ℕ). over (listOf (readPositions (tableOf o) n (bodyAt s q))) ts) b (h .count .next)
               ∙ ap (λ (x : Form). over (listOf (readPositions (tableOf x) (countIn s) (bodyAt s (positionsAt s)))) ts) (h .form);
           ratios = λ _. j .filled whole ∙ ap₂ (λ (n q : ℕ). over (listOf (k n (bodyAt s q))) vs) b at;
         }

@@ -42,10 +42,10 @@ wrote k = k .before .before .before .before
 -- ---- the outputs as they are left
 
 abbrev positions-out : tie.After-read-points → List ℕ
-positions-out k = k .read-points .last .1 .1 .1 .0
+positions-out k = k .read-points .last .1 .1 .1 .1 .1 .0
 
 abbrev ratios-out : tie.After-read-points → List ℕ
-ratios-out k = k .read-points .last .1 .1 .1 .1 .0
+ratios-out k = k .read-points .last .1 .1 .1 .1 .1 .1 .0
 
 abbrev moved-out : tie.After-put-moved → List ℕ
 moved-out k = k .put-moved .last .1 .1 .1 .1 .1 .0
@@ -58,7 +58,7 @@ found : (k : tie.After-read-points)
 found k = record {
   bytes = below-of 256 (entry k .args .input .now) (λ i. shared k .shared-slice-known .given i .fits);
   elsewhere = entry k .pre .0 .elsewhere;
-  counted = entry k .pre .0 .found .counted;
+  counted = entry k .pre .0 .found .count .counted;
   read = k .read-points .ensures;
 }
 

@@ -35,7 +35,7 @@ module _ (k : tie.Else1) where
 head-is : (k : tie.After-is-in) → k .is-in .result ≡ headOf (start (k .before) .args .form) (start (k .before) .args .input .now)
 head-is k =
     let a = start (k .before) .args in
-    k .is-in .ensures ∙ ap (λ (p : ℕ). both (leb (p + headSize) (length (a .input .now))) (eqb (tagAt (a .input .now) p) (positionsTag (a .form)))) (found (k .before) .next)
+    k .is-in .ensures ∙ ap (λ (p : ℕ). both (leb (p + headSize) (length (a .input .now))) (eqb (tagAt (a .input .now) p) (positionsTag (a .form)))) (found (k .before) .count .next)
 
 -- ---- the needs
 
@@ -54,15 +54,15 @@ returns c =
 
 is-in-requires : tie.Need-is-in-requires
 is-in-requires c κs =
-    let next = found c .next in
-    let inside = found c .inside in
+    let next = found c .count .next in
+    let inside = found c .count .inside in
     omega arith
 
 cast-t9 : tie.Need-cast-t9
 cast-t9 c =
     let k = c .before .before in
-    let next = found k .next in
-    let near = found k .near in
+    let next = found k .count .next in
+    let near = found k .count .near in
     omega arith
 
 no-front-requires-2 : tie.Need-no-front-requires-2

@@ -43,10 +43,10 @@ points-cleared k = k .before .before .before .before
 -- ---- the outputs as reading the points leaves them
 
 abbrev positions-out : tie.After-read-points → List ℕ
-positions-out k = k .read-points .last .1 .1 .1 .0
+positions-out k = k .read-points .last .1 .1 .1 .1 .1 .0
 
 abbrev ratios-out : tie.After-read-points → List ℕ
-ratios-out k = k .read-points .last .1 .1 .1 .1 .0
+ratios-out k = k .read-points .last .1 .1 .1 .1 .1 .1 .0
 
 -- ---- what holds past the test of room
 
@@ -72,10 +72,10 @@ module _ (k : tie.Else2) where
 -- the outputs stay as long as they were
 module _ (k : tie.After-read-points) where
   positions-kept : length (positions-out k) ≡ length (start (room k) .args .positions .now)
-  positions-kept = k .read-points .kept .1 .1 .1 .0
+  positions-kept = k .read-points .kept .1 .1 .1 .1 .1 .0
 
   ratios-kept : length (ratios-out k) ≡ length (start (room k) .args .ratios .now)
-  ratios-kept = k .read-points .kept .1 .1 .1 .1 .0
+  ratios-kept = k .read-points .kept .1 .1 .1 .1 .1 .1 .0
 
 -- ---- the needs
 
@@ -106,7 +106,7 @@ lacks-requires c κs = search needs
 cast-t22 : tie.Need-cast-t22
 cast-t22 c =
     let l = c .before .before in
-    let near = place-near (front (l .before) .read-front .ensures .found (l .before .if1 .left)) in
+    let near = place-near (front (l .before) .read-front .ensures .found (l .before .if1 .left) .count) in
     omega arith
 
 refuse-read-requires-2 : tie.Need-refuse-read-requires-2
@@ -134,7 +134,7 @@ read-points-requires c κs =
     let k = c .before .before in
     let a = start k .args in
     let r = room-both (a .openly) (a .expected) (a .input .now) (a .positions .now) (a .ratios .now) _ (fronted k .read-front .ensures) (good-front k) (enough k) in
-    (found k, r .0, r .1)
+    (found k .count, r .0, r .1)
 
 refuse-read-requires-3 : tie.Need-refuse-read-requires-3
 refuse-read-requires-3 c κs = search needs
@@ -160,8 +160,8 @@ returns-3 c =
 cast-t36 : tie.Need-cast-t36
 cast-t36 c =
     let r = room (points (c .before)) in
-    let counted = found r .counted in
-    let few = found r .few in
+    let counted = found r .count .counted in
+    let few = found r .count .few in
     omega arith
 
 form-tag-requires : tie.Need-form-tag-requires

@@ -37,24 +37,24 @@ abbrev tests : tie.Start → List Test
 tests e = positionsTests (e .args .input .now)
 
 abbrev reads : tie.Start → List ℕ → Option (List ℕ)
-reads e = readPositions (tableOf (e .args .form)) (e .args .front .count)
+reads e = readPositions (tableOf (e .args .form)) (e .args .count)
 
 module _ (k : tie.Else1) where
   abbrev start : tie.Start
   start = entry (k .before)
 
-  passed : firstOf (tests start) ≡ firstOf (codedTests (start .args .input .now) positionsTags (reads start) 17 (start .args .front .end))
+  passed : firstOf (tests start) ≡ firstOf (codedTests (start .args .input .now) positionsTags (reads start) 17 (start .args .at))
   passed =
       let a = start .args in
       let h = start .pre .1 in
-      many-passed (a .input .now) (a .form) (a .front .count) (a .front .end) (start .pre .0) (h .next) (h .counted) (k .before .has-many .result) (k .before .has-many .ensures) (k .if1 .left)
+      many-passed (a .input .now) (a .form) (a .count) (a .at) (start .pre .0) (h .next) (h .counted) (k .before .has-many .result) (k .before .has-many .ensures) (k .if1 .left)
 
 -- the field that was read
 module _ (k : tie.After-read-field) where
   abbrev begun : tie.Start
   begun = start (few k)
 
-  coded : CodedField (tests begun) positionsTags (reads begun) 17 (begun .args .input .now) (begun .args .front .end) (k .read-field .result)
+  coded : CodedField (tests begun) positionsTags (reads begun) 17 (begun .args .input .now) (begun .args .at) (k .read-field .result)
   coded = record { numbered = λ z. omega arith; same = passed (few k); read = k .read-field .ensures }
 
 -- ---- the needs
@@ -65,18 +65,18 @@ has-many-requires c κs =
     omega (arith, h .next, h .inside)
 
 cast-t14 : tie.Need-cast-t14
-cast-t14 c = omega (arith, place-near (entry (c .before .before) .pre .1))
+cast-t14 c = omega (arith, place-near (entry (c .before) .pre .1))
 
 returns : tie.Need-returns
 returns c =
-    let m = c .before .before in
+    let m = c .before in
     let e = entry m in
     let a = e .args in
     let h = e .pre .1 in
     record {
-      part = part-refused (tests e) (a .input .now) (a .front .end) _ 0 (λ z. omega arith)
-          (many-refused (a .input .now) (a .form) (a .front .count) (a .front .end) (e .pre .0) (h .next) (h .counted) (m .has-many .result) (m .has-many .ensures) (c .before .if1 .taken)
-          (omega (arith, h .counted, h .few)) (a .front .place) (h .stands));
+      part = part-refused (tests e) (a .input .now) (a .at) _ 0 (λ z. omega arith)
+          (many-refused (a .input .now) (a .form) (a .count) (a .at) (e .pre .0) (h .next) (h .counted) (m .has-many .result) (m .has-many .ensures) (c .if1 .taken)
+          (omega (arith, h .counted, h .few)) (a .place) (h .stands));
       filled = λ z. absurd (omega arith);
     }
 

@@ -31,18 +31,18 @@ ratios k = k .before .before .before
 
 -- ---- what is read
 
--- the form of the positions, which the tag past the front names
+-- the form of the positions, which the tag past the count names
 form-is : (k : tie.After-form-at) → k .form-at .result ≡ formIn (entry k .args .input .now)
 form-is k = k .form-at .ensures ∙ ap (λ (p : ℕ). formOf (tagAt (entry k .args .input .now) p)) (entry k .pre .0 .next)
 
 -- the output of the positions, and of the ratios
 abbrev positions-out : tie.After-read-positions → List ℕ
-positions-out p = p .read-positions .last .1 .1 .1 .0
+positions-out p = p .read-positions .last .1 .1 .1 .1 .1 .0
 
 abbrev ratios-out : tie.After-read-ratios → List ℕ
 ratios-out q = q .read-ratios .last .1 .1 .1 .1 .0
 
--- the positions, past the front
+-- the positions, past the count
 module _ (p : tie.After-read-positions) where
   abbrev start : tie.Start
   start = entry (formed p)
@@ -50,8 +50,8 @@ module _ (p : tie.After-read-positions) where
   abbrev reading : ℕ → List ℕ → Option (List ℕ)
   reading = ratiosBy (start .args .openly)
 
-  past : PositionsPast (start .args .input .now) (start .args .positions .now) (start .args .front) (formed p .form-at .result) (p .read-positions .result) (positions-out p)
-  past = record { front = start .pre .0; form = form-is (formed p); read = p .read-positions .ensures }
+  past : PositionsPast (start .args .input .now) (start .args .positions .now) (start .args .count) (start .args .place) (start .args .at) (formed p .form-at .result) (p .read-positions .result) (positions-out p)
+  past = record { count = start .pre .0; form = form-is (formed p); read = p .read-positions .ensures }
 
 -- ---- the needs
 

@@ -11,7 +11,7 @@ use Rattle.ratio_format.specs.declared.StepAnswer.{StepAnswer}
 use Rattle.ratio_format.specs.Windows.{pushed}
 use Rattle.ratio_format.specs.Stepping.{stepAnswer, stepCursor}
 use Rattle.ratio_format.specs.Claims.{given}
-use Rattle.ratio_format.proofs.Stepping.{Good, good-cursor, read-within, refusal, moved, Outcome, step-outcome, left-bad, left-end, left-over, left-no, left-ratio}
+use Rattle.ratio_format.proofs.Stepping.{Good, good-cursor, read-within, refusal, moved, StepOutcome, step-outcome, left-bad, left-end, left-over, left-no, left-ratio}
 use Rattle.live.specs.declared.stepping.Found.{Found}
 use Rattle.live.specs.States.{stepFound}
 
@@ -64,12 +64,12 @@ module _ (b : List ℕ) (c : Cursor) where
         no-ratio : (n : ℕ) → 0 < n → (stepAnswer b c ≡ refusal n) × (stepCursor b c ≡ c) → Finding f
         no-ratio n h t = not-found n h (e ∙ found-none n t) t
 
-        go : Outcome b c → Finding f
-        go (Outcome.bad g) = no-ratio 7 (omega arith) (left-bad b c g)
-        go (Outcome.end g s p) = no-ratio 8 (omega arith) (left-end b c g s p)
-        go (Outcome.over g s p) = no-ratio 18 (omega arith) (left-over b c g s p)
-        go (Outcome.no g s r) = no-ratio 18 (omega arith) (left-no b c g s r)
-        go (Outcome.yes v k g s r) =
+        go : StepOutcome b c → Finding f
+        go (StepOutcome.bad g) = no-ratio 7 (omega arith) (left-bad b c g)
+        go (StepOutcome.end g s p) = no-ratio 8 (omega arith) (left-end b c g s p)
+        go (StepOutcome.over g s p) = no-ratio 18 (omega arith) (left-over b c g s p)
+        go (StepOutcome.no g s r) = no-ratio 18 (omega arith) (left-no b c g s r)
+        go (StepOutcome.yes v k g s r) =
             let q = good-cursor b c g in
             let t = left-ratio b c v k g s r in
             one v k q (read-within b c v k q r) (e ∙ found-ratio v k t) t

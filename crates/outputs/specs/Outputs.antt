@@ -45,6 +45,7 @@ abbrev pub bothWrote : ℕ → Wrote → Wrote
 bothWrote n (Done m) = Done (n + m)
 bothWrote n NoRoom = NoRoom
 
+-- how many bytes both wrote is a number that 64 bits hold
 abbrev pub BothFit : ℕ → Wrote → Type 0
 BothFit n w = (m : ℕ) → w ≡ Done m → n + m < 2 ^ 64
 

@@ -111,14 +111,14 @@ module _ (k : Coder) (s : Live) (v : ℕ) (o : List ℕ) where
   add-good e = (simp e, simp e, simp e)
 
   -- one or the other
-  pub data Outcome : Type 0 where
-    no : (n : ℕ) → (n ≡ 0 → ⊥) → addRefusalBy k s v o ≡ refusalBy n → Outcome
-    yes : badLive s ≡ false → s .seen < maxPoints → addRefusalBy k s v o ≡ noRefusal → Outcome
+  pub data AddOutcome : Type 0 where
+    no : (n : ℕ) → (n ≡ 0 → ⊥) → addRefusalBy k s v o ≡ refusalBy n → AddOutcome
+    yes : badLive s ≡ false → s .seen < maxPoints → addRefusalBy k s v o ≡ noRefusal → AddOutcome
 
-  pub add-outcome : Outcome
+  pub add-outcome : AddOutcome
   add-outcome = go (eqb (firstOf (stateTests s) .number) 0) refl (ltb (length o) (length (addBytesBy k s v))) refl
     where
-      go : (t : Bool) → eqb (firstOf (stateTests s) .number) 0 ≡ t → (r : Bool) → ltb (length o) (length (addBytesBy k s v)) ≡ r → Outcome
+      go : (t : Bool) → eqb (firstOf (stateTests s) .number) 0 ≡ t → (r : Bool) → ltb (length o) (length (addBytesBy k s v)) ≡ r → AddOutcome
       go false t r er = let z = eqb-false (firstOf (stateTests s) .number) 0 t in no (firstOf (stateTests s) .number) z (add-tested (firstOf (stateTests s) .number) refl z)
       go true t true r = no 6 (λ z. omega arith) (add-short (eqb-true (firstOf (stateTests s) .number) 0 t) (ltb-true (length o) (length (addBytesBy k s v)) r))
       go true t false r =
@@ -134,7 +134,7 @@ fresh-good = refl
 pub live-stays : LiveStays
 live-stays k s v o b = go (add-outcome k s v o)
   where
-    go : Outcome k s v o → badLive (addStateBy k s v o) ≡ false
+    go : AddOutcome k s v o → badLive (addStateBy k s v o) ≡ false
     go (no n z e) = rw (add-refused k s v o n z e .1) b
     go (yes _ m e) =
         rw (add-good k s v o e .1)
@@ -143,7 +143,7 @@ live-stays k s v o b = go (add-outcome k s v o)
 size-stays : (k : Coder) (s : Live) (v : ℕ) (o : List ℕ) → length (s .window .ratios) ≡ windowSize → length (addStateBy k s v o .window .ratios) ≡ windowSize
 size-stays k s v o h = go (add-outcome k s v o)
   where
-    go : Outcome k s v o → length (addStateBy k s v o .window .ratios) ≡ windowSize
+    go : AddOutcome k s v o → length (addStateBy k s v o .window .ratios) ≡ windowSize
     go (no n z e) = rw (add-refused k s v o n z e .1) h
     go (yes b m e) = rw (add-good k s v o e .1) (pushed-size (s .window) v h)
 
@@ -172,7 +172,7 @@ module _ (s : Live) (t : Tick) (ts : List Tick) (h : length (s .window .ratios) 
   abbrev Joined : Live → List Tick → Type 0
   Joined s ts = addJoined s ts ≡ codedFrom windowSize (held (s .window)) (addTaken s ts)
 
-  joined-more : Outcome coded s (t .ratio) (t .output) → Joined (tickState s t) ts → Joined s (t ∷ ts)
+  joined-more : AddOutcome coded s (t .ratio) (t .output) → Joined (tickState s t) ts → Joined s (t ∷ ts)
   unfolding addJoined addTaken codedFrom
   joined-more (no n z e) ih =
       let f = add-refused coded s (t .ratio) (t .output) n z e in

@@ -109,18 +109,18 @@ module _ (b : List ℕ) (c : Cursor) where
   step-good v k r e = (simp (e, r), simp (e, r))
 
   -- one of five
-  pub data Outcome : Type 0 where
-    bad : badCursor b c ≡ true → Outcome
-    end : badCursor b c ≡ false → c .seen ≡ c .count → c .place ≡ length b → Outcome
-    over : badCursor b c ≡ false → c .seen ≡ c .count → (c .place ≡ length b → ⊥) → Outcome
-    no : badCursor b c ≡ false → (c .seen ≡ c .count → ⊥) → nextRead b c ≡ Nothing → Outcome
-    yes : (v k : ℕ) → badCursor b c ≡ false → (c .seen ≡ c .count → ⊥) → nextRead b c ≡ Ratio v k → Outcome
+  pub data StepOutcome : Type 0 where
+    bad : badCursor b c ≡ true → StepOutcome
+    end : badCursor b c ≡ false → c .seen ≡ c .count → c .place ≡ length b → StepOutcome
+    over : badCursor b c ≡ false → c .seen ≡ c .count → (c .place ≡ length b → ⊥) → StepOutcome
+    no : badCursor b c ≡ false → (c .seen ≡ c .count → ⊥) → nextRead b c ≡ Nothing → StepOutcome
+    yes : (v k : ℕ) → badCursor b c ≡ false → (c .seen ≡ c .count → ⊥) → nextRead b c ≡ Ratio v k → StepOutcome
 
-  pub step-outcome : Outcome
+  pub step-outcome : StepOutcome
   step-outcome = go (badCursor b c) refl (eqb (c .seen) (c .count)) refl (eqb (c .place) (length b)) refl (nextRead b c) refl
     where
       go : (g : Bool) → badCursor b c ≡ g → (s : Bool) → eqb (c .seen) (c .count) ≡ s → (p : Bool) → eqb (c .place) (length b) ≡ p
-          → (r : Read) → nextRead b c ≡ r → Outcome
+          → (r : Read) → nextRead b c ≡ r → StepOutcome
       go true g s es p ep r er = bad g
       go false g true s true p r er = end g (eqb-true (c .seen) (c .count) s) (eqb-true (c .place) (length b) p)
       go false g true s false p r er = over g (eqb-true (c .seen) (c .count) s) (eqb-false (c .place) (length b) p)
@@ -148,7 +148,7 @@ module _ (b : List ℕ) (c : Cursor) where
 pub step-count : (b : List ℕ) (c : Cursor) → stepCursor b c .count ≡ c .count
 step-count b c = go (step-outcome b c)
   where
-    go : Outcome b c → stepCursor b c .count ≡ c .count
+    go : StepOutcome b c → stepCursor b c .count ≡ c .count
     go (bad g) = ap (λ (d : Cursor). d .count) (left-bad b c g .1)
     go (end g s p) = ap (λ (d : Cursor). d .count) (left-end b c g s p .1)
     go (over g s p) = ap (λ (d : Cursor). d .count) (left-over b c g s p .1)
@@ -171,7 +171,7 @@ moved-good b c v k e s r =
 pub cursor-stays : CursorStays
 cursor-stays b c e = go (step-outcome b c)
   where
-    go : Outcome b c → badCursor b (stepCursor b c) ≡ false
+    go : StepOutcome b c → badCursor b (stepCursor b c) ≡ false
     go (bad g) = rw (left-bad b c g .1) e
     go (end g s p) = rw (left-end b c g s p .1) e
     go (over g s p) = rw (left-over b c g s p .1) e
@@ -303,7 +303,7 @@ says-end b c e = go (step-outcome b c)
     number : {a : StepAnswer} → stepAnswer b c ≡ a → a .number ≡ 8
     number q = sym (ap (λ (a : StepAnswer). a .number) q) ∙ ap (λ (a : StepAnswer). a .number) e
 
-    go : Outcome b c → c .place ≡ length b
+    go : StepOutcome b c → c .place ≡ length b
     go (bad g) = absurd (omega (arith, number (left-bad b c g .0)))
     go (end g s p) = p
     go (over g s p) = absurd (omega (arith, number (left-over b c g s p .0)))
@@ -317,7 +317,7 @@ says-ratio b c v e = go (step-outcome b c)
     number : {a : StepAnswer} → stepAnswer b c ≡ a → a .number ≡ 0
     number q = sym (ap (λ (a : StepAnswer). a .number) q) ∙ ap (λ (a : StepAnswer). a .number) e
 
-    go : Outcome b c → (k : ℕ) × (badCursor b c ≡ false) × (nextRead b c ≡ Ratio v k) × (stepCursor b c ≡ moved c v k)
+    go : StepOutcome b c → (k : ℕ) × (badCursor b c ≡ false) × (nextRead b c ≡ Ratio v k) × (stepCursor b c ≡ moved c v k)
     go (bad g) = absurd (omega (arith, number (left-bad b c g .0)))
     go (end g s p) = absurd (omega (arith, number (left-end b c g s p .0)))
     go (over g s p) = absurd (omega (arith, number (left-over b c g s p .0)))

@@ -2,7 +2,7 @@
 -- document 01 says nothing of them.
 --   slots                 how many ratios the planes hold: the window's size and one more
 --   cells                 how many bytes they have
---   Differs ps v a b t    neither byte a nor byte b of slot t is that of v
+--   BothDiffer ps v a b t neither byte a nor byte b of slot t is that of v
 --   Planes ps l from to   the planes ps hold the bytes of the ratios of l from index `from` up to `to`
 --   Kept ps l n           planes of full size, of the last ratios of l before index n, as many as the planes hold
 use mathlib.Core.List.{List}
@@ -25,8 +25,8 @@ abbrev pub Planes : List ℕ → List ℕ → ℕ → ℕ → Type 0
 Planes ps l from to = (j k : ℕ) → j < 8 → from ≤ k → k < to → getD ps (j * slots + k % slots) 0 ≡ byteOf (getD l k 0) j
 
 -- two bytes of a slot that both differ from those of v
-abbrev pub Differs : List ℕ → ℕ → ℕ → ℕ → ℕ → Type 0
-Differs ps v a b t = (getD ps (a * slots + t) 0 ≡ byteOf v a → ⊥) × (getD ps (b * slots + t) 0 ≡ byteOf v b → ⊥)
+abbrev pub BothDiffer : List ℕ → ℕ → ℕ → ℕ → ℕ → Type 0
+BothDiffer ps v a b t = (getD ps (a * slots + t) 0 ≡ byteOf v a → ⊥) × (getD ps (b * slots + t) 0 ≡ byteOf v b → ⊥)
 
 -- what a run keeps between its ratios
 abbrev pub Kept : List ℕ → List ℕ → ℕ → Type 0

@@ -5,7 +5,7 @@ ghost use mathlib.Core.Logic.{_⊎_};
 ghost use Prim.Native.Nat.{ℕ, _+_, _≤_, _<_};
 ghost use Rattle.bits.specs.Digits.{byteOf};
 ghost use Rattle.ratio_format.specs.Zeros.{leadZeros, trailZeros};
-ghost use Rattle.ratio_search.specs.BytePlanes.{slots, Differs};
+ghost use Rattle.ratio_search.specs.BytePlanes.{slots, BothDiffer};
 ghost use Rattle.ratio_search.specs.Apart.{Apart};
 use super::planes::CELLS;
 use super::planes::SLOTS;
@@ -54,7 +54,7 @@ pub(crate) fn pairs_of(trail: usize, sum: usize, own: usize) -> Pairs
 pub(crate) fn suspect(planes: &[u8; CELLS], slot: usize, v: u64, p: Pairs) -> bool
     requires { ⌜ (slot + 16 ≤ slots) × (p .a < 8) × (p .b < 8) × (p .c < 8) × (p .d < 8) ⌝ }
     ensures { λ r. ⌜ (r ≡ false → (t : ℕ) → slot ≤ t → t < slot + 16
-        → Differs (now (planes .entry)) v (p .a) (p .b) t ⊎ Differs (now (planes .entry)) v (p .c) (p .d) t) ⌝ }
+        → BothDiffer (now (planes .entry)) v (p .a) (p .b) t ⊎ BothDiffer (now (planes .entry)) v (p .c) (p .d) t) ⌝ }
 {
     let a = p.a * SLOTS + slot;
     let b = p.b * SLOTS + slot;

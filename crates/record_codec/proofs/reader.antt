@@ -1,2 +1,2 @@
 -- Laws of how the functions of `reader` go.
-pub mod Readings
+pub mod ReadRecord

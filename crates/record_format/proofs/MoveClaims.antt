@@ -28,7 +28,8 @@ use Rattle.record_format.specs.Moves.{Move, otherForm, inForm, runIn, so
 use Rattle.record_format.specs.Claims.{Accepted, Bytes, Beginning, ownTests, runAnswer}
 use Rattle.record_format.specs.MoveClaims.{notMoved, movedTo, ByRoom, ToWide, StepHeld, ToOld, FormThere, StrictFirst, MovesOnly, MovesBack, ReadsAlike, MovesWhole}
 use Rattle.record_format.proofs.Reading.{front-numbered}
-use Rattle.record_format.proofs.Claims.Admitted.{FrontSound, front-clear, front-splits, clear-begins}
+use Rattle.record_format.proofs.Reading.Sound.{FrontSound, front-clear}
+use Rattle.record_format.proofs.Claims.Admitted.{front-splits, clear-begins}
 use Rattle.record_format.proofs.Reading.Sides.{side-follows}
 use Rattle.record_format.proofs.Moves.{other-other, headOf, source-form, source-strict, target-numbered, runMoveTests, source-refused, move-done, move-clear, move-short, moved-fits, fits-target, ownMove, own-run, own-move, own-target, own-room, own-done, own-form}
 use Rattle.record_format.proofs.Claims.{refused-reading, reads-back}

@@ -3,6 +3,7 @@ pub mod Shifted
 pub mod Rooms
 pub mod Fronts
 pub mod Sides
+pub mod Sound
 use mathlib.Core.Path.{_≡_, refl, sym, ap, ap₂, _∙_, subst}
 use mathlib.Core.Bool.{Bool, true, false, not, cond, false≢true}
 use mathlib.Core.List.{List, [], _∷_, _++_, append-assoc}

@@ -1,2 +1,2 @@
 -- Laws of how the functions of `front` go.
-pub mod Fronts
+pub mod ReadFront

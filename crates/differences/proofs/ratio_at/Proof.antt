@@ -1,5 +1,5 @@
 -- `differences::ratio_at` meets its contract: by the values at the index, and the kinds of both.
-use mathlib.Core.Path.{_≡_, sym, ap, ap₂, _∙_}
+use mathlib.Core.Path.{sym, ap, ap₂, _∙_}
 use borrow.Author.Needs.{needs}
 use Rattle.kind.specs.declared.Kind.{Kind}
 use Rattle.differences.specs.declared.Difference.the-variants.{Ratio}

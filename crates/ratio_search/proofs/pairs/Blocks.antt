@@ -10,7 +10,7 @@ use lib.Dec.{eqb, leb}
 use lib.ListN.{getD}
 use Rattle.ratio_format.specs.Zeros.{sumOf}
 use Rattle.bits.specs.Digits.{byteOf}
-use Rattle.ratio_search.specs.BytePlanes.{slots, Differs, Planes}
+use Rattle.ratio_search.specs.BytePlanes.{slots, BothDiffer, Planes}
 use Rattle.ratio_search.specs.Apart.{Apart}
 use Rattle.ratio_search.proofs.Apart.{apart-differ}
 
@@ -55,7 +55,7 @@ module _ (ps : List ℕ) (a x b y c z d w : ℕ) where
 
 -- a slot of a quiet block, by its own number: a is the start of the part of byte j
 pub slot-differs : (ps : List ℕ) (v i j slot x y t : ℕ) → x ≡ byteOf v i → y ≡ byteOf v j → slot ≤ t
-    → Off ps (i * slots + slot) x (j * slots + slot) y (t - slot) → Differs ps v i j t
+    → Off ps (i * slots + slot) x (j * slots + slot) y (t - slot) → BothDiffer ps v i j t
 slot-differs ps v i j slot x y t ex ey h o =
     let ei : i * slots + slot + (t - slot) ≡ i * slots + t = omega arith in
     let ej : j * slots + slot + (t - slot) ≡ j * slots + t = omega arith in
@@ -63,12 +63,12 @@ slot-differs ps v i j slot x y t ex ey h o =
 
 -- the ratio in a slot whose bytes differ has a small sum
 module _ (ps l : List ℕ) (v s from high k : ℕ) (p : Planes ps l from high) (h : from ≤ k) (g : k < high) where
-  slot-passed : (a b : ℕ) → Apart s a b → Differs ps v a b (k % slots) → sumOf v (getD l k 0) ≤ s
+  slot-passed : (a b : ℕ) → Apart s a b → BothDiffer ps v a b (k % slots) → sumOf v (getD l k 0) ≤ s
   slot-passed a b w d =
       apart-differ v (getD l k 0) s a b w (λ e. d .0 (p a k (w .1) h g ∙ e)) (λ e. d .1 (p b k (w .2) h g ∙ e))
 
   either-passed : (a b c d : ℕ) → Apart s a b → Apart s c d
-      → Differs ps v a b (k % slots) ⊎ Differs ps v c d (k % slots) → sumOf v (getD l k 0) ≤ s
+      → BothDiffer ps v a b (k % slots) ⊎ BothDiffer ps v c d (k % slots) → sumOf v (getD l k 0) ≤ s
   either-passed a b c d w x = ⊎-elim (slot-passed a b w) (slot-passed c d x)
 
 -- going back through blocks: every ratio from h up to `high` is passed, of those from `from` on
@@ -84,7 +84,7 @@ module _ (ps l : List ℕ) (v s from high h a b c d : ℕ) (p : Planes ps l from
   abbrev low : ℕ
   low = (h - 1) / 16 * 16
 
-  pub behind-block : ((t : ℕ) → low % slots ≤ t → t < low % slots + 16 → Differs ps v a b t ⊎ Differs ps v c d t) → Behind v l s from high low
+  pub behind-block : ((t : ℕ) → low % slots ≤ t → t < low % slots + 16 → BothDiffer ps v a b t ⊎ BothDiffer ps v c d t) → Behind v l s from high low
   behind-block quiet k f g e = go (leb h k) refl
     where
       go : (t : Bool) → leb h k ≡ t → sumOf v (getD l k 0) ≤ s

@@ -1,82 +1,28 @@
 -- What is accepted: by any reading, bytes that begin with the fields of the rate, the side, the count and the positions that it answers; by
 -- strict reading, bytes that begin with the record of a run that the writer accepts.
 use mathlib.Core.Path.{_≡_, sym, ap, _∙_, subst}
-use mathlib.Core.Bool.{true, not}
+use mathlib.Core.Bool.{true}
 use mathlib.Core.List.{List, [], _∷_, _++_}
-use mathlib.Core.Option.{Option, none, some}
+use mathlib.Core.Option.{Option, some}
 use Prim.Native.Nat.{ℕ, _≤_, _^_}
-use borrow.Author.Tests.{ltb-false, not-false}
-use lib.Dec.{ltb, lit<}
 use lib.ListN.{length, drop}
 use Rattle.lists.specs.Below.{Below}
 use Rattle.limits.specs.Rates.{isRate}
-use Rattle.limits.specs.Points.{maxPoints}
 use Rattle.limits.specs.Sides.{maxSide}
-use Rattle.refusals.specs.Tests.{Test, test, firstOf}
-use Rattle.refusals.proofs.Tests.{firstOf-clear}
+use Rattle.refusals.specs.Tests.{firstOf}
 use Rattle.position_format.specs.Positions.{validPositions}
 use Rattle.position_format.specs.Tables.{tableOf, pointsOf}
 use Rattle.position_format.proofs.Positions.{read-only}
 use Rattle.ratio_format.specs.Bodies.{strictRatios}
 use Rattle.ratio_format.proofs.Bodies.Strict.{strict-only-body, strict-below}
-use Rattle.record_format.specs.Fields.{Field, tagAt, bodyAt, nextAt, laid}
-use Rattle.record_format.specs.Runs.{Run, run, rateTag, countTag, positionsTag, ratiosTag, rateSize, countSize, sideFields, countField, positionsField, ratiosField, frontFields, fieldsOf, recordOf}
-use Rattle.record_format.specs.Reading.{recordAnswer, readTests, readStrict, readWith, rateAt, sideAt, countAt, positionsAt, ratiosAt, rateIn, sideIn, countIn, formIn, positionsIn, ratiosIn, missing, otherRate, sideTests, countTests, frontTests, roomTests, positionsTests, ratiosTests}
+use Rattle.record_format.specs.Fields.{Field, bodyAt, nextAt, laid}
+use Rattle.record_format.specs.Runs.{Run, run, sideFields, countField, positionsField, ratiosField, frontFields, fieldsOf, recordOf}
+use Rattle.record_format.specs.Reading.{recordAnswer, readTests, readStrict, readWith, rateAt, sideAt, positionsAt, ratiosAt, rateIn, sideIn, countIn, formIn, positionsIn}
 use Rattle.record_format.proofs.Fields.{Follow, pastAll, past-append, follow-laid, follow-append}
-use Rattle.record_format.proofs.Reading.{FieldSound, field-clear, sound-follows, sound-below, sound-number, missing-some, front-flat, answer-clear}
-use Rattle.record_format.proofs.Runs.{tag-named}
-use Rattle.record_format.proofs.Reading.Sides.{SideSound, side-clear, side-follows}
+use Rattle.record_format.proofs.Reading.{sound-follows, sound-below, sound-number, answer-clear}
+use Rattle.record_format.proofs.Reading.Sides.{side-follows}
+use Rattle.record_format.proofs.Reading.Sound.{FrontSound, RecordSound, record-clear}
 use Rattle.record_format.proofs.Writing.{Fitting}
-
--- what the tests of the front say of bytes to which none applies
-pub record FrontSound (s : List ℕ) : Type 0 where
-  pub rate : FieldSound s (rateTag ∷ []) (some rateSize) rateAt
-  pub listed : isRate (rateIn s) ≡ true
-  pub side : SideSound s
-  pub count : FieldSound s (countTag ∷ []) (some countSize) (countAt s)
-  pub few : countIn s ≤ maxPoints
-
--- and which others are left
-pub front-clear : (e : ℕ) (s : List ℕ) (ts : List Test) → firstOf (frontTests e s ++ ts) .number ≡ 0 → FrontSound s × (firstOf ts .number ≡ 0)
-front-clear e s ts clear =
-    let from-side = sideTests s ++ (countTests s ++ ts) in
-    let flat = sym (ap (λ (l : List Test). firstOf l .number) (front-flat e s ts)) ∙ clear in
-    let a = field-clear s (rateTag ∷ []) (some rateSize) rateAt (test (not (isRate (rateIn s))) 13 rateAt ∷ test (otherRate e (rateIn s)) 14 rateAt ∷ from-side) flat in
-    let a13 = firstOf-clear _ _ (lit< tt) (a .1) in
-    let a14 = firstOf-clear _ _ (lit< tt) (a13 .1) in
-    let a20 = side-clear s (countTests s ++ ts) (a14 .1) in
-    let b = field-clear s (countTag ∷ []) (some countSize) (countAt s) (test (ltb maxPoints (countIn s)) 15 (countAt s) ∷ ts) (a20 .1) in
-    let b15 = firstOf-clear _ _ (lit< tt) (b .1) in
-    (record { rate = a .0; listed = not-false _ (a13 .0); side = a20 .0; count = b .0; few = ltb-false _ _ (b15 .0) }, b15 .1)
-
--- what the tests of reading say of bytes to which none applies, by the reading k of the ratios' field
-record Read (k : ℕ → List ℕ → Option (List ℕ)) (s : List ℕ) : Type 0 where
-  front : FrontSound s
-  positions : FieldSound s (positionsTag (formIn s) ∷ []) none (positionsAt s)
-  few : countIn s ≤ pointsOf (formIn s)
-  points : (ts : List ℕ) × (positionsIn s ≡ some ts)
-  ratios : FieldSound s (ratiosTag ∷ []) none (ratiosAt s)
-  values : (vs : List ℕ) × (ratiosIn k s ≡ some vs)
-
-passed : (k : ℕ → List ℕ → Option (List ℕ)) (e : ℕ) (s : List ℕ) (m n : ℕ) → firstOf (readTests k e s m n) .number ≡ 0 → Read k s
-passed k e s m n clear =
-    let f = front-clear e s (roomTests s m n ++ (positionsTests s ++ ratiosTests k s)) clear in
-    let f16 = firstOf-clear _ _ (lit< tt) (f .1) in
-    let head = firstOf-clear _ _ (lit< tt) (f16 .1) in
-    let tag = firstOf-clear _ _ (lit< tt) (head .1) in
-    let c15 = firstOf-clear _ _ (lit< tt) (tag .1) in
-    let body = firstOf-clear _ _ (lit< tt) (c15 .1) in
-    let c17 = firstOf-clear _ _ (lit< tt) (body .1) in
-    let d = field-clear s (ratiosTag ∷ []) none (ratiosAt s) (test (missing (ratiosIn k s)) 18 (ratiosAt s) ∷ []) (c17 .1) in
-    let d18 = firstOf-clear _ _ (lit< tt) (d .1) in
-    record {
-      front = f .0;
-      positions = record { head-whole = ltb-false _ _ (head .0); tagged = tag-named (tagAt s (positionsAt s)) (not-false _ (tag .0)); stated = tt; whole = ltb-false _ _ (body .0) };
-      few = ltb-false _ _ (c15 .0);
-      points = missing-some (positionsIn s) (c17 .0);
-      ratios = d .0;
-      values = missing-some (ratiosIn k s) (d18 .0);
-    }
 
 -- ---- the front
 
@@ -103,7 +49,7 @@ front-splits s bytes h =
     ∙ ap (λ (p : ℕ). laid (frontFields (rateIn s) (sideIn s) (countIn s)) ++ drop p s) (f .1)
 
 -- and with the positions, as they are read in their form
-positions-follow : (s : List ℕ) → Below 256 s → (k : ℕ → List ℕ → Option (List ℕ)) → (h : Read k s) → (fs : List Field) → Follow s (ratiosAt s) fs
+positions-follow : (s : List ℕ) → Below 256 s → (k : ℕ → List ℕ → Option (List ℕ)) → (h : RecordSound k s) → (fs : List Field) → Follow s (ratiosAt s) fs
     → Follow s rateAt (frontFields (rateIn s) (sideIn s) (length (h .points .0)) ++ (positionsField (formIn s) (h .points .0) ∷ fs))
 positions-follow s bytes k h fs later =
     let p = read-only (tableOf (formIn s)) (countIn s) (bodyAt s (positionsAt s)) (h .points .0) (h .points .1) in
@@ -126,7 +72,7 @@ pub record FrontStands (s : List ℕ) : Type 0 where
 
 pub front-stands : (k : ℕ → List ℕ → Option (List ℕ)) (e : ℕ) (s : List ℕ) (m n : ℕ) → Below 256 s → firstOf (readTests k e s m n) .number ≡ 0 → FrontStands s
 front-stands k e s m n bytes clear =
-    let h = passed k e s m n clear in
+    let h = record-clear k e s m n clear in
     let ps = h .points .0 in
     let p = read-only (tableOf (formIn s)) (countIn s) (bodyAt s (positionsAt s)) ps (h .points .1) in
     let fields = frontFields (rateIn s) (sideIn s) (length ps) ++ (positionsField (formIn s) ps ∷ []) in
@@ -152,7 +98,7 @@ pub record Begins (s : List ℕ) : Type 0 where
   pub rest : List ℕ
   pub splits : s ≡ recordOf own ++ rest
 
-begins : (s : List ℕ) → Below 256 s → Read strictRatios s → Begins s
+begins : (s : List ℕ) → Below 256 s → RecordSound strictRatios s → Begins s
 unfolding recordOf
 begins s bytes h =
     let ts = h .points .0 in
@@ -177,7 +123,7 @@ begins s bytes h =
 
 -- bytes that strict reading's tests do not refuse begin with a run's record
 pub clear-begins : (e : ℕ) (s : List ℕ) (m n : ℕ) → Below 256 s → firstOf (readTests strictRatios e s m n) .number ≡ 0 → Begins s
-clear-begins e s m n bytes h = begins s bytes (passed strictRatios e s m n h)
+clear-begins e s m n bytes h = begins s bytes (record-clear strictRatios e s m n h)
 
 -- and so do those that it accepts
 pub accepted-begins : (e : ℕ) (s ts vs : List ℕ) → Below 256 s → readStrict e s ts vs .answer .number ≡ 0 → Begins s

@@ -15,7 +15,7 @@ use Rattle.refusals.specs.Tests.{Test, firstOf, refused}
 use Rattle.refusals.proofs.Tests.{firstOf-skip, firstOf-append-cong, never, firstOf-never}
 use Rattle.record_format.specs.Reading.{refusalAnswer, recordAnswer, hasSide, countIn, rateTests, countTests, frontTests, positionsTests, ratiosTests, recordTests, readTests, readWith, blank}
 use Rattle.record_format.proofs.Reading.{side-of, front-numbered, answer-number}
-use Rattle.record_format.proofs.Claims.Admitted.{front-clear}
+use Rattle.record_format.proofs.Reading.Sound.{front-clear}
 
 -- ---- the tests
 

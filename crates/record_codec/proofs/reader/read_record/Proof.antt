@@ -8,8 +8,8 @@ use borrow.Author.Needs.{needs}
 use lib.ListN.{length}
 use Rattle.record_format.specs.Reading.{lacksRoom}
 use Rattle.record_parts.specs.Fields.{FrontFound}
-use Rattle.record_parts.proofs.front.Fronts.{place-near}
-use Rattle.record_codec.proofs.reader.Readings.{answered-as, read-front, read-lacks, room-both, read-points, read-found}
+use Rattle.record_parts.proofs.front.ReadFront.{place-near}
+use Rattle.record_codec.proofs.reader.ReadRecord.{answered-as, read-front, read-lacks, room-both, read-points, read-found}
 use Rattle.record_codec.proofs.reader.read_record.Statement.{statement}
 use Rattle.record_codec.proofs.reader.read_record.Tie as tie
 

@@ -12,7 +12,7 @@ use Rattle.position_format.specs.Tables.{tableOf}
 use Rattle.record_format.specs.Runs.{positionsTags}
 use Rattle.record_format.specs.Reading.{positionsTests}
 use Rattle.record_parts.proofs.Fields.{part-refused}
-use Rattle.record_parts.proofs.front.Fronts.{place-near}
+use Rattle.record_parts.proofs.front.ReadFront.{place-near}
 use Rattle.record_parts.proofs.coding.Codings.{CodedField, codedTests, many-refused, many-passed, coded-refused, body-order, body-inside, coded-none, coded-found}
 use Rattle.record_parts.proofs.coding.read_positions.Statement.{statement}
 use Rattle.record_parts.proofs.coding.read_positions.Tie as tie

@@ -1,6 +1,6 @@
 -- `read_count` meets its contract, by what `read_number` finds.
 use borrow.Author.Needs.{needs}
-use Rattle.record_parts.proofs.front.Fronts.{count-tests-first, count-many, count-good}
+use Rattle.record_parts.proofs.front.ReadFront.{count-tests-first, count-many, count-good}
 use Rattle.record_parts.proofs.front.read_count.Statement.{statement}
 use Rattle.record_parts.proofs.front.read_count.Tie as tie
 

@@ -1,7 +1,7 @@
 -- `read_front` meets its contract, by what `read_rate`, `read_side` and `read_count` find.
 use native.Mathlib.Omega.{arith}
 use borrow.Author.Needs.{needs}
-use Rattle.record_parts.proofs.front.Fronts.{front-rate, front-side, front-count, front-found}
+use Rattle.record_parts.proofs.front.ReadFront.{front-rate, front-side, front-count, front-found}
 use Rattle.record_parts.proofs.front.read_front.Statement.{statement}
 use Rattle.record_parts.proofs.front.read_front.Tie as tie
 

@@ -1,7 +1,7 @@
 -- `read_number` meets its contract, by what `read_field` finds.
 use borrow.Author.Needs.{needs}
 use Rattle.record_parts.proofs.Fields.{number-inside}
-use Rattle.record_parts.proofs.front.Fronts.{number-refused, number-found}
+use Rattle.record_parts.proofs.front.ReadFront.{number-refused, number-found}
 use Rattle.record_parts.proofs.front.read_number.Statement.{statement}
 use Rattle.record_parts.proofs.front.read_number.Tie as tie
 

@@ -2,7 +2,7 @@
 use mathlib.Core.Path.{sym, _∙_}
 use borrow.Author.Needs.{needs}
 use borrow.Author.Tests.{not-true, not-false}
-use Rattle.record_parts.proofs.front.Fronts.{rate-tests-first, rate-unlisted, rate-other, rate-good}
+use Rattle.record_parts.proofs.front.ReadFront.{rate-tests-first, rate-unlisted, rate-other, rate-good}
 use Rattle.record_parts.proofs.front.read_rate.Statement.{statement}
 use Rattle.record_parts.proofs.front.read_rate.Tie as tie
 

@@ -8,7 +8,7 @@ use lib.Dec.{eqb}
 use Rattle.record_format.specs.Fields.{tagAt}
 use Rattle.record_format.specs.Runs.{sideTag}
 use Rattle.record_format.specs.Reading.{hasSide}
-use Rattle.record_parts.proofs.front.Fronts.{side-absent, side-first, side-other, side-good}
+use Rattle.record_parts.proofs.front.ReadFront.{side-absent, side-first, side-other, side-good}
 use Rattle.record_parts.proofs.front.read_side.Statement.{statement}
 use Rattle.record_parts.proofs.front.read_side.Tie as tie
 

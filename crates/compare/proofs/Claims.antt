@@ -20,7 +20,7 @@ use Rattle.differences.specs.Comparisons.{Comparison, comparison, refusedCompar
 use Rattle.lists.specs.Among.{Among}
 use Rattle.differences.proofs.Claims.{lists-exactly, none-own}
 use Rattle.differences.proofs.Comparisons.{compares, compares-only, empty-exactly, compared-first, compared-second, comparison-trailing}
-use Rattle.compare.specs.Lines.{propertyLine, positionLine, ratioLine, moreLine, lineOf, textOf, refusedInLine}
+use Rattle.compare.specs.Lines.{propertyLine, positionLine, ratioLine, moreLine, lineOf, differencesText, refusedInLine}
 use Rattle.compare.specs.Printed.{comparisonText, printed}
 use Rattle.compare.specs.Claims.{PrintsDifferences, PrintsNothing, PrintsFirst, PrintsSecond, PrintsTrailing}
 use Rattle.compare.proofs.Printed.{text-refused, text-list}
@@ -48,10 +48,10 @@ some-line (Ratio i v k w m) l n e = cons≢nil e
 some-line (More k) l n e = cons≢nil e
 
 -- so only a list without differences has none
-no-text : (l : List Difference) → (Among Equal l → ⊥) → textOf l ≡ [] → l ≡ []
-unfolding textOf Among
+no-text : (l : List Difference) → (Among Equal l → ⊥) → differencesText l ≡ [] → l ≡ []
+unfolding differencesText Among
 no-text [] n e = refl
-no-text (d ∷ l) n e = absurd (some-line d (textOf l) (λ q. n (inl (sym q))) e)
+no-text (d ∷ l) n e = absurd (some-line d (differencesText l) (λ q. n (inl (sym q))) e)
 
 -- and a refusal has a line
 some-refusal : (n p w : ℕ) → refusedInLine n p w ≡ [] → ⊥
@@ -67,7 +67,7 @@ nothing-refused c e = go (c .number) refl
     go (suc n) q = absurd (some-refusal (c .number) (c .place) (c .which) (sym (text-refused c (λ z. omega arith)) ∙ e))
 
 pub prints-nothing : PrintsNothing
-unfolding textOf
+unfolding differencesText
 prints-nothing s t u v = (
   λ e.
       let l = take inputLimit s in
@@ -77,11 +77,11 @@ prints-nothing s t u v = (
       let ok = nothing-refused (comparison l m) e in
       let c = compares-only l m bytes others ok in
       let is = ap (λ (x : Comparison). x .list) (c .6) in
-      let none = no-text (differences (c .0) (c .1)) (λ h. lists-exactly (c .0) (c .1) (c .2) (c .3) Equal .0 h) (ap textOf (sym is) ∙ sym (text-list (comparison l m) ok) ∙ e) in
+      let none = no-text (differences (c .0) (c .1)) (λ h. lists-exactly (c .0) (c .1) (c .2) (c .3) Equal .0 h) (ap differencesText (sym is) ∙ sym (text-list (comparison l m) ok) ∙ e) in
       let h = empty-exactly l m bytes others .0 (ok, is ∙ none) in
       (h .0, h .1, begins-whole (recordOf (h .0)) s (h .2), begins-whole (recordOf (h .0)) t (h .3)),
   λ h.
-      ap₂ printed (h .2 .1) (h .3 .1) ∙ prints-differences (h .0) (h .0) (h .1) (h .1) (h .2 .0) (h .3 .0) ∙ ap textOf (none-own (h .0) (h .1)),
+      ap₂ printed (h .2 .1) (h .3 .1) ∙ prints-differences (h .0) (h .0) (h .1) (h .1) (h .2 .0) (h .3 .0) ∙ ap differencesText (none-own (h .0) (h .1)),
 )
 
 -- ---- refusals

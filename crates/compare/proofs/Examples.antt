@@ -23,7 +23,7 @@ use Rattle.differences.specs.Differences.{positionAt, ratioAt, pointsTo, differ
 use Rattle.differences.specs.Examples.{otherRun}
 use Rattle.differences.specs.Comparisons.{Comparison, refusedComparison}
 use Rattle.differences.proofs.Comparisons.{compared-first, compared-second}
-use Rattle.compare.specs.Lines.{propertyLine, positionLine, ratioLine, moreLine, textOf, refusedInLine}
+use Rattle.compare.specs.Lines.{propertyLine, positionLine, ratioLine, moreLine, differencesText, refusedInLine}
 use Rattle.compare.specs.Printed.{comparisonText, printed}
 use Rattle.compare.specs.Examples.{comparedText, refusedSecond, refusedFirst, PrintsExample}
 use Rattle.compare.proofs.Claims.{prints-differences}
@@ -34,11 +34,11 @@ unfolding Below accepts firstOf isRate rates member firstIndex
 other-accepted = record { words = (lit< tt, (lit< tt, (lit< tt, (lit< tt, (lit< tt, tt))))); passes = refl }
 
 -- the text of two runs' records, with nothing behind them
-of-runs : (r q : Run) → Accepted r → Accepted q → printed (recordOf r) (recordOf q) ≡ textOf (differences r q)
+of-runs : (r q : Run) → Accepted r → Accepted q → printed (recordOf r) (recordOf q) ≡ differencesText (differences r q)
 of-runs r q a b = sym (ap₂ printed (append-nil (recordOf r)) (append-nil (recordOf q))) ∙ prints-differences r q a b [] []
 
-texts : (textOf (differences listedRun otherRun) ≡ comparedText) × (textOf (differences listedRun listedRun) ≡ [])
-unfolding digitsOf trimmed decimal hex16 ofBits ofFields positionAt ratioAt pointsTo differences propertyLine positionLine ratioLine moreLine textOf
+texts : (differencesText (differences listedRun otherRun) ≡ comparedText) × (differencesText (differences listedRun listedRun) ≡ [])
+unfolding digitsOf trimmed decimal hex16 ofBits ofFields positionAt ratioAt pointsTo differences propertyLine positionLine ratioLine moreLine differencesText
 texts = (refl, refl)
 
 -- of an empty file the head of the rate's field is not whole, whichever it is

@@ -6,21 +6,21 @@ use Rattle.record_format.specs.Runs.{Run}
 use Rattle.differences.specs.declared.Difference.{Difference}
 use Rattle.differences.specs.declared.Difference.the-variants.{Equal, InProperty, Position, Ratio, More}
 use Rattle.differences.specs.Differences.{positionAt, ratioAt, listed, pointsTo}
-use Rattle.compare.specs.Lines.{lineOf, textOf}
-use Rattle.compare.specs.Pieces.{pointsText}
+use Rattle.compare.specs.Lines.{lineOf, differencesText}
+use Rattle.compare.specs.Pieces.{linesBelow}
 use Rattle.compare.specs.Claims.{TextByLines}
 
-pub text-append : (l m : List Difference) → textOf (l ++ m) ≡ textOf l ++ textOf m
-unfolding textOf
+pub text-append : (l m : List Difference) → differencesText (l ++ m) ≡ differencesText l ++ differencesText m
+unfolding differencesText
 text-append [] m = refl
-text-append (d ∷ l) m = ap (λ (x : List ℕ). lineOf d ++ x) (text-append l m) ∙ sym (append-assoc (lineOf d) (textOf l) (textOf m))
+text-append (d ∷ l) m = ap (λ (x : List ℕ). lineOf d ++ x) (text-append l m) ∙ sym (append-assoc (lineOf d) (differencesText l) (differencesText m))
 
 pub text-by-lines : TextByLines
-unfolding textOf
+unfolding differencesText
 text-by-lines = (refl, λ d. append-nil (lineOf d), text-append)
 
-pub text-listed : (d : Difference) → textOf (listed d) ≡ lineOf d
-unfolding textOf
+pub text-listed : (d : Difference) → differencesText (listed d) ≡ lineOf d
+unfolding differencesText
 text-listed Equal = refl
 text-listed (InProperty p a b) = append-nil _
 text-listed (Position i t u) = append-nil _
@@ -28,11 +28,11 @@ text-listed (Ratio i v k w l) = append-nil _
 text-listed (More n) = append-nil _
 
 -- what is listed of one difference, and then a list
-pub text-then : (d : Difference) (l : List Difference) → textOf (listed d ++ l) ≡ lineOf d ++ textOf l
-text-then d l = text-append (listed d) l ∙ ap (λ (x : List ℕ). x ++ textOf l) (text-listed d)
+pub text-then : (d : Difference) (l : List Difference) → differencesText (listed d ++ l) ≡ lineOf d ++ differencesText l
+text-then d l = text-append (listed d) l ∙ ap (λ (x : List ℕ). x ++ differencesText l) (text-listed d)
 
-pub text-points : (r q : Run) (n : ℕ) → textOf (pointsTo r q n) ≡ pointsText (r .positions) (r .ratios) (q .positions) (q .ratios) n
-unfolding textOf pointsTo pointsText
+pub text-points : (r q : Run) (n : ℕ) → differencesText (pointsTo r q n) ≡ linesBelow (r .positions) (r .ratios) (q .positions) (q .ratios) n
+unfolding differencesText pointsTo linesBelow
 text-points r q zero = refl
 text-points r q (suc n) =
     let p = positionAt (r .positions) (q .positions) n in

@@ -7,24 +7,24 @@ use native.Mathlib.Omega.{arith}
 use lib.ListN.{length}
 use Rattle.text.specs.PlacedAt.{PlacedAt}
 use Rattle.text.proofs.PlacedAt.{placed-none, placed-as, placed-then}
-use Rattle.compare.specs.Pieces.{pointText, pointsText}
+use Rattle.compare.specs.Pieces.{linesAt, linesBelow}
 use Rattle.compare.specs.Printed.{lineLimit}
 
 module _ (ts vs us ws : List ℕ) where
   -- the lines of the indices below i were put there
   abbrev pub Points : ℕ → ℕ → ℕ → List ℕ → List ℕ → Type 0
-  Points i at e o p = PlacedAt (lineLimit * 2 * i) (pointsText ts vs us ws i) at e o p
+  Points i at e o p = PlacedAt (lineLimit * 2 * i) (linesBelow ts vs us ws i) at e o p
 
   pub points-none : (at : ℕ) (o : List ℕ) → Points 0 at at o o
-  unfolding pointsText
+  unfolding linesBelow
   points-none at o = placed-none at o
 
-  points-next : (i : ℕ) → pointsText ts vs us ws i ++ pointText ts vs us ws i ≡ pointsText ts vs us ws (i + 1)
-  unfolding pointsText
-  points-next i = sym (ap (pointsText ts vs us ws) (add-one i))
+  points-next : (i : ℕ) → linesBelow ts vs us ws i ++ linesAt ts vs us ws i ≡ linesBelow ts vs us ws (i + 1)
+  unfolding linesBelow
+  points-next i = sym (ap (linesBelow ts vs us ws) (add-one i))
 
   pub points-more : (i : ℕ) {at e f : ℕ} {o p q : List ℕ} → at + lineLimit * 2 * i ≤ length o
-      → Points i at e o p → PlacedAt (lineLimit * 2) (pointText ts vs us ws i) e f p q → Points (i + 1) at f o q
+      → Points i at e o p → PlacedAt (lineLimit * 2) (linesAt ts vs us ws i) e f p q → Points (i + 1) at f o q
   points-more i room h g =
       let l = placed-then room h g in
       placed-as (omega (arith, ap length (points-next i), l .most)) (points-next i) l

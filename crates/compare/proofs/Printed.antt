@@ -11,15 +11,15 @@ use Rattle.record_format.specs.declared.ReadAnswer.{ReadAnswer}
 use Rattle.record_format.proofs.Reading.Rooms.{roomy}
 use Rattle.inputs.specs.Inputs.{inputLimit}
 use Rattle.inputs.specs.Readings.{answerOf, Reading}
-use Rattle.inputs.proofs.Inputs.{read-all}
+use Rattle.inputs.proofs.Readings.{read-all}
 use Rattle.differences.specs.declared.OverallDifferences.{OverallDifferences}
 use Rattle.differences.specs.Overall.{overallOf}
 use Rattle.differences.specs.Comparisons.{Comparison, comparison, runOf}
 use Rattle.differences.specs.Claims.{MakeUp}
 use Rattle.differences.proofs.Comparisons.{by-calls}
 use Rattle.differences.specs.Differences.{listed, pointsTo}
-use Rattle.compare.specs.Lines.{lineOf, textOf, refusedInLine}
-use Rattle.compare.specs.Pieces.{propertiesText, pointsText}
+use Rattle.compare.specs.Lines.{lineOf, differencesText, refusedInLine}
+use Rattle.compare.specs.Pieces.{propertiesText, linesBelow}
 use Rattle.compare.specs.Printed.{comparisonText, printed}
 use Rattle.compare.proofs.Lines.{text-append, text-listed, text-then, text-points}
 
@@ -29,7 +29,7 @@ pub text-refused : (c : Comparison) → (c .number ≡ 0 → ⊥) → comparison
 unfolding comparisonText
 text-refused c n = rw (ne-eqb (c .number) 0 n)
 
-pub text-list : (c : Comparison) → c .number ≡ 0 → comparisonText c ≡ textOf (c .list)
+pub text-list : (c : Comparison) → c .number ≡ 0 → comparisonText c ≡ differencesText (c .list)
 unfolding comparisonText
 text-list c e = rw (eq-eqb (c .number) 0 e)
 
@@ -60,12 +60,12 @@ module _ {s t : List ℕ} {a b : ReadAnswer} {ts vs us ws : List ℕ} (x : Readi
 
   -- two runs, and k points that both have
   pub lines-text : h .number ≡ 0 → (k : ℕ) → k ≡ min (a .count) (b .count)
-      → propertiesText h ++ (pointsText (take (a .count) ts) (take (a .count) vs) (take (b .count) us) (take (b .count) ws) k ++ lineOf (h .more)) ≡ printed s t
+      → propertiesText h ++ (linesBelow (take (a .count) ts) (take (a .count) vs) (take (b .count) us) (take (b .count) ws) k ++ lineOf (h .more)) ≡ printed s t
   lines-text ok k few =
       let r = runOf (answerOf a ts vs) in
       let q = runOf (answerOf b us ws) in
-      let points = pointsText (r .positions) (r .ratios) (q .positions) (q .ratios) k ++ lineOf (h .more) in
-      let points-are : textOf (pointsTo r q k ++ listed (h .more)) ≡ points =
+      let points = linesBelow (r .positions) (r .ratios) (q .positions) (q .ratios) k ++ lineOf (h .more) in
+      let points-are : differencesText (pointsTo r q k ++ listed (h .more)) ≡ points =
       text-append (pointsTo r q k) (listed (h .more)) ∙ ap₂ (λ (l m : List ℕ). l ++ m) (text-points r q k) (text-listed (h .more)) in
       append-assoc (lineOf (h .rate)) _ points
       ∙ ap (λ (l : List ℕ). lineOf (h .rate) ++ l)
@@ -74,7 +74,7 @@ module _ {s t : List ℕ} {a b : ReadAnswer} {ts vs us ws : List ℕ} (x : Readi
       ∙ sym
       (printed-whole s t (x .whole) (y .whole)
       ∙ text-list (comparison s t) (sym (made .0) ∙ ok)
-      ∙ ap textOf (subst (λ (n : ℕ). comparison s t .list ≡ listed (h .rate) ++ (listed (h .side) ++ (listed (h .count) ++ (listed (h .form) ++ (pointsTo r q n ++ listed (h .more)))))) (sym few) (made .4 ok))
+      ∙ ap differencesText (subst (λ (n : ℕ). comparison s t .list ≡ listed (h .rate) ++ (listed (h .side) ++ (listed (h .count) ++ (listed (h .form) ++ (pointsTo r q n ++ listed (h .more)))))) (sym few) (made .4 ok))
       ∙ text-then (h .rate) _
       ∙ ap (λ (l : List ℕ). lineOf (h .rate) ++ l)
       (text-then (h .side) _

@@ -18,16 +18,16 @@ use Rattle.record_format.specs.Runs.{Run, recordOf}
 use Rattle.inputs.specs.Inputs.{readInput}
 use Rattle.differences.specs.declared.Difference.{Difference}
 use Rattle.differences.specs.Differences.{differences}
-use Rattle.compare.specs.Lines.{lineOf, textOf, refusedInLine}
+use Rattle.compare.specs.Lines.{lineOf, differencesText, refusedInLine}
 use Rattle.compare.specs.Printed.{printed}
 
 -- of any lists
 abbrev pub TextByLines : Type 0
-TextByLines = (textOf [] ≡ []) × ((d : Difference) → textOf (d ∷ []) ≡ lineOf d) × ((l m : List Difference) → textOf (l ++ m) ≡ textOf l ++ textOf m)
+TextByLines = (differencesText [] ≡ []) × ((d : Difference) → differencesText (d ∷ []) ≡ lineOf d) × ((l m : List Difference) → differencesText (l ++ m) ≡ differencesText l ++ differencesText m)
 
 -- two records
 abbrev pub PrintsDifferences : Type 0
-PrintsDifferences = (r q : Run) → Accepted r → Accepted q → (x y : List ℕ) → printed (recordOf r ++ x) (recordOf q ++ y) ≡ textOf (differences r q)
+PrintsDifferences = (r q : Run) → Accepted r → Accepted q → (x y : List ℕ) → printed (recordOf r ++ x) (recordOf q ++ y) ≡ differencesText (differences r q)
 
 -- of equal records, and of nothing else
 abbrev pub PrintsNothing : Type 0

@@ -17,7 +17,7 @@ use Rattle.differences.specs.declared.Property.the-variants.{Rate, Side, Count,
 use Rattle.differences.specs.declared.Difference.the-variants.{Equal, InProperty, Position, Ratio, More}
 use Rattle.differences.specs.Differences.{positionAt, ratioAt, pointsTo, differences}
 use Rattle.differences.specs.Examples.{otherRun}
-use Rattle.compare.specs.Lines.{propertyLine, positionLine, ratioLine, moreLine, lineOf, textOf, refusedInLine}
+use Rattle.compare.specs.Lines.{propertyLine, positionLine, ratioLine, moreLine, lineOf, differencesText, refusedInLine}
 use Rattle.compare.specs.Printed.{printed}
 
 -- an example: a text, and its bytes
@@ -77,12 +77,12 @@ examples =
     ∷ example (refusedInLine 10 0 2) (114 ∷ 101 ∷ 102 ∷ 117 ∷ 115 ∷ 101 ∷ 100 ∷ 32 ∷ 49 ∷ 48 ∷ 32 ∷ 97 ∷ 116 ∷ 32 ∷ 48 ∷ 32 ∷ 105 ∷ 110 ∷ 32 ∷ 50 ∷ 10 ∷ [])
     ∷ example (refusedInLine 18 4711 1) (114 ∷ 101 ∷ 102 ∷ 117 ∷ 115 ∷ 101 ∷ 100 ∷ 32 ∷ 49 ∷ 56 ∷ 32 ∷ 97 ∷ 116 ∷ 32 ∷ 52 ∷ 55 ∷ 49 ∷ 49 ∷ 32 ∷ 105 ∷ 110 ∷ 32 ∷ 49
     ∷ 10 ∷ [])
-    ∷ example (textOf (differences listedRun otherRun)) comparedText
+    ∷ example (differencesText (differences listedRun otherRun)) comparedText
     ∷ []
 
 -- each text, computed from the definitions, is the one that is given
 pub examples-hold : map (λ e. e .text) examples ≡ map (λ e. e .expected) examples
-unfolding examples digitsOf trimmed decimal hex16 ofBits ofFields positionAt ratioAt pointsTo differences propertyLine positionLine ratioLine moreLine textOf refusedInLine
+unfolding examples digitsOf trimmed decimal hex16 ofBits ofFields positionAt ratioAt pointsTo differences propertyLine positionLine ratioLine moreLine differencesText refusedInLine
 examples-hold = refl
 
 -- the output in full; proved in proofs/Examples

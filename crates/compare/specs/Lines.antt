@@ -1,5 +1,5 @@
 -- Document 02, No. 7: the lines that the program prints, as ASCII codes, and the text of a list of differences. Single spaces; each line ends in one newline.
---   formWord .. inWord    the fixed parts of a line that the listing does not have
+--   formWord .. inWord    the fixed parts of a line that no other program has
 --   propertyWord p        the word of the property p, and a space
 --   kindWord k            the word of the kind k, `number`, `infinity` or `nan`, between two spaces
 --   propertyLine p a b    `rate 96000 88200`
@@ -7,7 +7,7 @@
 --   ratioLine i v k w l   `ratio 7 number 3fe0000000000000 nan 7ff8000000000000`
 --   moreLine n            `more 2`
 --   lineOf d              the line of the difference d; nothing where there is no difference
---   textOf l              the text of the list l: its lines, in its order
+--   differencesText l     the text of the list l: its lines, in its order
 --   refusedInLine n p w   `refused 10 at 0 in 2`: a refusal's number and place, and which record it was
 use mathlib.Core.List.{List, [], _∷_, _++_}
 use Prim.Native.Nat.{ℕ}
@@ -17,7 +17,7 @@ use Rattle.differences.specs.declared.Property.{Property}
 use Rattle.differences.specs.declared.Property.the-variants.{Rate, Side, Count, Form}
 use Rattle.differences.specs.declared.Difference.{Difference}
 use Rattle.differences.specs.declared.Difference.the-variants.{Equal, InProperty, Position, Ratio, More}
-use Rattle.text.specs.Lines.{newline, space, rateWord, sideWord, countWord, refusedWord, atWord}
+use Rattle.text.specs.Lines.{newline, space, ratioWord, rateWord, sideWord, countWord, refusedWord, atWord}
 use Rattle.text.specs.Numbers.{decimal, hex16}
 
 -- "form "
@@ -27,10 +27,6 @@ formWord = 102 ∷ 111 ∷ 114 ∷ 109 ∷ 32 ∷ []
 -- "position "
 abbrev pub positionWord : List ℕ
 positionWord = 112 ∷ 111 ∷ 115 ∷ 105 ∷ 116 ∷ 105 ∷ 111 ∷ 110 ∷ 32 ∷ []
-
--- "ratio "
-abbrev pub ratioWord : List ℕ
-ratioWord = 114 ∷ 97 ∷ 116 ∷ 105 ∷ 111 ∷ 32 ∷ []
 
 -- "more "
 abbrev pub moreWord : List ℕ
@@ -78,9 +74,9 @@ lineOf (Ratio i v k w l) = ratioLine i v k w l
 lineOf (More n) = moreLine n
 
 -- one line after the other
-unfoldable pub textOf : List Difference → List ℕ
-textOf [] = []
-textOf (d ∷ l) = lineOf d ++ textOf l
+unfoldable pub differencesText : List Difference → List ℕ
+differencesText [] = []
+differencesText (d ∷ l) = lineOf d ++ differencesText l
 
 -- the only line of a refusal
 unfoldable pub refusedInLine : ℕ → ℕ → ℕ → List ℕ

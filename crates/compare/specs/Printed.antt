@@ -11,7 +11,7 @@ use lib.ListN.{take}
 use Rattle.limits.specs.Points.{maxPoints}
 use Rattle.inputs.specs.Inputs.{inputLimit}
 use Rattle.differences.specs.Comparisons.{Comparison, comparison}
-use Rattle.compare.specs.Lines.{textOf, refusedInLine}
+use Rattle.compare.specs.Lines.{differencesText, refusedInLine}
 
 -- the longest is that of a ratio: a word of 6, an index of up to 20 digits, two words of up to 10, twice 16 digits, and the line's end
 abbrev pub lineLimit : ℕ
@@ -23,7 +23,7 @@ textLimit = lineLimit * (5 + 2 * maxPoints)
 
 -- a refusal is the only line
 unfoldable pub comparisonText : Comparison → List ℕ
-comparisonText c = cond (eqb (c .number) 0) (textOf (c .list)) (refusedInLine (c .number) (c .place) (c .which))
+comparisonText c = cond (eqb (c .number) 0) (differencesText (c .list)) (refusedInLine (c .number) (c .place) (c .which))
 
 -- the program's whole output
 abbrev pub printed : List ℕ → List ℕ → List ℕ

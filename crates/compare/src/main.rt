@@ -7,7 +7,7 @@ ghost use Rattle.limits.specs.Points.{maxPoints};
 ghost use Rattle.text.specs.PlacedAt.{PlacedAt};
 ghost use Rattle.inputs.specs.Inputs.{inputLimit};
 ghost use Rattle.compare.specs.Lines.{propertyWord, kindWord, propertyLine, ratioLine, lineOf, refusedInLine};
-ghost use Rattle.compare.specs.Pieces.{propertiesText, pointText, pointsText};
+ghost use Rattle.compare.specs.Pieces.{propertiesText, linesAt, linesBelow};
 ghost use Rattle.compare.specs.Printed.{lineLimit, textLimit, printed};
 use differences::Difference;
 use differences::OverallDifferences;
@@ -196,7 +196,7 @@ fn put_point(
     i: usize,
 ) -> usize
     requires { ⌜ at + lineLimit * 2 ≤ length (now out) ⌝ }
-    ensures { λ r. ⌜ PlacedAt (lineLimit * 2) (pointText (now (ts .entry)) (now (vs .entry)) (now (us .entry)) (now (ws .entry)) i) at r (now (out .entry)) (now (out .exit)) ⌝ }
+    ensures { λ r. ⌜ PlacedAt (lineLimit * 2) (linesAt (now (ts .entry)) (now (vs .entry)) (now (us .entry)) (now (ws .entry)) i) at r (now (out .entry)) (now (out .exit)) ⌝ }
 {
     let position = differences::position_at(ts, us, i as u64);
     let next = put_difference(out, at, position);
@@ -215,7 +215,7 @@ fn put_points(
     n: usize,
 ) -> usize
     requires { ⌜ (n ≤ maxPoints) × (at + lineLimit * 2 * n ≤ length (now out)) ⌝ }
-    ensures { λ r. ⌜ PlacedAt (lineLimit * 2 * n) (pointsText (now (ts .entry)) (now (vs .entry)) (now (us .entry)) (now (ws .entry)) n) at r (now (out .entry)) (now (out .exit)) ⌝ }
+    ensures { λ r. ⌜ PlacedAt (lineLimit * 2 * n) (linesBelow (now (ts .entry)) (now (vs .entry)) (now (us .entry)) (now (ws .entry)) n) at r (now (out .entry)) (now (out .exit)) ⌝ }
 {
     let mut end = at;
     let mut i = 0;

@@ -25,7 +25,7 @@ use Rattle.reasons.proofs.Reasons.{explained-past}
 use Rattle.outputs.proofs.Outputs.{take-over}
 use Rattle.inputs.specs.Inputs.{inputLimit}
 use Rattle.inputs.specs.Readings.{answerOf, Reading}
-use Rattle.inputs.proofs.Inputs.{read-own}
+use Rattle.inputs.proofs.Readings.{read-own}
 use Rattle.explain.specs.Indexes.{givenIndex, capped}
 use Rattle.explain.specs.Lines.{costLine, reasonLine}
 use Rattle.explain.specs.Printed.{bodyIn, costOf, offsetOf, pointText, indexText, answerText, printed}

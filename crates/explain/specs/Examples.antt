@@ -46,6 +46,7 @@ pub record Example : Type 0 where
   pub text : List ℕ
   pub expected : List ℕ
 
+-- the text l is to be the bytes p
 abbrev example : List ℕ → List ℕ → Example
 example l p = record { text = l; expected = p }
 

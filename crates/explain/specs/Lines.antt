@@ -1,19 +1,15 @@
 -- Document 02, No. 1: the lines that the program prints, as ASCII codes. Single spaces; each line ends in one newline.
---   ratioWord .. trailingWord   the fixed parts of a line
+--   bytesWord .. trailingWord   the fixed parts of a line that no other program has
 --   costLine i v n o            `ratio 1 c00e666666666666 3 bytes at 43`: index, the ratio's bits, how many bytes it took, the first one's offset
 --   xorLine p l t               the reason of an xor form
 --   reasonLine r                the reason: `equal to place 3`, `xor with place 0, 1 leading and 6 trailing zero bytes`, `exception, best sum 1`,
 --                               `exception, window empty`; or the line of a refusal, as the listing has it
 use mathlib.Core.List.{List, [], _∷_, _++_}
 use Prim.Native.Nat.{ℕ}
-use Rattle.text.specs.Lines.{newline, space, refusedLine}
+use Rattle.text.specs.Lines.{newline, space, ratioWord, refusedLine}
 use Rattle.text.specs.Numbers.{decimal, hex16}
 use Rattle.reasons.specs.declared.Reason.{Reason}
 use Rattle.reasons.specs.declared.Reason.the-variants.{Reference, Xor, Exception, Empty, Refused}
-
--- "ratio "
-abbrev pub ratioWord : List ℕ
-ratioWord = 114 ∷ 97 ∷ 116 ∷ 105 ∷ 111 ∷ 32 ∷ []
 
 -- " bytes at "
 abbrev pub bytesWord : List ℕ

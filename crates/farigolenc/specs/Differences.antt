@@ -14,11 +14,11 @@ use Rattle.differences.specs.declared.OverallDifferences.{OverallDifferences}
 use Rattle.farigolenc.specs.declared.KindAnswer.{KindAnswer}
 use Rattle.farigolenc.specs.declared.DifferenceAnswer.{DifferenceAnswer}
 use Rattle.farigolenc.specs.declared.OverallAnswer.{OverallAnswer}
-use Rattle.farigolenc.specs.Kinds.{positiveZero, kindNumbers}
+use Rattle.farigolenc.specs.Kinds.{zeroFloat, kindNumbers}
 
 -- all 0
 abbrev pub noKind : KindAnswer
-noKind = record { kind = 0; negative = 0; value = positiveZero; bits = 0 }
+noKind = record { kind = 0; negative = 0; value = zeroFloat; bits = 0 }
 
 -- in their order
 abbrev pub propertyNumber : Property → ℕ

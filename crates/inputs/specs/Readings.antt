@@ -1,7 +1,7 @@
 -- What reading an input left, for the programs that print of it.
 --   answerOf r ts vs     an answer by its parts: the answer r, and the outputs ts and vs
 --   Reading s r ts vs    the input s, which a program reads whole, was read strictly and with no rate expected: it answered r, and the outputs are ts and vs
---   RunHeld n ts vs         the first n numbers of two outputs are a run's
+--   RunHeld n ts vs      two outputs have n numbers each, no more than a run can have
 use mathlib.Core.List.{List}
 use mathlib.Core.Path.{_≡_}
 use Prim.Native.Nat.{ℕ, _≤_}
@@ -22,7 +22,7 @@ pub record Reading (s : List ℕ) (r : ReadAnswer) (ts vs : List ℕ) : Type 0 w
   pub whole : length s ≤ inputLimit
   pub answered : answerOf r ts vs ≡ readInput s
 
--- there are as many
+-- so many can be taken from the front of both
 pub record RunHeld (n : ℕ) (ts vs : List ℕ) : Type 0 where
   pub few : n ≤ maxPoints
   pub positions : n ≤ length ts

@@ -1,1 +1,1 @@
-// Laws of signed numbers.
+// Laws of integers, and of how the machine holds them.

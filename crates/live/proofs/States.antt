@@ -10,7 +10,7 @@ use Rattle.ratio_format.specs.declared.Cursor.{Cursor}
 use Rattle.ratio_format.specs.declared.StepAnswer.{StepAnswer}
 use Rattle.ratio_format.specs.Windows.{pushed}
 use Rattle.ratio_format.specs.Stepping.{stepAnswer, stepCursor}
-use Rattle.ratio_format.specs.Claims.{given}
+use Rattle.ratio_format.specs.Claims.{ratioGiven}
 use Rattle.ratio_format.proofs.Stepping.{Good, good-cursor, read-within, refusal, moved, StepOutcome, step-outcome, left-bad, left-end, left-over, left-no, left-ratio}
 use Rattle.live.specs.declared.stepping.Found.{Found}
 use Rattle.live.specs.States.{stepFound}
@@ -41,13 +41,13 @@ module _ (b : List ℕ) (c : Cursor) where
   found-none : (n : ℕ) → (stepAnswer b c ≡ refusal n) × (stepCursor b c ≡ c) → stepFound b c ≡ noRatio n
   found-none n t = parts (refusal n) c 0 t (omega arith)
 
-  found-ratio : (v k : ℕ) → (stepAnswer b c ≡ given v) × (stepCursor b c ≡ moved c v k) → stepFound b c ≡ aRatio v k
-  found-ratio v k t = parts (given v) (moved c v k) k t (omega arith)
+  found-ratio : (v k : ℕ) → (stepAnswer b c ≡ ratioGiven v) × (stepCursor b c ≡ moved c v k) → stepFound b c ≡ aRatio v k
+  found-ratio v k t = parts (ratioGiven v) (moved c v k) k t (omega arith)
 
   pub step-found-none : (f : Found) (n : ℕ) → f ≡ noRatio n → (stepAnswer b c ≡ refusal n) × (stepCursor b c ≡ c) → f ≡ stepFound b c
   step-found-none f n q t = q ∙ sym (found-none n t)
 
-  pub step-found-ratio : (v k : ℕ) → (stepAnswer b c ≡ given v) × (stepCursor b c ≡ moved c v k) → aRatio v k ≡ stepFound b c
+  pub step-found-ratio : (v k : ℕ) → (stepAnswer b c ≡ ratioGiven v) × (stepCursor b c ≡ moved c v k) → aRatio v k ≡ stepFound b c
   step-found-ratio v k t = sym (found-ratio v k t)
 
   -- ---- one of two
@@ -55,7 +55,7 @@ module _ (b : List ℕ) (c : Cursor) where
   -- no ratio, and the state stays; or a ratio that ends within the body
   data Finding (f : Found) : Type 0 where
     not-found : (n : ℕ) → 0 < n → f ≡ noRatio n → (stepAnswer b c ≡ refusal n) × (stepCursor b c ≡ c) → Finding f
-    one : (v k : ℕ) → Good b c → c .place + k ≤ length b → f ≡ aRatio v k → (stepAnswer b c ≡ given v) × (stepCursor b c ≡ moved c v k) → Finding f
+    one : (v k : ℕ) → Good b c → c .place + k ≤ length b → f ≡ aRatio v k → (stepAnswer b c ≡ ratioGiven v) × (stepCursor b c ≡ moved c v k) → Finding f
 
   module _ (f : Found) (e : f ≡ stepFound b c) where
     finding : Finding f

@@ -72,7 +72,7 @@ fn refuse(number: u32, state: Live, out: &mut [u8]) -> Addition
 }
 
 // The answer of an addition, and the numbers of the state after it.
-struct Outcome {
+struct AfterAdding {
     answer: AddAnswer,
     fill: u64,
     seen: u64,
@@ -87,7 +87,7 @@ fn added(
     ratio: u64,
     wrote: Wrote,
     out: &mut [u8],
-) -> Outcome
+) -> AfterAdding
     requires { ⌜ seen < maxPoints ⌝ }
     ensures { λ r. ⌜ (r .answer ≡ wroteAnswer wrote)
         × (liveOf (now (ratios .exit)) (r .fill) (r .seen) ≡ wroteState wrote (liveOf (now (ratios .entry)) fill seen) ratio)
@@ -100,7 +100,7 @@ fn added(
             place: 0,
             length: 0,
         };
-        return Outcome { answer, fill, seen };
+        return AfterAdding { answer, fill, seen };
     };
     let fill = push_cells(ratios, fill, ratio);
     let answer = AddAnswer {
@@ -108,7 +108,7 @@ fn added(
         place: 0,
         length: n as u64,
     };
-    Outcome {
+    AfterAdding {
         answer,
         fill,
         seen: seen + 1,

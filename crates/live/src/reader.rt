@@ -79,7 +79,8 @@ pub struct Two {
     pub second: StepAnswer,
 }
 
-// A reader of the body with this count, made and stepped twice.
+// A reader of the body with this count, made and stepped twice: what two steps answer follows from the contracts of `make` and `next`, though a
+// step changes the reader in place.
 pub fn first_two(body: &[u8], count: u64) -> Two
     ensures { λ t. ⌜ t ≡ firstTwo (now (body .entry)) count ⌝ }
 {

@@ -1,3 +1,3 @@
 -- Laws of how the functions of `read` go.
-pub mod PositionFound
+pub mod NextPosition
 pub mod State

@@ -35,14 +35,14 @@ zeroFirst [] = false
 zeroFirst (r ∷ rs) = both (same (r .prefix) (0 ∷ [])) (eqb (r .width) 0)
 
 -- a row's bits and both its ends fit a word of 64 bits
-abbrev inWord : Row → Bool
-inWord r = both (leb (r .width) 64) (both (ltb (natAbs (r .high)) (2 ^ 63)) (leb (natAbs (r .low)) (2 ^ 63)))
+abbrev fitsWord : Row → Bool
+fitsWord r = both (leb (r .width) 64) (both (ltb (natAbs (r .high)) (2 ^ 63)) (leb (natAbs (r .low)) (2 ^ 63)))
 
 -- codes have at most m bits, prefixes at most 5, and rows of at most 57 bits are even around 0
 abbrev soundTable : ℕ → List Row → Bool
 soundTable m rs =
     both (both (goodTable rs) (widening rs))
-    (both (both (lengths 1 m rs) (shortPrefixes 5 rs)) (both (both (evenUpTo 57 rs) (zeroFirst rs)) (every inWord rs)))
+    (both (both (lengths 1 m rs) (shortPrefixes 5 rs)) (both (both (evenUpTo 57 rs) (zeroFirst rs)) (every fitsWord rs)))
 
 -- the most bits of a code in each form
 abbrev pub mostBits : Form → ℕ
@@ -56,16 +56,16 @@ table-sound Wide = refl
 
 -- ---- its parts
 
-pub record Sound (m : ℕ) (rs : List Row) : Type 0 where
+pub record TableSound (m : ℕ) (rs : List Row) : Type 0 where
   pub good : goodTable rs ≡ true
   pub widens : widening rs ≡ true
   pub lengths : lengths 1 m rs ≡ true
   pub short : shortPrefixes 5 rs ≡ true
   pub even : evenUpTo 57 rs ≡ true
   pub zero-first : zeroFirst rs ≡ true
-  pub words : every inWord rs ≡ true
+  pub words : every fitsWord rs ≡ true
 
-pub form-sound : (f : Form) → Sound (mostBits f) (tableOf f)
+pub form-sound : (f : Form) → TableSound (mostBits f) (tableOf f)
 form-sound f =
     let rs = tableOf f in
     let p = both-true (both (goodTable rs) (widening rs)) _ (table-sound f) in
@@ -87,9 +87,9 @@ pub record InWord (r : Row) : Type 0 where
   pub high-fits : natAbs (r .high) < 2 ^ 63
   pub low-fits : natAbs (r .low) ≤ 2 ^ 63
 
-pub row-words : (rs : List Row) → every inWord rs ≡ true → (i : ℕ) → i < length rs → InWord (getD rs i noRow)
+pub row-words : (rs : List Row) → every fitsWord rs ≡ true → (i : ℕ) → i < length rs → InWord (getD rs i noRow)
 row-words rs e i h =
-    let p = both-true (leb (getD rs i noRow .width) 64) _ (every-at inWord rs noRow e i h) in
+    let p = both-true (leb (getD rs i noRow .width) 64) _ (every-at fitsWord rs noRow e i h) in
     let q = both-true (ltb (natAbs (getD rs i noRow .high)) (2 ^ 63)) _ (p .1) in
     record { narrow = leb-true _ _ (p .0); high-fits = ltb-true _ _ (q .0); low-fits = leb-true _ _ (q .1) }
 
@@ -103,7 +103,7 @@ pub record Zero (rs : List Row) : Type 0 where
   pub first : rowOf rs (pos 0) ≡ 0
   pub code : bitsOf 1 0 ≡ code rs (pos 0)
 
-pub zero-row : (m : ℕ) (rs : List Row) → Sound m rs → Zero rs
+pub zero-row : (m : ℕ) (rs : List Row) → TableSound m rs → Zero rs
 unfolding firstIndex code digitsOf
 zero-row m [] s = absurd (let z : _≡_ {A = ℕ} 0 1 = cc (s .zero-first) in omega arith)
 zero-row m (r ∷ rs) s =

@@ -14,7 +14,7 @@
 -- The definitions that go by a table take it as an argument, and their laws are proved of every table that passes one computed test
 -- (proofs/Tables, soundTable): no prefix begins another or has more than 5 bits, each row holds 2 ^ width numbers, 0 among them, codes have
 -- 1 to 36 bits, in the wide table to 69, ranges widen from row to row, rows of at most 57 bits hold as many steps below 0 as above it or one
--- fewer, and the first row holds 0 alone, in a code of one bit.
+-- fewer, the first row holds 0 alone, in a code of one bit, and each row's numbers and residues fit 64 bits.
 use mathlib.Core.Bool.{Bool, true, false, cond}
 use mathlib.Core.List.{List, [], _∷_, _++_}
 use Prim.Native.Nat.{ℕ, suc, _+_, _-_, _%_, _^_}

@@ -13,12 +13,12 @@ use Rattle.lists.proofs.Below.{below-at, below-replicate}
 use Rattle.ratio_format.specs.Windows.{windowSize, windowOf}
 use Rattle.ratio_format.specs.RatioForms.{coded}
 use Rattle.ratio_format.proofs.Windows.Before.{window-has, window-at, find-newest}
-use Rattle.ratio_bodies.specs.Indexes.{keys, keyOf, Bounded, Indexed, Trailing}
+use Rattle.ratio_bodies.specs.Indexes.{keys, keyOf, Bounded, Indexed, NearlyIndexed}
 use Rattle.ratio_codec.proofs.read.References.{coded-in}
 
 -- of no ratio
-pub trailing-start : (l : List ℕ) → Trailing (replicate keys 0) l 0
-trailing-start l = (
+pub nearly-start : (l : List ℕ) → NearlyIndexed (replicate keys 0) l 0
+nearly-start l = (
   (length-replicate {A = ℕ} keys 0, λ k. omega (arith, below-at 1 (omega arith) (replicate keys 0) (below-replicate 1 keys {d = 0} (omega arith)) k)),
   λ j h. absurd (omega arith),
 )
@@ -29,7 +29,7 @@ later ns i b = (b .0, λ k. omega (arith, b .1 k))
 
 -- one more: what is known of those before, and that the new one is the last
 more : (ns l : List ℕ) (i : ℕ) → Bounded ns i
-    → ((j : ℕ) → j < i → (j < getD ns (keyOf (getD l j 0)) 0) ⊎ (getD l j 0 ≡ getD l i 0)) → Trailing ns l (i + 1)
+    → ((j : ℕ) → j < i → (j < getD ns (keyOf (getD l j 0)) 0) ⊎ (getD l j 0 ≡ getD l i 0)) → NearlyIndexed ns l (i + 1)
 more ns l i b x = (later ns i b, λ j g. rw z (go j g (eqb j i) refl))
   where
     z : i + 1 - 1 ≡ i
@@ -40,23 +40,23 @@ more ns l i b x = (later ns i b, λ j g. rw z (go j g (eqb j i) refl))
     go j g false q = let n = eqb-false j i q in x j (omega arith)
 
 -- the first
-pub trailing-first : (ns l : List ℕ) → Trailing ns l 0 → Trailing ns l (0 + 1)
-trailing-first ns l x = more ns l 0 (x .0) (λ j g. absurd (omega arith))
+pub nearly-first : (ns l : List ℕ) → NearlyIndexed ns l 0 → NearlyIndexed ns l (0 + 1)
+nearly-first ns l x = more ns l 0 (x .0) (λ j g. absurd (omega arith))
 
 -- one that repeats the last
-pub trailing-same : (ns l : List ℕ) (i : ℕ) → 0 < i → getD l (i - 1) 0 ≡ getD l i 0 → Trailing ns l i → Trailing ns l (i + 1)
-trailing-same ns l i h e x = more ns l i (x .0) (λ j g. carry j (x .1 j g))
+pub nearly-same : (ns l : List ℕ) (i : ℕ) → 0 < i → getD l (i - 1) 0 ≡ getD l i 0 → NearlyIndexed ns l i → NearlyIndexed ns l (i + 1)
+nearly-same ns l i h e x = more ns l i (x .0) (λ j g. carry j (x .1 j g))
   where
     carry : (j : ℕ) → (j < getD ns (keyOf (getD l j 0)) 0) ⊎ (getD l j 0 ≡ getD l (i - 1) 0) → (j < getD ns (keyOf (getD l j 0)) 0) ⊎ (getD l j 0 ≡ getD l i 0)
     carry j (inl f) = inl f
     carry j (inr f) = inr (f ∙ e)
 
 -- any, where all are noted
-pub trailing-more : (ns l : List ℕ) (i : ℕ) → Indexed ns l i → Trailing ns l (i + 1)
-trailing-more ns l i x = more ns l i (x .0) (λ j g. inl (x .1 j g))
+pub nearly-more : (ns l : List ℕ) (i : ℕ) → Indexed ns l i → NearlyIndexed ns l (i + 1)
+nearly-more ns l i x = more ns l i (x .0) (λ j g. inl (x .1 j g))
 
 -- the last is noted, and with it all that are equal to it
-pub indexed-noted : (ns l : List ℕ) (i : ℕ) → 0 < i → Trailing ns l i → Indexed (set ns (keyOf (getD l (i - 1) 0)) (i - 1 + 1)) l i
+pub indexed-noted : (ns l : List ℕ) (i : ℕ) → 0 < i → NearlyIndexed ns l i → Indexed (set ns (keyOf (getD l (i - 1) 0)) (i - 1 + 1)) l i
 indexed-noted ns l i h x =
     ((length-set ns key (i - 1 + 1) ∙ x .0 .0, λ k. within k (eqb key k) refl), λ j g. passed j g (eqb key (keyOf (getD l j 0))) refl)
   where

@@ -3,7 +3,7 @@
 --   keyOf v           the key of the value v
 --   Bounded ns i      an entry for each key, none of which names a ratio from i on: an entry is 1 more than an index, or 0
 --   Indexed ns l i    of the first i ratios of l, none with a key is newer than its entry says
---   Trailing ns l i   the same but for those that are equal to the last of them, which may still be to be noted
+--   NearlyIndexed ns l i   the same but for those that are equal to the last of them, which may still be to be noted
 use mathlib.Core.List.{List}
 use mathlib.Core.Logic.{_⊎_}
 use mathlib.Core.Path.{_≡_}
@@ -27,5 +27,5 @@ abbrev pub Indexed : List ℕ → List ℕ → ℕ → Type 0
 Indexed ns l i = Bounded ns i × ((j : ℕ) → j < i → j < getD ns (keyOf (getD l j 0)) 0)
 
 -- or all but the last repeats
-abbrev pub Trailing : List ℕ → List ℕ → ℕ → Type 0
-Trailing ns l i = Bounded ns i × ((j : ℕ) → j < i → (j < getD ns (keyOf (getD l j 0)) 0) ⊎ (getD l j 0 ≡ getD l (i - 1) 0))
+abbrev pub NearlyIndexed : List ℕ → List ℕ → ℕ → Type 0
+NearlyIndexed ns l i = Bounded ns i × ((j : ℕ) → j < i → (j < getD ns (keyOf (getD l j 0)) 0) ⊎ (getD l j 0 ≡ getD l (i - 1) 0))

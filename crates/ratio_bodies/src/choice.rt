@@ -11,7 +11,7 @@ use ratio_codec::write::ratio_form_of;
 use ratio_format::RatioForm;
 use ratio_search::CELLS;
 use ratio_search::fill_planes;
-use ratio_search::find;
+use ratio_search::find_best;
 use ratio_window::window_start;
 
 // With fewer ratios before it than this a ratio is chosen by the plain scan, so that a short run needs no planes.
@@ -47,6 +47,6 @@ pub(crate) fn choose_nth(planes: &[u8; CELLS], ratios: &[u64], i: usize, v: u64)
     if i < FEW {
         return choose(&ratios[from..i], v);
     }
-    let b = find(planes, ratios, i, v);
+    let b = find_best(planes, ratios, i, v);
     ratio_form_of(b, &ratios[from..i], v)
 }

@@ -7,7 +7,7 @@ ghost use lib.ListN.{length, take, getD, set};
 ghost use Rattle.limits.specs.Points.{maxPoints};
 ghost use Rattle.ratio_format.specs.Windows.{windowSize, windowOf};
 ghost use Rattle.ratio_format.specs.RatioForms.{coded};
-ghost use Rattle.ratio_bodies.specs.Indexes.{keyOf, keys, Indexed, Trailing};
+ghost use Rattle.ratio_bodies.specs.Indexes.{keyOf, keys, Indexed, NearlyIndexed};
 use ratio_format::Window;
 
 // Stands for no place.
@@ -54,8 +54,8 @@ fn note(newest: &mut [u16; KEYS], i: usize, v: u64)
 
 // The ratio before ratio i is noted, and then the place of ratio i is looked up. Of repeats only the last needs to be noted.
 pub(crate) fn place_of(newest: &mut [u16; KEYS], ratios: &[u64], i: usize) -> usize
-    requires { ⌜ (i < length (now ratios)) × (length (now ratios) ≤ maxPoints) × Trailing (now newest) (now ratios) i ⌝ }
-    ensures { λ r. ⌜ Trailing (now (newest .exit)) (now (ratios .entry)) (i + 1)
+    requires { ⌜ (i < length (now ratios)) × (length (now ratios) ≤ maxPoints) × NearlyIndexed (now newest) (now ratios) i ⌝ }
+    ensures { λ r. ⌜ NearlyIndexed (now (newest .exit)) (now (ratios .entry)) (i + 1)
         × (r < windowSize → coded (getD (now (ratios .entry)) i 0) (windowOf windowSize (take i (now (ratios .entry)))) ≡ r ∷ []) ⌝ }
 {
     if i == 0 {

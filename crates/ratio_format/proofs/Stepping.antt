@@ -24,7 +24,7 @@ use Rattle.ratio_format.specs.Open.{strictOne}
 use Rattle.ratio_format.specs.Bodies.{codedFrom, codedRatios}
 use Rattle.ratio_format.specs.Lives.{badWindow}
 use Rattle.ratio_format.specs.Stepping.{made, madeBody, madeCursor, badCursor, nextRead, stepRefusal, stepAnswer, stepCursor}
-use Rattle.ratio_format.specs.Claims.{stepAnswers, stepCursors, given, ended, SteppingGives, SteppingEnds, SteppingOnly, CursorStays, MadeStays}
+use Rattle.ratio_format.specs.Claims.{stepAnswers, stepCursors, ratioGiven, ended, SteppingGives, SteppingEnds, SteppingOnly, CursorStays, MadeStays}
 use Rattle.ratio_format.proofs.Windows.{pushed-size, held-pushed, held-length, push-below}
 use Rattle.ratio_format.proofs.Open.{strict-takes, strict-open, strict-only, strict-used, open-value}
 use Rattle.ratio_format.proofs.Lives.{good-fill, window-stays, refusalBy}
@@ -104,7 +104,7 @@ module _ (b : List ℕ) (c : Cursor) where
 
   -- a ratio
   pub step-good : (v k : ℕ) → nextRead b c ≡ Ratio v k → stepRefusal b c ≡ noRefusal
-      → (stepAnswer b c ≡ given v) × (stepCursor b c ≡ moved c v k)
+      → (stepAnswer b c ≡ ratioGiven v) × (stepCursor b c ≡ moved c v k)
   unfolding stepAnswer stepCursor
   step-good v k r e = (simp (e, r), simp (e, r))
 
@@ -141,7 +141,7 @@ module _ (b : List ℕ) (c : Cursor) where
   left-no g s r = step-refused 18 refl (step-no g s r)
 
   pub left-ratio : (v k : ℕ) → badCursor b c ≡ false → (c .seen ≡ c .count → ⊥) → nextRead b c ≡ Ratio v k
-      → (stepAnswer b c ≡ given v) × (stepCursor b c ≡ moved c v k)
+      → (stepAnswer b c ≡ ratioGiven v) × (stepCursor b c ≡ moved c v k)
   left-ratio v k g s r = step-good v k r (step-none g s v k r)
 
 -- the count stays
@@ -205,7 +205,7 @@ module _ (b : List ℕ) (c : Cursor) (v : ℕ) (vs : List ℕ) (hv : v < 2 ^ 64)
   before-end : c .seen ≡ c .count → ⊥
   before-end e = omega (arith, e, s .more)
 
-  gives : stepAnswer b c ≡ given v
+  gives : stepAnswer b c ≡ ratioGiven v
   gives = left-ratio b c v (length (coded v w)) (s .good) before-end reads .0
 
   goes : stepCursor b c ≡ moved c v (length (coded v w))
@@ -240,7 +240,7 @@ standing-ends-on b c s (suc m) =
     let e = standing-ends b c s in
     ap₂ (λ (a : StepAnswer) (l : List StepAnswer). a ∷ l) (e .0) (ap (λ (d : Cursor). stepAnswers b d m) (e .1) ∙ standing-ends-on b c s m)
 
-standing-steps : (b : List ℕ) (c : Cursor) (vs : List ℕ) → Below (2 ^ 64) vs → Standing b c vs → (m : ℕ) → stepAnswers b c (length vs + m) ≡ map given vs ++ replicate m ended
+standing-steps : (b : List ℕ) (c : Cursor) (vs : List ℕ) → Below (2 ^ 64) vs → Standing b c vs → (m : ℕ) → stepAnswers b c (length vs + m) ≡ map ratioGiven vs ++ replicate m ended
 unfolding stepAnswers Below
 standing-steps b c [] h s m = rw zero-add (standing-ends-on b c s m)
 standing-steps b c (v ∷ vs) h s m =
@@ -310,7 +310,7 @@ says-end b c e = go (step-outcome b c)
     go (no g s r) = absurd (omega (arith, number (left-no b c g s r .0)))
     go (yes v k g s r) = absurd (omega (arith, number (left-ratio b c v k g s r .0)))
 
-says-ratio : (b : List ℕ) (c : Cursor) (v : ℕ) → stepAnswer b c ≡ given v
+says-ratio : (b : List ℕ) (c : Cursor) (v : ℕ) → stepAnswer b c ≡ ratioGiven v
     → (k : ℕ) × (badCursor b c ≡ false) × (nextRead b c ≡ Ratio v k) × (stepCursor b c ≡ moved c v k)
 says-ratio b c v e = go (step-outcome b c)
   where
@@ -333,14 +333,14 @@ drop-joins b at k x t y e q f =
     e ∙ ap (λ (l : List ℕ). x ++ l) (sym (drop-at x t k (sym q)) ∙ sym (ap (drop k) e) ∙ drop-drop k at b ∙ f)
 
 only-from : (b : List ℕ) (c : Cursor) (vs : List ℕ) → Below 256 b → length (c .window .ratios) ≡ windowSize → Below (2 ^ 64) (held (c .window))
-    → stepAnswers b c (length vs + 1) ≡ map given vs ++ (ended ∷ [])
+    → stepAnswers b c (length vs + 1) ≡ map ratioGiven vs ++ (ended ∷ [])
     → drop (c .place) b ≡ codedFrom windowSize (held (c .window)) vs
 unfolding stepAnswers codedFrom
 only-from b c [] hb size below e =
     let p = says-end b c (ap (λ (l : List StepAnswer). getD l 0 ended) e) in
     rw (p, drop-length)
 only-from b c (v ∷ vs) hb size below e =
-    let q : stepAnswer b c ∷ stepAnswers b (stepCursor b c) (length vs + 1) ≡ given v ∷ (map given vs ++ (ended ∷ [])) = rw suc-add at e in
+    let q : stepAnswer b c ∷ stepAnswers b (stepCursor b c) (length vs + 1) ≡ ratioGiven v ∷ (map ratioGiven vs ++ (ended ∷ [])) = rw suc-add at e in
     let w = held (c .window) in
     let s = drop (c .place) b in
     let y = says-ratio b c v (ap (λ (l : List StepAnswer). getD l 0 ended) q) in
@@ -363,11 +363,11 @@ pub stepping-only : SteppingOnly
 unfolding Below stepAnswers
 stepping-only b vs hb e = go (ltb maxPoints (length vs)) refl
   where
-    no-first : (us : List ℕ) → maxPoints < length us → stepAnswers [] (started 0) (length us + 1) ≡ map given us ++ (ended ∷ []) → ⊥
+    no-first : (us : List ℕ) → maxPoints < length us → stepAnswers [] (started 0) (length us + 1) ≡ map ratioGiven us ++ (ended ∷ []) → ⊥
     no-first [] h q = omega arith
     no-first (u ∷ us) h q =
-        let all : stepAnswer [] (started 0) ∷ stepAnswers [] (stepCursor [] (started 0)) (length us + 1) ≡ given u ∷ (map given us ++ (ended ∷ [])) = rw suc-add at q in
-        let first : stepAnswer [] (started 0) ≡ given u = ap (λ (l : List StepAnswer). getD l 0 ended) all in
+        let all : stepAnswer [] (started 0) ∷ stepAnswers [] (stepCursor [] (started 0)) (length us + 1) ≡ ratioGiven u ∷ (map ratioGiven us ++ (ended ∷ [])) = rw suc-add at q in
+        let first : stepAnswer [] (started 0) ≡ ratioGiven u = ap (λ (l : List StepAnswer). getD l 0 ended) all in
         omega (arith, ap (λ (a : StepAnswer). a .number) (sym refused-ends ∙ first))
 
     go : (t : Bool) → ltb maxPoints (length vs) ≡ t → b ≡ codedRatios vs

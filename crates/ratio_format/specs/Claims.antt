@@ -9,7 +9,7 @@
 --   addTaken s ts      the ratios of those that answered 0
 --   stepAnswers b c n  the answers of n successive steps through the body b, from the state c
 --   stepCursors b c n  the state after them
---   given v            the answer of a step that gives the ratio v
+--   ratioGiven v       the answer of a step that gives the ratio v
 --   ended              the answer of a step when all are given and the body is used up
 --   RatioBytes         a ratio takes 1, 3 to 8, or 9 bytes
 --   BodyBytes          the ratios body is a string of bytes
@@ -86,8 +86,8 @@ stepCursors b c zero = c
 stepCursors b c (suc n) = stepCursors b (stepCursor b c) n
 
 -- a ratio
-abbrev pub given : ℕ → StepAnswer
-given v = record { number = 0; place = 0; ratio = v }
+abbrev pub ratioGiven : ℕ → StepAnswer
+ratioGiven v = record { number = 0; place = 0; ratio = v }
 
 -- the end
 abbrev pub ended : StepAnswer
@@ -125,7 +125,7 @@ LiveStays = (k : Coder) (s : Live) (v : ℕ) (o : List ℕ) → badLive s ≡ fa
 -- as many steps as there are ratios give these, and m more give the end
 abbrev pub SteppingGives : Type 0
 SteppingGives = (vs : List ℕ) → length vs ≤ maxPoints → Below (2 ^ 64) vs → (m : ℕ)
-    → stepAnswers (madeBody (length vs) (codedRatios vs)) (madeCursor (length vs)) (length vs + m) ≡ map given vs ++ replicate m ended
+    → stepAnswers (madeBody (length vs) (codedRatios vs)) (madeCursor (length vs)) (length vs + m) ≡ map ratioGiven vs ++ replicate m ended
 
 -- the state after the last ratio
 abbrev pub SteppingEnds : Type 0
@@ -137,7 +137,7 @@ SteppingEnds = (vs : List ℕ) → length vs ≤ maxPoints → Below (2 ^ 64) vs
 -- "stepping is strict": a body through which a reader gives as many ratios as its count and then the end is their coding
 abbrev pub SteppingOnly : Type 0
 SteppingOnly = (b vs : List ℕ) → Below 256 b
-    → stepAnswers (madeBody (length vs) b) (madeCursor (length vs)) (length vs + 1) ≡ map given vs ++ (ended ∷ [])
+    → stepAnswers (madeBody (length vs) b) (madeCursor (length vs)) (length vs + 1) ≡ map ratioGiven vs ++ (ended ∷ [])
     → b ≡ codedRatios vs
 
 -- whatever the body is

@@ -68,7 +68,7 @@ fn shift(cells: &mut [u64], v: u64)
     cells[Window::SIZE - 1] = v;
 }
 
-// The same in place: the cells of a window with this fill become those after the ratio v. The answer is the fill afterwards.
+// `Window::push` in place: the cells of a window with this fill become those after the ratio v. The answer is the fill afterwards.
 pub fn push_cells(cells: &mut [u64; Window::SIZE], fill: u64, v: u64) -> u64
     ensures { λ r. ⌜ record { ratios = now (cells .exit); fill = r } ≡ pushed (record { ratios = now (cells .entry); fill = fill }) v ⌝ }
 {

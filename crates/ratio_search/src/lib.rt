@@ -15,4 +15,4 @@ mod search;
 pub use planes::CELLS;
 pub use planes::SLOTS;
 pub use planes::fill_planes;
-pub use search::find;
+pub use search::find_best;

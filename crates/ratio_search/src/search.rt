@@ -88,7 +88,7 @@ fn pass(
 }
 
 // The best of the window of ratio i for v, newest first; an equal ratio ends the search.
-pub fn find(planes: &[u8; CELLS], ratios: &[u64], i: usize, v: u64) -> Best
+pub fn find_best(planes: &[u8; CELLS], ratios: &[u64], i: usize, v: u64) -> Best
     requires { ⌜ (0 < i) × (i ≤ length (now ratios)) × Planes (now planes) (now ratios) (i - windowSize) i ⌝ }
     ensures { λ r. ⌜ Searched v (windowOf windowSize (take i (now (ratios .entry)))) (r .place) (r .sum) ⌝ }
 {

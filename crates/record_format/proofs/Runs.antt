@@ -74,8 +74,8 @@ abbrev pub openingFieldCount : ℕ
 openingFieldCount = 2
 
 -- and how many from the count's on
-abbrev pub pointFieldCount : ℕ
-pointFieldCount = 3
+abbrev pub closingFieldCount : ℕ
+closingFieldCount = 3
 
 -- ---- its front
 

@@ -30,7 +30,7 @@ use Rattle.record_format.specs.SideClaims.{rateBytes, sideBytes, Expects
 use Rattle.record_format.proofs.Fields.{FieldStands, length-field, field-stands, head-stands}
 use Rattle.record_format.proofs.Reading.{head-short, tag-other, length-other, body-short, field-passes, tests-flat, read-refused, other-rate-not, other-rate-none}
 use Rattle.record_format.proofs.Reading.Shifted.{FieldsShifted, later-fields, end-shifted, count-same, form-same, positions-same, ratios-same, count-tests-shifted, room-tests-shifted, positions-tests-shifted, ratios-tests-shifted}
-use Rattle.record_format.proofs.Runs.{pointFieldCount}
+use Rattle.record_format.proofs.Runs.{closingFieldCount}
 use Rattle.record_format.proofs.Reading.Sides.{absent-count, absent-tests, present-count, present-side, present-tests}
 
 -- the offset of the side's field, past the rate's
@@ -379,9 +379,9 @@ module _ (k : ℕ → List ℕ → Option (List ℕ)) (e r d : ℕ) (rest ts vs 
     count-here : countAt without ≡ side-place
     count-here = absent-count without absent ∙ at-side k e r rest ts vs
 
-    points : FieldsShifted side-takes without (countAt without) with-side (countAt with-side) pointFieldCount
+    points : FieldsShifted side-takes without (countAt without) with-side (countAt with-side) closingFieldCount
     points =
-        later-fields side-takes without with-side (omega (arith, length-both, length-all k e r rest ts vs)) (countAt without) (countAt with-side) pointFieldCount (at-count ∙ omega (arith, count-here))
+        later-fields side-takes without with-side (omega (arith, length-both, length-all k e r rest ts vs)) (countAt without) (countAt with-side) closingFieldCount (at-count ∙ omega (arith, count-here))
         (rest-past ∙ sym (ap (λ (p : ℕ). drop p without) count-here ∙ rest-here k e r rest ts vs))
 
     tests-further : from-count k e r (sideBytes d ++ rest) ts vs ≡ map (further side-takes) (from-count k e r rest ts vs)

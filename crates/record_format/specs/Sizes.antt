@@ -23,6 +23,7 @@ use Rattle.position_format.specs.declared.Form.{Form}
 use Rattle.position_format.specs.declared.Form.the-variants.{Old, Wide}
 use Rattle.position_format.specs.Tables.{tableOf, pointsOf}
 use Rattle.position_format.specs.Positions.{codedPositions}
+use Rattle.ratio_format.specs.Windows.{windowSize}
 use Rattle.ratio_format.specs.Bodies.{codedRatios}
 use Rattle.record_format.specs.Runs.{Run, run, sideLength, recordOf}
 use Rattle.record_format.specs.Claims.{Accepted}
@@ -77,9 +78,10 @@ farOf Wide = 2 ^ 40
 abbrev pub swing : Form → ℕ → ℕ
 swing f i = i % 2 * farOf f
 
--- i modulo 128 in the top byte and in the lowest: any two of 128 in a row differ in both bytes, so that each is an exception
+-- i modulo 128, one more than a window holds, in the top byte and in the lowest: any two of 128 in a row differ in both bytes, so that each is an
+-- exception
 abbrev pub twoEnds : ℕ → ℕ
-twoEnds i = i % 128 * (2 ^ 56 + 1)
+twoEnds i = i % (windowSize + 1) * (2 ^ 56 + 1)
 
 -- as many points as a run can have, each as long as it can be
 unfoldable pub longest : Form → ℕ → Run

@@ -16,7 +16,7 @@ use Rattle.refusals.proofs.Tests.{numbered, firstOf-end, firstOf-none, firstOf-
 use Rattle.record_format.specs.Fields.{tagSize, lengthSize, headSize, tagAt, lengthAt, bodyAt, nextAt, fieldTests}
 use Rattle.record_format.proofs.Fields.{next-most}
 use Rattle.record_format.proofs.Reading.{Stated, field-clear, head-short, tag-other, length-other, body-short, field-good}
-use Rattle.record_parts.specs.declared.field.Field.{Field}
+use Rattle.record_parts.specs.declared.field.FieldBody.{FieldBody}
 use Rattle.record_parts.specs.Fields.{lengthGood, PartRead, FieldRead}
 
 -- of a refused part nothing else is said
@@ -41,19 +41,19 @@ module _ (s tags : List ℕ) (n : Option ℕ) (p : ℕ) where
   alone = ap firstOf (append-nil tests)
 
   -- the answer of a refusal with the number x
-  refused : (r : Field) (x : ℕ) → r ≡ record { refusal = refusal x p; from = 0; to = 0 } → (x ≡ 0 → ⊥) → refusal x p ≡ firstOf (tests ++ []) → FieldRead tests s p r
+  refused : (r : FieldBody) (x : ℕ) → r ≡ record { refusal = refusal x p; from = 0; to = 0 } → (x ≡ 0 → ⊥) → refusal x p ≡ firstOf (tests ++ []) → FieldRead tests s p r
   refused r x e d h =
       subst (FieldRead tests s p) (sym e)
       (record { part = part-refused tests s p (refusal x p) 0 d (h ∙ alone); from = λ z. absurd (d z) })
 
-  pub field-head : (r : Field) → r ≡ record { refusal = refusal 10 p; from = 0; to = 0 } → p ≤ length s → length s - p < headSize → FieldRead tests s p r
+  pub field-head : (r : FieldBody) → r ≡ record { refusal = refusal 10 p; from = 0; to = 0 } → p ≤ length s → length s - p < headSize → FieldRead tests s p r
   field-head r e a h = refused r 10 e (λ z. omega arith) (head-short s tags n p [] (omega arith))
 
   module _ (inside : p ≤ length s) (head : headSize ≤ length s - p) where
     whole-head : p + headSize ≤ length s
     whole-head = omega arith
 
-    pub field-tag : (r : Field) → r ≡ record { refusal = refusal 11 p; from = 0; to = 0 } → member (getD s p 0) tags ≡ false → FieldRead tests s p r
+    pub field-tag : (r : FieldBody) → r ≡ record { refusal = refusal 11 p; from = 0; to = 0 } → member (getD s p 0) tags ≡ false → FieldRead tests s p r
     unfolding tagAt
     field-tag r e h = refused r 11 e (λ z. omega arith) (tag-other s tags n p [] whole-head h)
 
@@ -70,7 +70,7 @@ module _ (s tags : List ℕ) (n : Option ℕ) (p : ℕ) where
       unfolding nextAt
       next-is = ap (λ (k : ℕ). p + headSize + k) length-is
 
-      pub field-length : (r : Field) → r ≡ record { refusal = refusal 12 p; from = 0; to = 0 } → lengthGood n l ≡ false → FieldRead tests s p r
+      pub field-length : (r : FieldBody) → r ≡ record { refusal = refusal 12 p; from = 0; to = 0 } → lengthGood n l ≡ false → FieldRead tests s p r
       field-length r e h =
           let o = stated-other n l h in
           refused r 12 e (λ z. omega arith) (length-other s tags n p [] whole-head tag-good (o .0) (o .1) (λ z. o .2 (sym length-is ∙ z)))
@@ -79,7 +79,7 @@ module _ (s tags : List ℕ) (n : Option ℕ) (p : ℕ) where
         length-good : Stated n (lengthAt s p)
         length-good = subst (Stated n) (sym length-is) (stated-as n l good)
 
-        pub field-body : (r : Field) → r ≡ record { refusal = refusal 10 p; from = 0; to = 0 } → length s - (p + headSize) < l → FieldRead tests s p r
+        pub field-body : (r : FieldBody) → r ≡ record { refusal = refusal 10 p; from = 0; to = 0 } → length s - (p + headSize) < l → FieldRead tests s p r
         field-body r e h = refused r 10 e (λ z. omega arith) (body-short s tags n p [] whole-head tag-good length-good (omega (arith, next-is)))
 
         pub field-found : Below 256 s → l ≤ length s - (p + headSize) → FieldRead tests s p (record { refusal = noRefusal; from = p + headSize; to = p + headSize + l })
@@ -124,7 +124,7 @@ module _ (fs ts : List Test) (s : List ℕ) (p : ℕ) (f : Refusal) (end : ℕ) 
     }
 
 -- a field of n bytes that is not refused: its number
-module _ (s : List ℕ) (tag n p : ℕ) (f : Field) (h : FieldRead (fieldTests s (tag ∷ []) (some n) p) s p f) (clear : f .refusal .number ≡ 0) where
+module _ (s : List ℕ) (tag n p : ℕ) (f : FieldBody) (h : FieldRead (fieldTests s (tag ∷ []) (some n) p) s p f) (clear : f .refusal .number ≡ 0) where
   sized : lengthAt s p ≡ n
   sized =
       field-clear s (tag ∷ []) (some n) p [] (ap (λ (l : List Test). firstOf l .number) (append-nil (fieldTests s (tag ∷ []) (some n) p)) ∙ sym (ap (λ (g : Refusal). g .number) (h .part .refuses)) ∙ clear) .0 .stated

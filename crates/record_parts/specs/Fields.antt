@@ -3,8 +3,8 @@
 --   farthest n          the farthest offset that n fields can end at
 --   maxPlace            offsets up to here are returned as places, in 32 bits
 --   lengthAsked l       the length that a field must state, or nothing; lengthGood: whether a length is that one
---   PartRead ..         a part of a record, read from the offset p on: its refusal, or the offset past its last field
---   FieldRead ..        the same of one field, with the start of its body
+--   PartRead ..         a field of a record, read at the offset p by these tests: their refusal, or the offset past it
+--   FieldRead ..        the same, with the start of its body
 --   NumberRead ..       the same of a field that holds a number, with the number
 --   SideRead s f        the same of the side's field, which may be missing: then the side is 0, and the count's stands in its place
 --   noFront g           a front with the refusal g, and zeros
@@ -36,7 +36,7 @@ use Rattle.ratio_format.specs.Bodies.{codedRatios, openRatios, strictRatios}
 use Rattle.record_format.specs.Fields.{headSize, maxBody, bodyAt, nextAt}
 use Rattle.record_format.specs.Runs.{positionsTag, ratiosTag, sideSize}
 use Rattle.record_format.specs.Reading.{listOf, sideAt, countAt, positionsAt, ratiosAt, endAt, rateIn, sideIn, countIn, formIn, positionsIn, ratiosIn, sideTests, frontTests, positionsTests, ratiosTests}
-use Rattle.record_parts.specs.declared.field.Field.{Field}
+use Rattle.record_parts.specs.declared.field.FieldBody.{FieldBody}
 use Rattle.record_parts.specs.declared.field.Length.{Length}
 use Rattle.record_parts.specs.declared.field.Length.the-variants.{Any, Exactly}
 use Rattle.record_parts.specs.declared.front.Number.{Number}
@@ -78,7 +78,7 @@ pub record PartRead (tests : List Test) (s : List ℕ) (p : ℕ) (f : Refusal) (
   pub near : f .number ≡ 0 → nextAt s p ≤ p + longestField
 
 -- one field, with the start of its body
-pub record FieldRead (tests : List Test) (s : List ℕ) (p : ℕ) (f : Field) : Type 0 where
+pub record FieldRead (tests : List Test) (s : List ℕ) (p : ℕ) (f : FieldBody) : Type 0 where
   pub part : PartRead tests s p (f .refusal) (f .to)
   pub from : f .refusal .number ≡ 0 → f .from ≡ p + headSize
 

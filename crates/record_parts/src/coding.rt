@@ -74,7 +74,7 @@ pub fn is_in(form: Form, input: &[u8], at: usize) -> bool
     is_head_whole(input, at) && has_tag(input, at, form_tag(form))
 }
 
-// The tag of its field.
+// The tag of the field of numbers that are coded so.
 pub(crate) fn tag_of(coding: Coding) -> u8
     ensures { λ r. ⌜ r ≡ tagOf coding ⌝ }
 {
@@ -164,8 +164,8 @@ pub fn read_positions(
 pub(crate) fn read_ratios(
     openly: bool,
     input: &[u8],
-    at: usize,
     count: usize,
+    at: usize,
     out: &mut [u64],
 ) -> Part
     requires { ⌜ RatiosDue (now input) at count (now out) ⌝ }

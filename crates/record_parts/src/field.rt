@@ -22,7 +22,7 @@ pub enum Length {
 }
 
 // A field: its refusal, or where its body starts and ends.
-pub struct Field {
+pub struct FieldBody {
     pub refusal: Refusal,
     pub from: usize,
     pub to: usize,
@@ -69,11 +69,11 @@ fn is_length(asked: Length, n: usize) -> bool
 }
 
 // No field: the refusal with this number, at its offset.
-fn no_field(number: u32, at: usize) -> Field
+fn no_field(number: u32, at: usize) -> FieldBody
     requires { ⌜ at ≤ maxPlace ⌝ }
     ensures { λ r. ⌜ r ≡ record { refusal = record { number = number; place = at }; from = 0; to = 0 } ⌝ }
 {
-    Field {
+    FieldBody {
         refusal: Refusal {
             number,
             place: at as u32,
@@ -84,7 +84,7 @@ fn no_field(number: u32, at: usize) -> Field
 }
 
 // The field at an offset: whole head, a tag of those that are good, the length that is asked for, whole body.
-pub(crate) fn read_field(input: &[u8], at: usize, tags: &[u8], asked: Length) -> Field
+pub(crate) fn read_field(input: &[u8], at: usize, tags: &[u8], asked: Length) -> FieldBody
     requires { ⌜ (at ≤ length (now input)) × (at ≤ maxPlace) ⌝ }
     ensures { λ r. ⌜ FieldRead (fieldTests (now (input .entry)) (now (tags .entry)) (lengthAsked asked) at) (now (input .entry)) at r ⌝ }
 {
@@ -102,7 +102,7 @@ pub(crate) fn read_field(input: &[u8], at: usize, tags: &[u8], asked: Length) ->
     if input.len() - from < n {
         return no_field(10, at);
     }
-    Field {
+    FieldBody {
         refusal: Refusal {
             number: 0,
             place: 0,

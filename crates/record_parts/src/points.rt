@@ -30,7 +30,8 @@ fn no_points(refusal: Refusal) -> Points
 }
 
 // The points past a count, whose field stands at `place` and ends at `at`, at the front of the outputs, which have room for them; the ratios by the
-// open rule or strictly. They are given one by one: a front as one argument costs the loop over the positions registers.
+// open rule or strictly. Count, place and offset are three arguments: a front as one costs the loop over the
+// positions registers.
 pub fn read_points(
     openly: bool,
     input: &[u8],
@@ -50,7 +51,7 @@ pub fn read_points(
     if positions_number != 0 {
         return no_points(positions_refused);
     }
-    let values = read_ratios(openly, input, points.end, count, ratios);
+    let values = read_ratios(openly, input, count, points.end, ratios);
     let ratios_refused = values.refusal;
     let ratios_number = ratios_refused.number;
     if ratios_number != 0 {

@@ -17,17 +17,21 @@ use Rattle.span.specs.declared.SpanAnswer.{SpanAnswer}
 use Rattle.span.specs.Spans.{spanned}
 use Rattle.span.specs.Claims.{spanOf}
 
+-- a rate, positions, and the answer
 pub record Example : Type 0 where
   pub rate : ℕ
   pub positions : List ℕ
   pub answer : SpanAnswer
 
+-- m milliseconds forwards
 abbrev spans : ℕ → List ℕ → ℕ → Example
 spans r ts m = record { rate = r; positions = ts; answer = spanOf (pos m) }
 
+-- m milliseconds backwards
 abbrev back : ℕ → List ℕ → ℕ → Example
 back r ts m = record { rate = r; positions = ts; answer = spanOf (negℤ (pos m)) }
 
+-- refused with the number n at the place p
 abbrev refuses : ℕ → List ℕ → ℕ → ℕ → Example
 refuses r ts n p = record { rate = r; positions = ts; answer = record { number = n; place = p; milliseconds = pos 0 } }
 

@@ -1,6 +1,6 @@
 -- Document 01, "Bytes to compare", the listing, with the side of document 02, No. 2: what the lines of several programs share. Single spaces; each
 -- line ends in one newline.
---   newline, space, rateWord .. atWord    fixed parts of a line
+--   newline, space, ratioWord .. atWord   fixed parts of a line
 --   refusedLine n p                       `refused 10 at 0`: a refusal's number and place
 use mathlib.Core.List.{List, [], _∷_, _++_}
 use Prim.Native.Nat.{ℕ}
@@ -10,9 +10,13 @@ use Rattle.text.specs.Numbers.{decimal}
 abbrev pub newline : List ℕ
 newline = 10 ∷ []
 
--- what stands between a position and its ratio
+-- what stands between two parts of a line
 abbrev pub space : List ℕ
 space = 32 ∷ []
+
+-- "ratio "
+abbrev pub ratioWord : List ℕ
+ratioWord = 114 ∷ 97 ∷ 116 ∷ 105 ∷ 111 ∷ 32 ∷ []
 
 -- "rate "
 abbrev pub rateWord : List ℕ

@@ -8,7 +8,7 @@ use lib.Seq.{length-take-le}
 use Rattle.limits.specs.Points.{maxPoints}
 use Rattle.text.proofs.PlacedAt.{placed-same, placed-within, placed-then}
 use Rattle.inputs.specs.Readings.{RunHeld}
-use Rattle.inputs.proofs.Inputs.{read-held}
+use Rattle.inputs.proofs.Readings.{read-held}
 use Rattle.differences.specs.declared.OverallDifferences.{OverallDifferences}
 use Rattle.differences.proofs.Overall.{overall-clear}
 use Rattle.compare.proofs.Printed.{refused-text, lines-text}

@@ -10,7 +10,7 @@ use Rattle.ratio_format.specs.Bodies.{codedRatios}
 use Rattle.text.proofs.PlacedAt.{placed-same, placed-within}
 use Rattle.inputs.specs.Inputs.{inputLimit}
 use Rattle.inputs.specs.Readings.{RunHeld}
-use Rattle.inputs.proofs.Inputs.{read-held}
+use Rattle.inputs.proofs.Readings.{read-held}
 use Rattle.explain.specs.Indexes.{givenIndex}
 use Rattle.explain.specs.Printed.{bodyIn, pointText}
 use Rattle.explain.proofs.Printed.{point-capped, refused-text, body-start, run-text}

@@ -4,7 +4,7 @@ use mathlib.Core.Path.{_≡_, refl, sym, ap, _∙_}
 use Prim.Native.Nat.{ℕ}
 use mir.Val.{boolByte}
 use borrow.Author.Needs.{needs}
-use Rattle.farigolenc.specs.Kinds.{positiveZero, kindNumbers}
+use Rattle.farigolenc.specs.Kinds.{zeroFloat, kindNumbers}
 use Rattle.farigolenc.proofs.kind_numbers.Statement.{statement}
 use Rattle.farigolenc.proofs.kind_numbers.Tie as tie
 
@@ -30,7 +30,7 @@ returns c = ap kindNumbers (sym (c .before .k .given .1))
 
 returns-2 : tie.Need-returns-2
 returns-2 c =
-    ap (λ (n : ℕ). record { kind = 1; negative = n; value = positiveZero; bits = 0 }) (as-number (c .before .k2 .given .0 .0))
+    ap (λ (n : ℕ). record { kind = 1; negative = n; value = zeroFloat; bits = 0 }) (as-number (c .before .k2 .given .0 .0))
     ∙ ap kindNumbers (sym (c .before .k2 .given .1))
 
 returns-3 : tie.Need-returns-3

@@ -1,6 +1,6 @@
 -- `inputs::read_input` meets its contract, by what strict reading leaves.
 use Rattle.lists.proofs.Below.{below-of}
-use Rattle.inputs.proofs.Inputs.{reading-of}
+use Rattle.inputs.proofs.Readings.{reading-of}
 use borrow.Author.Needs.{needs}
 use Rattle.inputs.proofs.read_input.Statement.{statement}
 use Rattle.inputs.proofs.read_input.Tie as tie

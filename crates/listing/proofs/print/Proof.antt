@@ -10,7 +10,7 @@ use mir.ValLaws.{toZ-ofZ}
 use Rattle.span.specs.declared.SpanAnswer.{SpanAnswer}
 use Rattle.text.proofs.PlacedAt.{placed-same, placed-within}
 use Rattle.inputs.specs.Readings.{RunHeld}
-use Rattle.inputs.proofs.Inputs.{read-held}
+use Rattle.inputs.proofs.Readings.{read-held}
 use Rattle.listing.proofs.Printed.{refused-text, run-text, listing-within}
 use borrow.Author.Needs.{needs}
 use Rattle.listing.proofs.print.Statement.{statement}

@@ -12,16 +12,16 @@ use lib.ListN.{length, drop, replicate, length-replicate}
 use Rattle.ratio_format.specs.Windows.{windowSize}
 use Rattle.ratio_search.specs.BytePlanes.{slots, cells, Kept}
 use Rattle.ratio_search.proofs.BytePlanes.{kept-start, planes-part}
-use Rattle.ratio_bodies.specs.Indexes.{Trailing}
-use Rattle.ratio_bodies.proofs.Indexes.{trailing-start}
+use Rattle.ratio_bodies.specs.Indexes.{NearlyIndexed}
+use Rattle.ratio_bodies.proofs.Indexes.{nearly-start}
 use Rattle.ratio_bodies.proofs.put_ratios.Proof.Turns.{Writing, part, writing-start, writing-full, writing-on, writing-more, writing-all}
-use Rattle.ratio_bodies.proofs.repeats.Repeated.{repeats-coded, repeats-trailing}
+use Rattle.ratio_bodies.proofs.repeats.Repeated.{repeats-coded, repeats-nearly}
 use Rattle.ratio_bodies.proofs.put_ratios.Statement.{statement}
 use Rattle.ratio_bodies.proofs.put_ratios.Tie as tie
 
 abbrev Inv-loop : tie.InvT-loop
 Inv-loop ratios out₀ planes₀ slots₀ done₀ at₀ i₀ out planes slots done at i =
-    Writing ratios out₀ out at i × Kept planes ratios done × (done ≤ i) × Trailing slots ratios i
+    Writing ratios out₀ out at i × Kept planes ratios done × (done ≤ i) × NearlyIndexed slots ratios i
 
 abbrev μ-loop : tie.MeasureT-loop
 μ-loop ratios out₀ planes₀ slots₀ done₀ at₀ i₀ out planes slots done at i = length ratios - i
@@ -29,7 +29,7 @@ abbrev μ-loop : tie.MeasureT-loop
 loop-holds : tie.Need-loop-holds Inv-loop μ-loop
 loop-holds c =
     let a = c .before .before .args in
-    (writing-start (a .ratios .now) (a .out .now), kept-start (replicate cells 0) (a .ratios .now) refl, omega arith, trailing-start (a .ratios .now))
+    (writing-start (a .ratios .now) (a .out .now), kept-start (replicate cells 0) (a .ratios .now) refl, omega arith, nearly-start (a .ratios .now))
 
 place-of-requires : tie.Need-place-of-requires Inv-loop μ-loop
 place-of-requires c κs =
@@ -203,7 +203,7 @@ loop-again c =
       all c,
       f .ensures .0,
       omega (arith, f .ensures .1),
-      repeats-trailing (ratios (d c)) (i (d c) + 1) (omega arith) (n .last .0) (k c) (p .ensures .1) (n .ensures .0),
+      repeats-nearly (ratios (d c)) (i (d c) + 1) (omega arith) (n .last .0) (k c) (p .ensures .1) (n .ensures .0),
     )
 
 same-length-2 : tie.Need-same-length-2 Inv-loop μ-loop

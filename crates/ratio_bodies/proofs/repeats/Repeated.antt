@@ -12,8 +12,8 @@ use Rattle.ratio_format.specs.Windows.{windowSize, windowOf}
 use Rattle.ratio_format.specs.RatioForms.{coded}
 use Rattle.ratio_format.specs.Bodies.{codedRatios}
 use Rattle.ratio_format.proofs.Bodies.{coded-more}
-use Rattle.ratio_bodies.specs.Indexes.{Trailing}
-use Rattle.ratio_bodies.proofs.Indexes.{coded-newest, trailing-same}
+use Rattle.ratio_bodies.specs.Indexes.{NearlyIndexed}
+use Rattle.ratio_bodies.proofs.Indexes.{coded-newest, nearly-same}
 
 -- as many zeros
 abbrev zeros : ℕ → List ℕ
@@ -69,7 +69,7 @@ module _ (l : List ℕ) (i : ℕ) (nonzero : 0 < i) where
       ∙ ap (λ (bs : List ℕ). codedRatios (take i l) ++ bs) t
 
   -- the index needs no change
-  pub repeats-trailing : (ns : List ℕ) (r : ℕ) → Repeats l i r → Trailing ns l i → Trailing ns l (i + r)
-  repeats-trailing ns zero x t = let z : i + 0 ≡ i = omega arith in rw z t
-  repeats-trailing ns (suc r) x t =
-      rw (next r) (trailing-same ns l (i + r) (omega arith) (last r x) (repeats-trailing ns r (fewer r x) t))
+  pub repeats-nearly : (ns : List ℕ) (r : ℕ) → Repeats l i r → NearlyIndexed ns l i → NearlyIndexed ns l (i + r)
+  repeats-nearly ns zero x t = let z : i + 0 ≡ i = omega arith in rw z t
+  repeats-nearly ns (suc r) x t =
+      rw (next r) (nearly-same ns l (i + r) (omega arith) (last r x) (repeats-nearly ns r (fewer r x) t))

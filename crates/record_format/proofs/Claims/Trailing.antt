@@ -20,13 +20,13 @@ use Rattle.record_format.specs.Reading.{Answer, recordAnswer, answerBy, 
 use Rattle.record_format.specs.Moves.{otherForm, inForm, runIn, sourceTests, targetTests, moveTests, Move, refusedMove, recordMove, moveOf}
 use Rattle.record_format.specs.Claims.{Followed, MoveFollowed}
 use Rattle.record_format.proofs.Fields.{first-whole, next-later}
-use Rattle.record_format.proofs.Runs.{openingFieldCount, pointFieldCount}
+use Rattle.record_format.proofs.Runs.{openingFieldCount, closingFieldCount}
 use Rattle.record_format.proofs.Reading.Shifted.{FieldsShifted, whole-fields, rate-same, side-same, count-shifted, end-shifted, count-same, form-same, positions-same, ratios-same, room-tests-shifted, positions-tests-shifted, ratios-tests-shifted, front-tests-shifted}
 use Rattle.record_format.proofs.Reading.Sides.{absent-count, present-count}
 
 module _ (s rest : List ℕ) (framed : endAt s ≤ length s) where
   count-whole : nextAt s (countAt s) ≤ length s
-  count-whole = first-whole s (countAt s) pointFieldCount (lit< tt) framed
+  count-whole = first-whole s (countAt s) closingFieldCount (lit< tt) framed
 
   -- the side's, or else the count's, which stands in its place
   side-whole : nextAt s (sideAt s) ≤ length s
@@ -40,8 +40,8 @@ module _ (s rest : List ℕ) (framed : endAt s ≤ length s) where
   front : FieldsShifted 0 s rateAt (s ++ rest) rateAt openingFieldCount
   front = whole-fields s rest rateAt rateAt openingFieldCount refl side-whole
 
-  points : FieldsShifted 0 s (countAt s) (s ++ rest) (countAt (s ++ rest)) pointFieldCount
-  points = whole-fields s rest (countAt s) (countAt (s ++ rest)) pointFieldCount (count-shifted front ∙ add-zero (countAt s)) framed
+  points : FieldsShifted 0 s (countAt s) (s ++ rest) (countAt (s ++ rest)) closingFieldCount
+  points = whole-fields s rest (countAt s) (countAt (s ++ rest)) closingFieldCount (count-shifted front ∙ add-zero (countAt s)) framed
 
   end-same : endAt (s ++ rest) ≡ endAt s
   end-same = end-shifted points ∙ add-zero (endAt s)

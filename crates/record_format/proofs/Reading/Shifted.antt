@@ -26,7 +26,7 @@ use Rattle.record_format.specs.Runs.{rateTag, sideTag, countTag, formOf,
 use Rattle.record_format.specs.Reading.{rateAt, sideAt, hasSide, countAt, positionsAt, ratiosAt, endAt, rateIn, sideIn, countIn, formIn, positionsIn, ratiosIn, missing, otherRate, lacksRoom, rateTests, sideTests, countTests, frontTests, roomTests, manyTests, positionsTestsBy, ratiosTests}
 use Rattle.record_format.proofs.Fields.{fieldAt, first-whole, tag-same, length-same, next-same, head-within, body-same}
 use Rattle.record_format.proofs.Reading.{side-of}
-use Rattle.record_format.proofs.Runs.{openingFieldCount, pointFieldCount}
+use Rattle.record_format.proofs.Runs.{openingFieldCount, closingFieldCount}
 
 -- ---- a field
 
@@ -174,7 +174,7 @@ module _ {d : ℕ} {s t : List ℕ} (all : FieldsShifted d s rateAt t rateAt ope
 
 -- ---- the fields from the count's on
 
-module _ {d : ℕ} {s t : List ℕ} (all : FieldsShifted d s (countAt s) t (countAt t) pointFieldCount) where
+module _ {d : ℕ} {s t : List ℕ} (all : FieldsShifted d s (countAt s) t (countAt t) closingFieldCount) where
   count-field : FieldShifted d s (countAt s) t (countAt t)
   count-field = all .0
 
@@ -223,7 +223,7 @@ module _ {d : ℕ} {s t : List ℕ} (all : FieldsShifted d s (countAt s) t (coun
 
 -- ---- the front
 
-pub front-tests-shifted : {d : ℕ} {s t : List ℕ} → FieldsShifted d s rateAt t rateAt openingFieldCount → FieldsShifted d s (countAt s) t (countAt t) pointFieldCount
+pub front-tests-shifted : {d : ℕ} {s t : List ℕ} → FieldsShifted d s rateAt t rateAt openingFieldCount → FieldsShifted d s (countAt s) t (countAt t) closingFieldCount
     → (e : ℕ) → frontTests e t ≡ map (further d) (frontTests e s)
 front-tests-shifted {d} {s} front points e =
     further-append d (rateTests e s) (sideTests s ++ countTests s) (rate-tests-shifted front e) (further-append d (sideTests s) (countTests s) (side-tests-shifted front) (count-tests-shifted points))

@@ -22,7 +22,7 @@ use Rattle.record_format.specs.Fields.{headSize, tagAt, lengthAt, bodyAt, nextA
 use Rattle.record_format.specs.Runs.{positionsTags}
 use Rattle.record_format.specs.Reading.{missing, listOf, countAt, positionsAt, countIn, formIn, positionsTests}
 use Rattle.record_format.proofs.Reading.{positions-few, positions-many, many-tag}
-use Rattle.record_parts.specs.declared.field.Field.{Field}
+use Rattle.record_parts.specs.declared.field.FieldBody.{FieldBody}
 use Rattle.record_parts.specs.Fields.{PartRead, FieldRead, CodedRead}
 use Rattle.record_parts.proofs.Fields.{part-refused, part-first, part-then, part-both, field-numbered}
 
@@ -44,13 +44,13 @@ part-as : (us ts : List Test) (s : List ℕ) (p : ℕ) (f : Refusal) (e : ℕ) �
 part-as us ts s p f e same h = record { refuses = h .refuses ∙ sym same; next = h .next; inside = h .inside; near = h .near }
 
 -- the field at the offset p that is read, where the tests us give the same refusal as its own
-pub record CodedField (us : List Test) (tags : List ℕ) (k : List ℕ → Option (List ℕ)) (x : ℕ) (s : List ℕ) (p : ℕ) (f : Field) : Type 0 where
+pub record CodedField (us : List Test) (tags : List ℕ) (k : List ℕ → Option (List ℕ)) (x : ℕ) (s : List ℕ) (p : ℕ) (f : FieldBody) : Type 0 where
   pub numbered : x ≡ 0 → ⊥
   pub same : firstOf us ≡ firstOf (codedTests s tags k x p)
   pub read : FieldRead (fieldTests s tags none p) s p f
 
 -- by its tests and its body
-module _ {us : List Test} {tags : List ℕ} {k : List ℕ → Option (List ℕ)} {x : ℕ} {s : List ℕ} {p : ℕ} {f : Field} (h : CodedField us tags k x s p f) where
+module _ {us : List Test} {tags : List ℕ} {k : List ℕ → Option (List ℕ)} {x : ℕ} {s : List ℕ} {p : ℕ} {f : FieldBody} (h : CodedField us tags k x s p f) where
   abbrev fs : List Test
   fs = fieldTests s tags none p
 

@@ -22,7 +22,7 @@ use Rattle.record_format.specs.Runs.{rateTag, sideTag, countTag, rateSize, side
 use Rattle.record_format.specs.Reading.{rateAt, sideAt, hasSide, countAt, rateIn, countIn, otherRate, rateTests, sideTests, countTests, frontTests}
 use Rattle.record_format.proofs.Reading.{field-clear, side-numbered}
 use Rattle.record_format.proofs.Reading.Sides.{absent-count, absent-side, absent-tests, present-count, present-side, present-tests}
-use Rattle.record_parts.specs.declared.field.Field.{Field}
+use Rattle.record_parts.specs.declared.field.FieldBody.{FieldBody}
 use Rattle.record_parts.specs.declared.front.Number.{Number}
 use Rattle.record_parts.specs.declared.front.Front.{Front}
 use Rattle.record_parts.specs.Fields.{farthest, PartRead, FieldRead, NumberRead, SideRead, noFront, CountFound, FrontRead}
@@ -34,7 +34,7 @@ use Rattle.record_parts.proofs.Fields.{part-refused, part-first, part-t
 none-read : (n : ℕ) (tests : List Test) (s : List ℕ) (p : ℕ) (f : Refusal) (e : ℕ) → (f .number ≡ 0 → ⊥) → PartRead tests s p f e → NumberRead n tests s p (record { refusal = f; value = 0; end = e })
 none-read n tests s p f e d h = record { part = h; value = λ z. absurd (d z); small = pow-above (lit< tt) n }
 
-module _ (s : List ℕ) (tag n p : ℕ) (f : Field) (h : FieldRead (fieldTests s (tag ∷ []) (some n) p) s p f) where
+module _ (s : List ℕ) (tag n p : ℕ) (f : FieldBody) (h : FieldRead (fieldTests s (tag ∷ []) (some n) p) s p f) where
   pub number-refused : (f .refusal .number ≡ 0 → ⊥) → NumberRead n (fieldTests s (tag ∷ []) (some n) p) s p (record { refusal = f .refusal; value = 0; end = 0 })
   number-refused d = none-read n _ s p (f .refusal) 0 d (part-refused _ s p (f .refusal) 0 d (h .part .refuses))
 

@@ -2,7 +2,7 @@
 use native.Mathlib.Omega.{arith}
 use borrow.Author.Tests.{not-true, not-false}
 use Rattle.integers.proofs.Machine.{diff-fits}
-use Rattle.position_codec.proofs.read.PositionFound.{sum-fits, low-fits, high-fits, position-none, total-fits, total-back, position-small, position-is}
+use Rattle.position_codec.proofs.read.NextPosition.{sum-fits, low-fits, high-fits, position-none, total-fits, total-back, position-small, position-is}
 use borrow.Author.Needs.{needs}
 use Rattle.position_codec.proofs.read.next_position.Statement.{statement}
 use Rattle.position_codec.proofs.read.next_position.Tie as tie

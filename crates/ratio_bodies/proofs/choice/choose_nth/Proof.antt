@@ -51,8 +51,8 @@ returns : tie.Need-returns
 returns c =
     c .choose .ensures ∙ ap (ratioForm (start (few c) .args .v)) (part (few c))
 
-find-requires : tie.Need-find-requires
-find-requires c κs =
+find-best-requires : tie.Need-find-best-requires
+find-best-requires c κs =
     let s = start (c .before) in
     (omega arith, s .pre .0, s .pre .1 (c .if1 .left))
 
@@ -70,7 +70,7 @@ part-ratio-form-of-end c = search needs
 
 ratio-form-of-requires : tie.Need-ratio-form-of-requires
 ratio-form-of-requires c κs =
-    let b = c .before .find in
+    let b = c .before .find-best in
     subst (λ (w : List ℕ). Searched (start (many c) .args .v) w (b .result .place) (b .result .sum)) (sym (part (many c))) (b .ensures)
 
 returns-2 : tie.Need-returns-2
@@ -89,7 +89,7 @@ choose-nth-spec =
     part-choose-end
     choose-requires
     returns
-    find-requires
+    find-best-requires
     mul-ratio-form-of
     sub-ratio-form-of
     part-ratio-form-of-start

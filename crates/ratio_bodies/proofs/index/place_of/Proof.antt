@@ -6,7 +6,7 @@ use native.Mathlib.Omega.{arith}
 use borrow.Author.Needs.{needs}
 use lib.ListN.{getD, set}
 use Rattle.ratio_bodies.specs.Indexes.{keyOf, Indexed}
-use Rattle.ratio_bodies.proofs.Indexes.{trailing-first, trailing-more, indexed-noted}
+use Rattle.ratio_bodies.proofs.Indexes.{nearly-first, nearly-more, indexed-noted}
 use Rattle.ratio_bodies.proofs.index.place_of.Statement.{statement}
 use Rattle.ratio_bodies.proofs.index.place_of.Tie as tie
 
@@ -20,7 +20,7 @@ later c = c .before .before .before
 returns : tie.Need-returns
 returns c =
     let d = c .before .before in
-    (rw (c .if1 .taken) (trailing-first (d .args .newest .now) (d .args .ratios .now) (rw (c .if1 .taken) at (d .pre .2))), λ h. absurd (omega arith))
+    (rw (c .if1 .taken) (nearly-first (d .args .newest .now) (d .args .ratios .now) (rw (c .if1 .taken) at (d .pre .2))), λ h. absurd (omega arith))
 
 sub-note : tie.Need-sub-note
 sub-note c = search needs
@@ -55,7 +55,7 @@ returns-2 c =
     let noted = c .before .before in
     let d = start (later noted .before) in
     let n = noted .note in (
-      trailing-more (n .last .0) (d .args .ratios .now) (d .args .i) (passed d (omega arith) (n .last .0) (n .ensures)),
+      nearly-more (n .last .0) (d .args .ratios .now) (d .args .i) (passed d (omega arith) (n .last .0) (n .ensures)),
       c .looked-up .ensures,
     )
 

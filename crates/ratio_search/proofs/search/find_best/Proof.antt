@@ -1,4 +1,4 @@
--- `find` meets its contract. The invariant: the ratios from q on are passed, and the sum and its index are the best of them.
+-- `find_best` meets its contract. The invariant: the ratios from q on are passed, and the sum and its index are the best of them.
 use mathlib.Core.Path.{_≡_, sym, ap, ap₂, _∙_}
 use mathlib.Core.Logic.{⊎-elim}
 use Prim.Native.Nat.{ℕ, _+_, _-_, _<_}
@@ -9,8 +9,8 @@ use Rattle.ratio_format.specs.Windows.{windowSize}
 use Rattle.ratio_format.specs.Zeros.{sumOf}
 use Rattle.ratio_format.proofs.Zeros.Sums.{xor-zero, sum-other}
 use Rattle.ratio_search.proofs.search.Searching.{Searching, searching-start, searching-as, searching-pass, searching-all, searching-wins, searching-loses, searching-equal}
-use Rattle.ratio_search.proofs.search.find.Statement.{statement}
-use Rattle.ratio_search.proofs.search.find.Tie as tie
+use Rattle.ratio_search.proofs.search.find_best.Statement.{statement}
+use Rattle.ratio_search.proofs.search.find_best.Tie as tie
 
 abbrev Inv-loop : tie.InvT-loop
 Inv-loop planes ratios i v from own at₀ trail₀ sum₀ q₀ at trail sum q = Searching v ratios i q at trail sum
@@ -142,8 +142,8 @@ returns-2 c =
     let a = d .args in
     searching-all (a .v) (a .ratios .now) (a .i) (l .q) (l .at) (l .trail) (l .sum) (l .inv) (d .pre .1) (omega arith)
 
-pub find-spec : {M : Type 1} → statement M
-find-spec =
+pub find-best-spec : {M : Type 1} → statement M
+find-best-spec =
     tie.close
     (tie.spec
     Inv-loop

@@ -96,14 +96,22 @@ lensOf Wide = 5519100281345
 abbrev isPrefix : Row → ℕ → ℕ → Bool
 isPrefix r x p = both (both (ltb 0 p) (leb p 64)) (both (ltb x (2 ^ p)) (same (r .prefix) (bitsOf p x)))
 
--- after a first bit 1, by the three bits after it; but five bits 1 of the wide table
+-- the words of the rows and of the codes' lengths, after a first bit 1, by the three bits after it
+abbrev leadRows : ℕ
+leadRows = 289077008711876865
+
+abbrev leadLengths : Form → ℕ
+leadLengths Old = 2598590230823504137
+leadLengths Wide = 2670647824861432073
+
+-- but five bits 1 of the wide table
 abbrev rowBy : Form → ℕ → ℕ
-rowBy Old j = byteOf 289077008711876865 (j / 2 - 8)
-rowBy Wide j = cond (eqb j 31) 5 (byteOf 289077008711876865 (j / 2 - 8))
+rowBy Old j = byteOf leadRows (j / 2 - 8)
+rowBy Wide j = cond (eqb j 31) 5 (byteOf leadRows (j / 2 - 8))
 
 abbrev lenBy : Form → ℕ → ℕ
-lenBy Old j = byteOf 2598590230823504137 (j / 2 - 8)
-lenBy Wide j = cond (eqb j 31) 69 (byteOf 2670647824861432073 (j / 2 - 8))
+lenBy Old j = byteOf (leadLengths Old) (j / 2 - 8)
+lenBy Wide j = cond (eqb j 31) 69 (byteOf (leadLengths Wide) (j / 2 - 8))
 
 -- the row i leads the five bits of j, and its codes have n bits
 abbrev leads : Form → ℕ → ℕ → ℕ → Bool
@@ -134,10 +142,10 @@ prefix-at f i h =
     let b = both-true (ltb x (2 ^ p)) _ (t .1) in
     record { prefixed = ltb-true _ _ (a .0); short = leb-true _ _ (a .1); fits = ltb-true _ _ (b .0); bits = same-is _ _ (b .1) }
 
-pub old-prefix : (i : ℕ) → i < length rows → PrefixIs (getD rows i noRow) (byteOf 64659784192 i) (byteOf 17247175169 i)
+pub old-prefix : (i : ℕ) → i < length rows → PrefixIs (getD rows i noRow) (byteOf (valuesOf Old) i) (byteOf (lensOf Old) i)
 old-prefix = prefix-at Old
 
-pub wide-prefix : (i : ℕ) → i < length wideRows → PrefixIs (getD wideRows i noRow) (byteOf 34213944754688 i) (byteOf 5519100281345 i)
+pub wide-prefix : (i : ℕ) → i < length wideRows → PrefixIs (getD wideRows i noRow) (byteOf (valuesOf Wide) i) (byteOf (lensOf Wide) i)
 wide-prefix = prefix-at Wide
 
 led-by : (f : Form) (j i n : ℕ) → leads f j i n ≡ true → Leads (tableOf f) (bitsOf 5 j) i n
@@ -161,11 +169,11 @@ module _ (f : Form) (j : ℕ) (h : j < 32) where
       (led-by f j (rowBy f j) (lenBy f j) (p .1), ltb-true _ _ (p .0))
 
 module _ (j : ℕ) (h : j < 32) (l : 16 ≤ j) where
-  pub old-leads : Leads rows (bitsOf 5 j) (byteOf 289077008711876865 (j / 2 - 8)) (byteOf 2598590230823504137 (j / 2 - 8)) × (0 < byteOf 289077008711876865 (j / 2 - 8))
+  pub old-leads : Leads rows (bitsOf 5 j) (rowBy Old j) (lenBy Old j) × (0 < rowBy Old j)
   old-leads = lead-more Old j h l
 
   pub last-leads : j ≡ 31 → Leads wideRows (bitsOf 5 j) 5 69 × (_<_ 0 5)
   last-leads e = rw (eq-eqb j 31 e) at (lead-more Wide j h l)
 
-  pub wide-leads : (j ≡ 31 → ⊥) → Leads wideRows (bitsOf 5 j) (byteOf 289077008711876865 (j / 2 - 8)) (byteOf 2670647824861432073 (j / 2 - 8)) × (0 < byteOf 289077008711876865 (j / 2 - 8))
+  pub wide-leads : (j ≡ 31 → ⊥) → Leads wideRows (bitsOf 5 j) (byteOf leadRows (j / 2 - 8)) (byteOf (leadLengths Wide) (j / 2 - 8)) × (0 < byteOf leadRows (j / 2 - 8))
   wide-leads d = rw (ne-eqb j 31 d) at (lead-more Wide j h l)

@@ -5,11 +5,10 @@ use Prim.Native.Nat.{ℕ, _≤_}
 use native.Mathlib.Omega.{arith}
 use borrow.Author.Needs.{needs}
 use lib.ListN.{length}
-use Rattle.outputs.proofs.Outputs.Writers.{rest-left, both-fit, next-placed}
-use Rattle.record_format.specs.Fields.{Field, laid}
+use Rattle.record_format.specs.Fields.{Field}
 use Rattle.record_format.specs.Runs.{Run, run, frontFields, fieldsOf, recordOf, positionsField, ratiosField}
 use Rattle.record_parts.specs.Leads.{leadFields}
-use Rattle.record_parts.proofs.putting.Writings.{fields-next, fields-short}
+use Rattle.record_parts.proofs.putting.Writings.{Begun, begun-short, begun-inside, begun-fits, begun-done}
 use Rattle.record_codec.proofs.writer.put_record.Statement.{statement}
 use Rattle.record_codec.proofs.writer.put_record.Tie as tie
 
@@ -54,13 +53,12 @@ module _ (e : tie.Start) where
       (append-assoc (frontFields (e .args .rate) (e .args .side) (length (e .args .positions .now)))
       (positionsField (e .args .form) (e .args .positions .now) ∷ []) ratios-field)
 
--- the lead is written, and the rest is lent
-module _ (k : tie.After-lead-end) where
-  abbrev start : tie.Start
-  start = entry (led k)
+-- the lead is written, and the ratios' field is to come
+lead-begun : (k : tie.After-put-lead) → let e = entry k in Begun (lead e) (ratios-field e) (fieldsOf (given-run e)) (k .put-lead .result) (e .args .out .now) (lead-out k)
+lead-begun k = record { both = last-then (entry k); put = k .put-lead .ensures }
 
-  inside : k .lead-end .given .0 .0 ≤ length (lead-out (led k))
-  inside = rest-left (laid (lead start)) (start .args .out .now) (lead-out (led k)) (led k .put-lead .result) (led k .put-lead .ensures) _ (k .lead-end .given .1)
+inside : (k : tie.After-lead-end) → k .lead-end .given .0 .0 ≤ length (lead-out (led k))
+inside k = begun-inside (lead-begun (led k)) (k .lead-end .given .1)
 
 -- ---- the needs
 
@@ -80,8 +78,7 @@ returns : tie.Need-returns
 unfolding recordOf
 returns c =
     let k = c .before .before .before .before in
-    let e = entry k in
-    fields-short (lead e) (ratios-field e) (fieldsOf (given-run e)) (last-then e) (k .put-lead .result) (e .args .out .now) (lead-out k) (c .enum-told .given .1) (k .put-lead .ensures)
+    begun-short (lead-begun k) (c .enum-told .given .1)
 
 sub-put-coded : tie.Need-sub-put-coded
 sub-put-coded c = inside (c .before)
@@ -99,10 +96,8 @@ both-wrote-requires : tie.Need-both-wrote-requires
 both-wrote-requires c κs m is =
     let p = c .before .before in
     let k = coding p in
-    let e = start k in
-    let fit = both-fit (laid (ratios-field e)) (lead-out (led k)) (led k .put-lead .result) _ (k .lead-end .given .1)
-    (ratios-out p) (p .put-coded .result) (p .put-coded .ensures) (laid (lead e)) (e .args .out .now) (led k .put-lead .ensures) m is in
-    omega (arith, e .good)
+    let fit = begun-fits (lead-begun (led k)) (k .lead-end .given .1) (p .put-coded .result) (ratios-out p) (p .put-coded .ensures) m is in
+    omega (arith, entry (led k) .good)
 
 same-length-2 : tie.Need-same-length-2
 same-length-2 c = search needs
@@ -112,11 +107,7 @@ unfolding recordOf
 returns-2 c =
     let p = c .before .before .before in
     let k = coding p in
-    let e = start k in
-    fields-next (lead e) (ratios-field e) (fieldsOf (given-run e)) (last-then e) (led k .put-lead .result) (c .both-wrote .result) (e .args .out .now) (lead-out (led k)) _
-    (next-placed (laid (ratios-field e)) (lead-out (led k)) (led k .put-lead .result) _ (k .lead-end .given .1)
-    (ratios-out p) (p .put-coded .result) (p .put-coded .ensures) (c .both-wrote .result) (c .both-wrote .ensures))
-    (led k .put-lead .ensures)
+    begun-done (lead-begun (led k)) (k .lead-end .given .1) (p .put-coded .result) (ratios-out p) (p .put-coded .ensures) (c .both-wrote .result) (c .both-wrote .ensures)
 
 pub put-record-spec : {M : Type 1} → statement M
 put-record-spec =

@@ -7,11 +7,11 @@ use borrow.Author.Needs.{needs}
 use lib.ListN.{length}
 use Rattle.bits.specs.Digits.{bytesOf}
 use Rattle.outputs.specs.Outputs.{Placed}
-use Rattle.outputs.proofs.Outputs.Writers.{rest-left, both-fit, next-placed}
+use Rattle.outputs.proofs.Outputs.Writers.{rest-left}
 use Rattle.record_format.specs.Fields.{Field, fieldOf, laid}
 use Rattle.record_format.specs.Runs.{rateTag, countTag, rateSize, countSize, sideFields, frontFields, positionsField}
 use Rattle.record_parts.specs.Leads.{leadFields}
-use Rattle.record_parts.proofs.putting.Writings.{fields-next, fields-short}
+use Rattle.record_parts.proofs.putting.Writings.{fields-next, Begun, begun-short, begun-inside, begun-fits, begun-done}
 use Rattle.record_parts.proofs.putting.put_lead.Statement.{statement}
 use Rattle.record_parts.proofs.putting.put_lead.Tie as tie
 
@@ -82,16 +82,13 @@ count-done k =
     fields-next (rate-field e ++ side-field e) (count-field e) _ refl (sided k .put-side-next .result) (k .put-number-next .result) (e .args .out .now) (side-out (sided k)) (count-out k)
     (k .put-number-next .ensures) (side-done (sided k))
 
--- the front is written, and the rest is lent
-module _ (k : tie.After-front-end) where
-  abbrev start : tie.Start
-  start = entry (rated (sided (counted k)))
+-- the front is written, and the positions' field is to come
+front-begun : (k : tie.After-put-number-next) → let e = entry (rated (sided k)) in
+    Begun (frontFields (e .args .rate) (e .args .side) (count e)) (positions-field e) (all e) (k .put-number-next .result) (e .args .out .now) (count-out k)
+front-begun k = record { both = refl; put = count-done k }
 
-  abbrev front : List Field
-  front = frontFields (start .args .rate) (start .args .side) (count start)
-
-  inside : k .front-end .given .0 .0 ≤ length (count-out (counted k))
-  inside = rest-left (laid front) (start .args .out .now) (count-out (counted k)) (counted k .put-number-next .result) (count-done (counted k)) _ (k .front-end .given .1)
+inside : (k : tie.After-front-end) → k .front-end .given .0 .0 ≤ length (count-out (counted k))
+inside k = begun-inside (front-begun (counted k)) (k .front-end .given .1)
 
 -- ---- the needs
 
@@ -122,9 +119,7 @@ same-length c = search needs
 returns : tie.Need-returns
 returns c =
     let k = c .before .before .before .before in
-    let e = entry (rated (sided k)) in
-    fields-short (frontFields (e .args .rate) (e .args .side) (count e)) (positions-field e) (all e) refl
-    (k .put-number-next .result) (e .args .out .now) (count-out k) (c .enum-told .given .1) (count-done k)
+    begun-short (front-begun k) (c .enum-told .given .1)
 
 sub-put-coded : tie.Need-sub-put-coded
 sub-put-coded c = inside (c .before)
@@ -142,10 +137,8 @@ both-wrote-requires : tie.Need-both-wrote-requires
 both-wrote-requires c κs m is =
     let p = c .before .before in
     let k = coding p in
-    let e = start k in
-    let fit = both-fit (laid (positions-field e)) (count-out (counted k)) (counted k .put-number-next .result) _ (k .front-end .given .1)
-    (positions-out p) (p .put-coded .result) (p .put-coded .ensures) (laid (front k)) (e .args .out .now) (count-done (counted k)) m is in
-    omega (arith, e .good)
+    let fit = begun-fits (front-begun (counted k)) (k .front-end .given .1) (p .put-coded .result) (positions-out p) (p .put-coded .ensures) m is in
+    omega (arith, entry (rated (sided (counted k))) .good)
 
 same-length-2 : tie.Need-same-length-2
 same-length-2 c = search needs
@@ -154,11 +147,7 @@ returns-2 : tie.Need-returns-2
 returns-2 c =
     let p = c .before .before .before in
     let k = coding p in
-    let e = start k in
-    fields-next (front k) (positions-field e) (all e) refl (counted k .put-number-next .result) (c .both-wrote .result) (e .args .out .now) (count-out (counted k)) _
-    (next-placed (laid (positions-field e)) (count-out (counted k)) (counted k .put-number-next .result) _ (k .front-end .given .1)
-    (positions-out p) (p .put-coded .result) (p .put-coded .ensures) (c .both-wrote .result) (c .both-wrote .ensures))
-    (count-done (counted k))
+    begun-done (front-begun (counted k)) (k .front-end .given .1) (p .put-coded .result) (positions-out p) (p .put-coded .ensures) (c .both-wrote .result) (c .both-wrote .ensures)
 
 pub put-lead-spec : {M : Type 1} → statement M
 put-lead-spec =

@@ -1,6 +1,6 @@
 -- Document 02, No. 2: answers of reading and of writing with a side, as one table each, computed from the definitions by one statement.
 --   noPoints                        the positions' and the ratios' field of no points
---   row e s a                       both readings of s with room for two points, where the rate e is expected, give a
+--   expecting e s a                 both readings of s with room for two points, where the rate e is expected, give a
 --   reads, reads-hold               the rows, and that each is as it is given
 --   writes, writes-hold             likewise of writing
 use mathlib.Core.Path.{refl}
@@ -36,36 +36,36 @@ abbrev noPoints : List ℕ
 noPoints = 0x03 ∷ 0x00 ∷ 0x00 ∷ 0x04 ∷ 0x00 ∷ 0x00 ∷ []
 
 -- with room for two points, both readings answer alike
-abbrev row : ℕ → List ℕ → ReadAnswer → ReadExample
-row e s a = alike e 2 s a
+abbrev expecting : ℕ → List ℕ → ReadAnswer → ReadExample
+expecting e s a = alike e 2 s a
 
 -- the field past the rate and what follows it: cut, with another tag, of another length, with each kind of number, twice, out of its place
 pub reads : List ReadExample
 reads =
-    row 0 givenRate (refusedRead 10 7)
-    ∷ row 0 (givenRate ++ (0x06 ∷ [])) (refusedRead 10 7)
-    ∷ row 0 (givenRate ++ (0x09 ∷ [])) (refusedRead 10 7)
-    ∷ row 0 (givenRate ++ (0x09 ∷ 0x00 ∷ 0x01 ∷ 0x04 ∷ [])) (refusedRead 11 7)
-    ∷ row 0 (givenRate ++ (0x06 ∷ 0x00 ∷ 0x02 ∷ [])) (refusedRead 12 7)
-    ∷ row 0 (givenRate ++ (0x06 ∷ 0x00 ∷ 0x00 ∷ [])) (refusedRead 12 7)
-    ∷ row 0 (givenRate ++ (0x06 ∷ 0x00 ∷ 0x01 ∷ [])) (refusedRead 10 7)
-    ∷ row 0 (givenRate ++ givenSide 0) (refusedRead 20 7)
-    ∷ row 0 (givenRate ++ givenSide 27) (refusedRead 20 7)
-    ∷ row 0 (givenRate ++ givenSide 255) (refusedRead 20 7)
-    ∷ row 0 (givenRate ++ givenSide 26) (refusedRead 10 11)
-    ∷ row 0 (givenRate ++ (givenSide 4 ++ (0x06 ∷ []))) (refusedRead 10 11)
-    ∷ row 0 (givenRate ++ (givenSide 4 ++ givenSide 4)) (refusedRead 11 11)
-    ∷ row 0 (givenRate ++ (givenCount 0 ++ givenSide 4)) (refusedRead 11 12)
-    ∷ row 0 (givenSide 4 ++ givenRate) (refusedRead 11 0)
-    ∷ row 0 (0x01 ∷ 0x00 ∷ 0x04 ∷ 0x00 ∷ 0x00 ∷ 0x00 ∷ 0x01 ∷ givenSide 0) (refusedRead 13 0)
-    ∷ row 48000 (givenRate ++ givenSide 0) (refusedRead 14 0)
-    ∷ row 0 (givenRate ++ (givenSide 4 ++ (0x02 ∷ 0x00 ∷ 0x02 ∷ 0x10 ∷ 0x01 ∷ []))) (refusedRead 15 11)
-    ∷ row 0 (givenRate ++ (givenSide 4 ++ givenCount 3)) (refusedRead 16 11)
-    ∷ row 0 (givenRate ++ givenCount 3) (refusedRead 16 7)
-    ∷ row 0 (givenRate ++ (givenSide 4 ++ (givenCount 0 ++ (0x03 ∷ 0x00 ∷ 0x01 ∷ 0x00 ∷ [])))) (refusedRead 17 16)
-    ∷ row 0 (givenRate ++ (givenCount 0 ++ noPoints)) (read 0 0 3 18)
-    ∷ row 0 (givenRate ++ (givenSide 1 ++ (givenCount 0 ++ noPoints))) (read 1 0 3 22)
-    ∷ row 96000 (givenRate ++ (givenSide 26 ++ (givenCount 0 ++ noPoints))) (read 26 0 3 22)
+    expecting 0 givenRate (refusedRead 10 7)
+    ∷ expecting 0 (givenRate ++ (0x06 ∷ [])) (refusedRead 10 7)
+    ∷ expecting 0 (givenRate ++ (0x09 ∷ [])) (refusedRead 10 7)
+    ∷ expecting 0 (givenRate ++ (0x09 ∷ 0x00 ∷ 0x01 ∷ 0x04 ∷ [])) (refusedRead 11 7)
+    ∷ expecting 0 (givenRate ++ (0x06 ∷ 0x00 ∷ 0x02 ∷ [])) (refusedRead 12 7)
+    ∷ expecting 0 (givenRate ++ (0x06 ∷ 0x00 ∷ 0x00 ∷ [])) (refusedRead 12 7)
+    ∷ expecting 0 (givenRate ++ (0x06 ∷ 0x00 ∷ 0x01 ∷ [])) (refusedRead 10 7)
+    ∷ expecting 0 (givenRate ++ givenSide 0) (refusedRead 20 7)
+    ∷ expecting 0 (givenRate ++ givenSide 27) (refusedRead 20 7)
+    ∷ expecting 0 (givenRate ++ givenSide 255) (refusedRead 20 7)
+    ∷ expecting 0 (givenRate ++ givenSide 26) (refusedRead 10 11)
+    ∷ expecting 0 (givenRate ++ (givenSide 4 ++ (0x06 ∷ []))) (refusedRead 10 11)
+    ∷ expecting 0 (givenRate ++ (givenSide 4 ++ givenSide 4)) (refusedRead 11 11)
+    ∷ expecting 0 (givenRate ++ (givenCount 0 ++ givenSide 4)) (refusedRead 11 12)
+    ∷ expecting 0 (givenSide 4 ++ givenRate) (refusedRead 11 0)
+    ∷ expecting 0 (0x01 ∷ 0x00 ∷ 0x04 ∷ 0x00 ∷ 0x00 ∷ 0x00 ∷ 0x01 ∷ givenSide 0) (refusedRead 13 0)
+    ∷ expecting 48000 (givenRate ++ givenSide 0) (refusedRead 14 0)
+    ∷ expecting 0 (givenRate ++ (givenSide 4 ++ (0x02 ∷ 0x00 ∷ 0x02 ∷ 0x10 ∷ 0x01 ∷ []))) (refusedRead 15 11)
+    ∷ expecting 0 (givenRate ++ (givenSide 4 ++ givenCount 3)) (refusedRead 16 11)
+    ∷ expecting 0 (givenRate ++ givenCount 3) (refusedRead 16 7)
+    ∷ expecting 0 (givenRate ++ (givenSide 4 ++ (givenCount 0 ++ (0x03 ∷ 0x00 ∷ 0x01 ∷ 0x00 ∷ [])))) (refusedRead 17 16)
+    ∷ expecting 0 (givenRate ++ (givenCount 0 ++ noPoints)) (read 0 0 3 18)
+    ∷ expecting 0 (givenRate ++ (givenSide 1 ++ (givenCount 0 ++ noPoints))) (read 1 0 3 22)
+    ∷ expecting 96000 (givenRate ++ (givenSide 26 ++ (givenCount 0 ++ noPoints))) (read 26 0 3 22)
     ∷ openOnly 2 (givenRate ++ (givenCount 2 ++ twoOpen 3)) (refusedRead 18 31) (read 0 2 3 52)
     ∷ openOnly 2 (givenRate ++ (givenSide 4 ++ (givenCount 2 ++ twoOpen 3))) (refusedRead 18 35) (read 4 2 3 56)
     ∷ []

@@ -3,7 +3,7 @@
 --   escaped x                       the code of the row of 64 bits with the bits of x
 --   BodyExample, body, bodies       what is read from such a body by the wide table; bodies-hold: each is as it is given
 --   front n, sided n                the fields of the rate 96000 and the count n, without a side and on side 4
---   row m s a                       both readings of s with room for m points give a
+--   roomFor m s a                   both readings of s with room for m points give a
 --   reads, reads-hold               the rows, and that each is as it is given; open-points: what open reading leaves in the outputs
 --   writes, writes-hold             likewise of writing
 use mathlib.Core.Path.{_≡_, refl}
@@ -95,32 +95,32 @@ abbrev sided : ℕ → List ℕ
 sided n = givenRate ++ (givenSide 4 ++ givenCount n)
 
 -- without a rate expected, both readings answer alike
-abbrev row : ℕ → List ℕ → ReadAnswer → ReadExample
-row m s a = alike 0 m s a
+abbrev roomFor : ℕ → List ℕ → ReadAnswer → ReadExample
+roomFor m s a = alike 0 m s a
 
 -- 3,501 points: nothing behind the count, a cut head, another tag, each form's tag; the room first; 4,096 wide points, 4,097, and 3,500; no points with a
 -- byte too many, and in each form; tag 5 in the place of the ratios'; a run with a pause; an open form
 pub reads : List ReadExample
 reads =
-    row 4096 (front 3501) (refusedRead 10 12)
-    ∷ row 4096 (front 3501 ++ (0x05 ∷ 0x00 ∷ [])) (refusedRead 10 12)
-    ∷ row 4096 (front 3501 ++ (0x09 ∷ 0x00 ∷ 0x00 ∷ [])) (refusedRead 11 12)
-    ∷ row 4096 (front 3501 ++ (0x05 ∷ 0x00 ∷ 0x00 ∷ [])) (refusedRead 15 7)
-    ∷ row 4096 (front 3501 ++ (0x05 ∷ 0xFF ∷ 0xFF ∷ [])) (refusedRead 15 7)
-    ∷ row 4096 (sided 3501 ++ (0x05 ∷ 0xFF ∷ 0xFF ∷ [])) (refusedRead 15 11)
-    ∷ row 4096 (front 3501 ++ (0x03 ∷ 0xFF ∷ 0xFF ∷ [])) (refusedRead 10 12)
-    ∷ row 4096 (front 4096 ++ (0x05 ∷ 0x00 ∷ 0x00 ∷ [])) (refusedRead 15 7)
-    ∷ row 3500 (front 3501 ++ (0x05 ∷ 0x00 ∷ 0x00 ∷ [])) (refusedRead 16 7)
-    ∷ row 3500 (sided 3501 ++ (0x05 ∷ 0x00 ∷ 0x00 ∷ [])) (refusedRead 16 11)
-    ∷ row 4096 (front 4097) (refusedRead 15 7)
-    ∷ row 4096 (front 3500 ++ (0x05 ∷ 0xFF ∷ 0xFF ∷ [])) (refusedRead 10 12)
-    ∷ row 4096 (front 0 ++ (0x05 ∷ 0x00 ∷ 0x01 ∷ 0x00 ∷ [])) (refusedRead 17 12)
-    ∷ row 4096 (front 0 ++ (0x05 ∷ 0x00 ∷ 0x00 ∷ 0x04 ∷ 0x00 ∷ 0x00 ∷ [])) (read 0 0 5 18)
-    ∷ row 4096 (sided 0 ++ (0x05 ∷ 0x00 ∷ 0x00 ∷ 0x04 ∷ 0x00 ∷ 0x00 ∷ [])) (read 4 0 5 22)
-    ∷ row 4096 (front 0 ++ (0x03 ∷ 0x00 ∷ 0x00 ∷ 0x04 ∷ 0x00 ∷ 0x00 ∷ [])) (read 0 0 3 18)
-    ∷ row 4096 (front 0 ++ (0x05 ∷ 0x00 ∷ 0x00 ∷ 0x05 ∷ 0x00 ∷ 0x00 ∷ [])) (refusedRead 11 15)
-    ∷ row 3 pausedBytes (read 0 3 5 54)
-    ∷ row 2 pausedBytes (refusedRead 16 7)
+    roomFor 4096 (front 3501) (refusedRead 10 12)
+    ∷ roomFor 4096 (front 3501 ++ (0x05 ∷ 0x00 ∷ [])) (refusedRead 10 12)
+    ∷ roomFor 4096 (front 3501 ++ (0x09 ∷ 0x00 ∷ 0x00 ∷ [])) (refusedRead 11 12)
+    ∷ roomFor 4096 (front 3501 ++ (0x05 ∷ 0x00 ∷ 0x00 ∷ [])) (refusedRead 15 7)
+    ∷ roomFor 4096 (front 3501 ++ (0x05 ∷ 0xFF ∷ 0xFF ∷ [])) (refusedRead 15 7)
+    ∷ roomFor 4096 (sided 3501 ++ (0x05 ∷ 0xFF ∷ 0xFF ∷ [])) (refusedRead 15 11)
+    ∷ roomFor 4096 (front 3501 ++ (0x03 ∷ 0xFF ∷ 0xFF ∷ [])) (refusedRead 10 12)
+    ∷ roomFor 4096 (front 4096 ++ (0x05 ∷ 0x00 ∷ 0x00 ∷ [])) (refusedRead 15 7)
+    ∷ roomFor 3500 (front 3501 ++ (0x05 ∷ 0x00 ∷ 0x00 ∷ [])) (refusedRead 16 7)
+    ∷ roomFor 3500 (sided 3501 ++ (0x05 ∷ 0x00 ∷ 0x00 ∷ [])) (refusedRead 16 11)
+    ∷ roomFor 4096 (front 4097) (refusedRead 15 7)
+    ∷ roomFor 4096 (front 3500 ++ (0x05 ∷ 0xFF ∷ 0xFF ∷ [])) (refusedRead 10 12)
+    ∷ roomFor 4096 (front 0 ++ (0x05 ∷ 0x00 ∷ 0x01 ∷ 0x00 ∷ [])) (refusedRead 17 12)
+    ∷ roomFor 4096 (front 0 ++ (0x05 ∷ 0x00 ∷ 0x00 ∷ 0x04 ∷ 0x00 ∷ 0x00 ∷ [])) (read 0 0 5 18)
+    ∷ roomFor 4096 (sided 0 ++ (0x05 ∷ 0x00 ∷ 0x00 ∷ 0x04 ∷ 0x00 ∷ 0x00 ∷ [])) (read 4 0 5 22)
+    ∷ roomFor 4096 (front 0 ++ (0x03 ∷ 0x00 ∷ 0x00 ∷ 0x04 ∷ 0x00 ∷ 0x00 ∷ [])) (read 0 0 3 18)
+    ∷ roomFor 4096 (front 0 ++ (0x05 ∷ 0x00 ∷ 0x00 ∷ 0x05 ∷ 0x00 ∷ 0x00 ∷ [])) (refusedRead 11 15)
+    ∷ roomFor 3 pausedBytes (read 0 3 5 54)
+    ∷ roomFor 2 pausedBytes (refusedRead 16 7)
     ∷ openOnly 4096 (front 2 ++ twoOpen 5) (refusedRead 18 31) (read 0 2 5 52)
     ∷ openOnly 4096 (sided 2 ++ twoOpen 5) (refusedRead 18 35) (read 4 2 5 56)
     ∷ []

@@ -20,7 +20,7 @@ use Rattle.bits.specs.Sinks.{Sound, Held, overWord, PlacedBits, Laid}
 use Rattle.bits.specs.declared.fields.Sink.{Sink}
 use Rattle.bits.proofs.Digits.{two⁺, length-digits, digits-zero, digits-append, digits-join, digits-of-mod}
 use Rattle.bits.proofs.Packing.{bits-append, bits-bytes, bits-take, bits-drop, bits-same, length-pack, below-pack, bits-pack}
-use Rattle.bits.proofs.Digits.Word.{mask-pow, joined-lt, shl-is, two-lt, two-bits}
+use Rattle.bits.proofs.Digits.Word.{mask-pow, above-lt, shl-is, two-lt, two-bits}
 
 -- a sink by its parts
 abbrev pub sink : ℕ → ℕ → ℕ → Sink
@@ -164,7 +164,7 @@ module _ (s : Sink) (sound : Sound s) (n w : ℕ) (n≤ : n ≤ 64) (w< : w < 2 
   first< = shr-lt fill more (rw all-of w<)
 
   pub word-fits : word < 2 ^ 64
-  word-fits = rw moved (rw full at (joined-lt (s .width) fill (sound .fits) first< (omega (arith, full))))
+  word-fits = rw moved (rw full at (above-lt (s .width) fill (sound .fits) first< (omega (arith, full))))
 
   word-bits : bitsOf 64 word ≡ bitsOf (s .width) (s .held) ++ bitsOf fill (w / 2 ^ more)
   word-bits =

@@ -31,11 +31,11 @@ text-listed (More n) = append-nil _
 pub text-then : (d : Difference) (l : List Difference) → differencesText (listed d ++ l) ≡ lineOf d ++ differencesText l
 text-then d l = text-append (listed d) l ∙ ap (λ (x : List ℕ). x ++ differencesText l) (text-listed d)
 
-pub text-points : (r q : Run) (n : ℕ) → differencesText (pointsTo r q n) ≡ linesBelow (r .positions) (r .ratios) (q .positions) (q .ratios) n
+pub text-below : (r q : Run) (n : ℕ) → differencesText (pointsTo r q n) ≡ linesBelow (r .positions) (r .ratios) (q .positions) (q .ratios) n
 unfolding differencesText pointsTo linesBelow
-text-points r q zero = refl
-text-points r q (suc n) =
+text-below r q zero = refl
+text-below r q (suc n) =
     let p = positionAt (r .positions) (q .positions) n in
     let v = ratioAt (r .ratios) (q .ratios) n in
     text-append (pointsTo r q n) (listed p ++ listed v)
-    ∙ ap₂ (λ (x y : List ℕ). x ++ y) (text-points r q n) (text-then p (listed v) ∙ ap (λ (x : List ℕ). lineOf p ++ x) (text-listed v))
+    ∙ ap₂ (λ (x y : List ℕ). x ++ y) (text-below r q n) (text-then p (listed v) ∙ ap (λ (x : List ℕ). lineOf p ++ x) (text-listed v))

@@ -19,12 +19,12 @@ module _ (ts vs us ws : List ℕ) where
   unfolding linesBelow
   points-none at o = placed-none at o
 
-  points-next : (i : ℕ) → linesBelow ts vs us ws i ++ linesAt ts vs us ws i ≡ linesBelow ts vs us ws (i + 1)
+  lines-next : (i : ℕ) → linesBelow ts vs us ws i ++ linesAt ts vs us ws i ≡ linesBelow ts vs us ws (i + 1)
   unfolding linesBelow
-  points-next i = sym (ap (linesBelow ts vs us ws) (add-one i))
+  lines-next i = sym (ap (linesBelow ts vs us ws) (add-one i))
 
   pub points-more : (i : ℕ) {at e f : ℕ} {o p q : List ℕ} → at + lineLimit * 2 * i ≤ length o
       → Points i at e o p → PlacedAt (lineLimit * 2) (linesAt ts vs us ws i) e f p q → Points (i + 1) at f o q
   points-more i room h g =
       let l = placed-then room h g in
-      placed-as (omega (arith, ap length (points-next i), l .most)) (points-next i) l
+      placed-as (omega (arith, ap length (lines-next i), l .most)) (lines-next i) l

@@ -21,7 +21,7 @@ use Rattle.differences.specs.Differences.{listed, pointsTo}
 use Rattle.compare.specs.Lines.{lineOf, differencesText, refusedInLine}
 use Rattle.compare.specs.Pieces.{propertiesText, linesBelow}
 use Rattle.compare.specs.Printed.{comparisonText, printed}
-use Rattle.compare.proofs.Lines.{text-append, text-listed, text-then, text-points}
+use Rattle.compare.proofs.Lines.{text-append, text-listed, text-then, text-below}
 
 -- ---- the text of a comparison
 
@@ -66,7 +66,7 @@ module _ {s t : List ℕ} {a b : ReadAnswer} {ts vs us ws : List ℕ} (x : Readi
       let q = runOf (answerOf b us ws) in
       let points = linesBelow (r .positions) (r .ratios) (q .positions) (q .ratios) k ++ lineOf (h .more) in
       let points-are : differencesText (pointsTo r q k ++ listed (h .more)) ≡ points =
-      text-append (pointsTo r q k) (listed (h .more)) ∙ ap₂ (λ (l m : List ℕ). l ++ m) (text-points r q k) (text-listed (h .more)) in
+      text-append (pointsTo r q k) (listed (h .more)) ∙ ap₂ (λ (l m : List ℕ). l ++ m) (text-below r q k) (text-listed (h .more)) in
       append-assoc (lineOf (h .rate)) _ points
       ∙ ap (λ (l : List ℕ). lineOf (h .rate) ++ l)
       (append-assoc (lineOf (h .side)) _ points

@@ -1,5 +1,5 @@
 -- Document 02, No. 1: the lines that the program prints, as ASCII codes. Single spaces; each line ends in one newline.
---   bytesWord .. trailingWord   the fixed parts of a line that no other program has
+--   bytesWord .. emptyLine      the fixed parts of a line that no other program has
 --   costLine i v n o            `ratio 1 c00e666666666666 3 bytes at 43`: index, the ratio's bits, how many bytes it took, the first one's offset
 --   xorLine p l t               the reason of an xor form
 --   reasonLine r                the reason: `equal to place 3`, `xor with place 0, 1 leading and 6 trailing zero bytes`, `exception, best sum 1`,

@@ -29,7 +29,7 @@ const ARGUMENT: usize = 131072;
 const TEXT: usize = 206;
 
 // The bytes of a ratio: how many stand before them in the body, and how many they are.
-pub struct RatioBytes {
+pub struct RatioExtent {
     pub before: usize,
     pub cost: usize,
 }
@@ -145,13 +145,13 @@ fn put_reason(out: &mut [u8], at: usize, reason: Reason) -> usize
 }
 
 // The bytes of the ratio of index i in the body of a run's ratios: how many stand before them, and how many they are.
-fn bytes_of(ratios: &[u64], i: usize) -> RatioBytes
+fn bytes_of(ratios: &[u64], i: usize) -> RatioExtent
     requires { ⌜ (i < length (now ratios)) × (length (now ratios) ≤ maxPoints) ⌝ }
     ensures { λ r. ⌜ (r .before ≡ length (codedRatios (take i (now (ratios .entry))))) × (r .cost ≡ costOf (now (ratios .entry)) i) ⌝ }
 {
     let before = body_size(&ratios[..i]);
     let after = body_size(&ratios[..i + 1]);
-    RatioBytes {
+    RatioExtent {
         before,
         cost: after - before,
     }

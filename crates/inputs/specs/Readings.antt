@@ -1,7 +1,7 @@
 -- What reading an input left, for the programs that print of it.
 --   answerOf r ts vs     an answer by its parts: the answer r, and the outputs ts and vs
 --   Reading s r ts vs    the input s, which a program reads whole, was read strictly and with no rate expected: it answered r, and the outputs are ts and vs
---   RunHeld n ts vs      two outputs have n numbers each, no more than a run can have
+--   RunHeld n ts vs      two outputs have at least n numbers each, and n is no more than a run can have
 use mathlib.Core.List.{List}
 use mathlib.Core.Path.{_≡_}
 use Prim.Native.Nat.{ℕ, _≤_}

@@ -49,10 +49,10 @@ abbrev pub mostBits : Form → ℕ
 mostBits Old = 36
 mostBits Wide = 69
 
-table-sound : (f : Form) → soundTable (mostBits f) (tableOf f) ≡ true
+table-passes : (f : Form) → soundTable (mostBits f) (tableOf f) ≡ true
 unfolding goodTable widening rows wideRows begins same
-table-sound Old = refl
-table-sound Wide = refl
+table-passes Old = refl
+table-passes Wide = refl
 
 -- ---- its parts
 
@@ -68,7 +68,7 @@ pub record TableSound (m : ℕ) (rs : List Row) : Type 0 where
 pub form-sound : (f : Form) → TableSound (mostBits f) (tableOf f)
 form-sound f =
     let rs = tableOf f in
-    let p = both-true (both (goodTable rs) (widening rs)) _ (table-sound f) in
+    let p = both-true (both (goodTable rs) (widening rs)) _ (table-passes f) in
     let a = both-true (goodTable rs) _ (p .0) in
     let q = both-true (both (lengths 1 (mostBits f) rs) (shortPrefixes 5 rs)) _ (p .1) in
     let b = both-true (lengths 1 (mostBits f) rs) _ (q .0) in
@@ -82,12 +82,12 @@ table-good f = form-sound f .good
 pub prefix-short : (q : ℕ) (rs : List Row) → shortPrefixes q rs ≡ true → (i : ℕ) → i < length rs → length (getD rs i noRow .prefix) ≤ q
 prefix-short q rs e i h = leb-true (length (getD rs i noRow .prefix)) q (every-at (λ (r : Row). leb (length (r .prefix)) q) rs noRow e i h)
 
-pub record InWord (r : Row) : Type 0 where
+pub record FitsWord (r : Row) : Type 0 where
   pub narrow : r .width ≤ 64
   pub high-fits : natAbs (r .high) < 2 ^ 63
   pub low-fits : natAbs (r .low) ≤ 2 ^ 63
 
-pub row-words : (rs : List Row) → every fitsWord rs ≡ true → (i : ℕ) → i < length rs → InWord (getD rs i noRow)
+pub row-words : (rs : List Row) → every fitsWord rs ≡ true → (i : ℕ) → i < length rs → FitsWord (getD rs i noRow)
 row-words rs e i h =
     let p = both-true (leb (getD rs i noRow .width) 64) _ (every-at fitsWord rs noRow e i h) in
     let q = both-true (ltb (natAbs (getD rs i noRow .high)) (2 ^ 63)) _ (p .1) in

@@ -1,10 +1,10 @@
 -- Byte planes of a run of ratios: each byte of a ratio in a part of its own, so that one byte of many ratios stands together. Internal:
 -- document 01 says nothing of them.
---   slots                 how many ratios the planes hold: the window's size and one more
---   cells                 how many bytes they have
---   BothDiffer ps v a b t neither byte a nor byte b of slot t is that of v
---   Planes ps l from to   the planes ps hold the bytes of the ratios of l from index `from` up to `to`
---   Kept ps l n           planes of full size, of the last ratios of l before index n, as many as the planes hold
+--   slots                   how many ratios the planes hold: the window's size and one more
+--   cells                   how many bytes they have
+--   BothDiffer ps v a b t   neither byte a nor byte b of slot t is that of v
+--   Planes ps l from to     the planes ps hold the bytes of the ratios of l from index `from` up to `to`
+--   Kept ps l n             planes of full size, of the last ratios of l before index n, as many as the planes hold
 use mathlib.Core.List.{List}
 use mathlib.Core.Path.{_≡_}
 use Prim.Native.Nat.{ℕ, _+_, _-_, _*_, _%_, _≤_, _<_}

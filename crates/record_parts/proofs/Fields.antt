@@ -79,8 +79,8 @@ module _ (s tags : List ℕ) (n : Option ℕ) (p : ℕ) where
         length-good : Stated n (lengthAt s p)
         length-good = subst (Stated n) (sym length-is) (stated-as n l good)
 
-        pub field-body : (r : FieldBody) → r ≡ record { refusal = refusal 10 p; from = 0; to = 0 } → length s - (p + headSize) < l → FieldRead tests s p r
-        field-body r e h = refused r 10 e (λ z. omega arith) (body-short s tags n p [] whole-head tag-good length-good (omega (arith, next-is)))
+        pub field-cut : (r : FieldBody) → r ≡ record { refusal = refusal 10 p; from = 0; to = 0 } → length s - (p + headSize) < l → FieldRead tests s p r
+        field-cut r e h = refused r 10 e (λ z. omega arith) (body-short s tags n p [] whole-head tag-good length-good (omega (arith, next-is)))
 
         pub field-found : Below 256 s → l ≤ length s - (p + headSize) → FieldRead tests s p (record { refusal = noRefusal; from = p + headSize; to = p + headSize + l })
         field-found bytes h =

@@ -118,7 +118,7 @@ fn has_many(form: Form, input: &[u8], at: usize, count: usize) -> bool
 }
 
 // The positions' field, in the form that its tag names, at its offset: its tests, and its positions at the front of the output, which has room for
-// them. The count's field stands at `place`; a run in the form may have fewer points than it says: 15 there, before the body is looked at.
+// them. The count's field stands at `place`; a run in the form may have fewer points than the count: 15 there, before the body is looked at.
 pub fn read_positions(
     form: Form,
     input: &[u8],

@@ -30,8 +30,8 @@ fn no_points(refusal: Refusal) -> Points
 }
 
 // The points past a count, whose field stands at `place` and ends at `at`, at the front of the outputs, which have room for them; the ratios by the
-// open rule or strictly. Count, place and offset are three arguments: a front as one costs the loop over the
-// positions registers.
+// open rule or strictly. Count, place and offset are three arguments: a front as one costs the loop over the positions
+// registers.
 pub fn read_points(
     openly: bool,
     input: &[u8],

@@ -18,15 +18,15 @@ mask-pos k h = rw (mask-pow k h) (pow-pos k)
 
 -- a number of j bits above one of k bits is one of j + k bits, and fits the word
 module _ (j k : ℕ) {h l : ℕ} (h< : h < 2 ^ j) (l< : l < 2 ^ k) (fits : j + k ≤ 64) where
-  pub joined-lt : h * 2 ^ k + l < 2 ^ (j + k)
-  joined-lt = rw pow-add (digits-lt h< l<)
+  pub above-lt : h * 2 ^ k + l < 2 ^ (j + k)
+  above-lt = rw pow-add (digits-lt h< l<)
 
   pub shl-is : h * 2 ^ k % 2 ^ 64 ≡ h * 2 ^ k
   shl-is = shl-exact j k 64 h< fits
 
   -- as the code has it
   pub two-lt : h * 2 ^ k % 2 ^ 64 + l < 2 ^ (j + k)
-  two-lt = rw shl-is joined-lt
+  two-lt = rw shl-is above-lt
 
   pub two-fits : h * 2 ^ k % 2 ^ 64 + l < 2 ^ 64
   two-fits = lt-of-lt-of-le two-lt (pow-mono fits)

@@ -19,7 +19,7 @@ use Rattle.position_format.specs.declared.Form.the-variants.{Old, Wide}
 use Rattle.position_format.specs.Rows.{Row, row, rows, wideRows, neg, codeLength, noRow}
 use Rattle.position_format.specs.Tables.{tableOf}
 use Rattle.position_format.proofs.Rows.Extended.{ranged, ranged-at}
-use Rattle.position_format.proofs.Tables.{form-sound, InWord, row-words}
+use Rattle.position_format.proofs.Tables.{form-sound, FitsWord, row-words}
 use Rattle.position_format.proofs.Tables.WideRows.{wide-count}
 use Rattle.position_codec.specs.Codes.{PrefixIs}
 use Rattle.position_codec.specs.Found.{Leads}
@@ -79,7 +79,7 @@ row-at i h =
     sym (ranged-at wideRows i) ∙ ap (λ (rs : List Row). getD rs i noRow) ranges-are ∙ from-at 0 6 i h ∙ ap rangeFrom e
 
 -- they fit a word
-pub row-fits : (i : ℕ) → i < 6 → InWord (getD wideRows i noRow)
+pub row-fits : (i : ℕ) → i < 6 → FitsWord (getD wideRows i noRow)
 row-fits i h = row-words wideRows (form-sound Wide .words) i (omega (arith, wide-count))
 
 -- ---- the prefixes, and the row that five bits lead to, of each table

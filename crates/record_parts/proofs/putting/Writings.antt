@@ -100,27 +100,27 @@ pub fields-next : (fs gs all : List Field) → all ≡ fs ++ gs → (w v : Wrote
 fields-next fs gs all is w v o p q next put = subst (λ (l : List ℕ). Placed l v o q) (sym (ap laid is ∙ laid-append fs gs)) (next (laid fs) o put)
 
 -- a writer put the fields fs into o, which is now p, and said w; gs are to come in the rest, and then all are there
-pub record Begun (fs gs all : List Field) (w : Wrote) (o p : List ℕ) : Type 0 where
+pub record FirstLaid (fs gs all : List Field) (w : Wrote) (o p : List ℕ) : Type 0 where
   pub both : all ≡ fs ++ gs
   pub put : Placed (laid fs) w o p
 
-module _ {fs gs all : List Field} {w : Wrote} {o p : List ℕ} (h : Begun fs gs all w o p) where
+module _ {fs gs all : List Field} {w : Wrote} {o p : List ℕ} (h : FirstLaid fs gs all w o p) where
   -- no room for the first
-  pub begun-short : w ≡ NoRoom → length o < length (laid all)
-  begun-short e = subst (λ (l : List ℕ). length o < length l) (sym (ap laid (h .both) ∙ laid-append fs gs)) (next-short (laid gs) p w e (laid fs) o (h .put))
+  pub first-laid-short : w ≡ NoRoom → length o < length (laid all)
+  first-laid-short e = subst (λ (l : List ℕ). length o < length l) (sym (ap laid (h .both) ∙ laid-append fs gs)) (next-short (laid gs) p w e (laid fs) o (h .put))
 
   -- they took n bytes
   module _ {n : ℕ} (e : w ≡ Done n) where
-    pub begun-inside : n ≤ length p
-    begun-inside = rest-left (laid fs) o p w (h .put) n e
+    pub first-laid-inside : n ≤ length p
+    first-laid-inside = rest-left (laid fs) o p w (h .put) n e
 
     -- and another said v of the others, in the rest, which is now q
     module _ (v : Wrote) (q : List ℕ) (next : Placed (laid gs) v (take (length p - n) (drop n p)) q) where
-      pub begun-fits : (m : ℕ) → v ≡ Done m → n + m ≤ length o
-      begun-fits = both-fit (laid gs) p w n e q v next (laid fs) o (h .put)
+      pub first-laid-fits : (m : ℕ) → v ≡ Done m → n + m ≤ length o
+      first-laid-fits = both-fit (laid gs) p w n e q v next (laid fs) o (h .put)
 
-      pub begun-done : (r : Wrote) → r ≡ bothWrote n v → Placed (laid all) r o (putMid n (length p - n) p q)
-      begun-done r is = fields-next fs gs all (h .both) w r o p _ (next-placed (laid gs) p w n e q v next r is) (h .put)
+      pub first-laid-done : (r : Wrote) → r ≡ bothWrote n v → Placed (laid all) r o (putMid n (length p - n) p q)
+      first-laid-done r is = fields-next fs gs all (h .both) w r o p _ (next-placed (laid gs) p w n e q v next r is) (h .put)
 
 -- ---- the side's field, if there is one
 

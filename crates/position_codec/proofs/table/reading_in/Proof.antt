@@ -11,7 +11,7 @@ use lib.Signed.{nonNeg}
 use Rattle.position_format.specs.declared.Form.the-variants.{Wide}
 use Rattle.position_format.specs.Rows.{Row, wideRows, noRow}
 use Rattle.position_format.proofs.Rows.{full, good-full, full-is}
-use Rattle.position_format.proofs.Tables.{form-sound, InWord}
+use Rattle.position_format.proofs.Tables.{form-sound, FitsWord}
 use Rattle.position_format.proofs.Tables.WideRows.{wide-count}
 use Rattle.position_codec.proofs.table.Numbers.{highOf, row-at, row-fits}
 use Rattle.position_codec.proofs.table.Residues.{Fitted, reading-low, some-bits, lacks-from, lacks-small, below-fits, reading-high}
@@ -25,7 +25,7 @@ row s = getD wideRows (s .args .row) noRow
 abbrev top : tie.Start → ℕ
 top s = natAbs (highOf (s .args .row))
 
-words : (s : tie.Start) → InWord (row s)
+words : (s : tie.Start) → FitsWord (row s)
 words s = row-fits (s .args .row) (s .pre .0)
 
 -- it is the row's, and not below 0

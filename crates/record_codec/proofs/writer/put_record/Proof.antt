@@ -8,7 +8,7 @@ use lib.ListN.{length}
 use Rattle.record_format.specs.Fields.{Field}
 use Rattle.record_format.specs.Runs.{Run, run, frontFields, fieldsOf, recordOf, positionsField, ratiosField}
 use Rattle.record_parts.specs.Leads.{leadFields}
-use Rattle.record_parts.proofs.putting.Writings.{Begun, begun-short, begun-inside, begun-fits, begun-done}
+use Rattle.record_parts.proofs.putting.Writings.{FirstLaid, first-laid-short, first-laid-inside, first-laid-fits, first-laid-done}
 use Rattle.record_codec.proofs.writer.put_record.Statement.{statement}
 use Rattle.record_codec.proofs.writer.put_record.Tie as tie
 
@@ -54,11 +54,11 @@ module _ (e : tie.Start) where
       (positionsField (e .args .form) (e .args .positions .now) ∷ []) ratios-field)
 
 -- the lead is written, and the ratios' field is to come
-lead-begun : (k : tie.After-put-lead) → let e = entry k in Begun (lead e) (ratios-field e) (fieldsOf (given-run e)) (k .put-lead .result) (e .args .out .now) (lead-out k)
-lead-begun k = record { both = last-then (entry k); put = k .put-lead .ensures }
+lead-first : (k : tie.After-put-lead) → let e = entry k in FirstLaid (lead e) (ratios-field e) (fieldsOf (given-run e)) (k .put-lead .result) (e .args .out .now) (lead-out k)
+lead-first k = record { both = last-then (entry k); put = k .put-lead .ensures }
 
 inside : (k : tie.After-lead-end) → k .lead-end .given .0 .0 ≤ length (lead-out (led k))
-inside k = begun-inside (lead-begun (led k)) (k .lead-end .given .1)
+inside k = first-laid-inside (lead-first (led k)) (k .lead-end .given .1)
 
 -- ---- the needs
 
@@ -78,7 +78,7 @@ returns : tie.Need-returns
 unfolding recordOf
 returns c =
     let k = c .before .before .before .before in
-    begun-short (lead-begun k) (c .enum-told .given .1)
+    first-laid-short (lead-first k) (c .enum-told .given .1)
 
 sub-put-coded : tie.Need-sub-put-coded
 sub-put-coded c = inside (c .before)
@@ -96,7 +96,7 @@ both-wrote-requires : tie.Need-both-wrote-requires
 both-wrote-requires c κs m is =
     let p = c .before .before in
     let k = coding p in
-    let fit = begun-fits (lead-begun (led k)) (k .lead-end .given .1) (p .put-coded .result) (ratios-out p) (p .put-coded .ensures) m is in
+    let fit = first-laid-fits (lead-first (led k)) (k .lead-end .given .1) (p .put-coded .result) (ratios-out p) (p .put-coded .ensures) m is in
     omega (arith, entry (led k) .good)
 
 same-length-2 : tie.Need-same-length-2
@@ -107,7 +107,7 @@ unfolding recordOf
 returns-2 c =
     let p = c .before .before .before in
     let k = coding p in
-    begun-done (lead-begun (led k)) (k .lead-end .given .1) (p .put-coded .result) (ratios-out p) (p .put-coded .ensures) (c .both-wrote .result) (c .both-wrote .ensures)
+    first-laid-done (lead-first (led k)) (k .lead-end .given .1) (p .put-coded .result) (ratios-out p) (p .put-coded .ensures) (c .both-wrote .result) (c .both-wrote .ensures)
 
 pub put-record-spec : {M : Type 1} → statement M
 put-record-spec =

@@ -9,7 +9,7 @@ use lib.ListN.{getD}
 use Rattle.lists.specs.Lists.{member}
 use Rattle.lists.proofs.Below.{below-of}
 use Rattle.record_parts.specs.Fields.{lengthAsked, lengthGood}
-use Rattle.record_parts.proofs.Fields.{field-head, field-tag, field-length, field-body, field-found}
+use Rattle.record_parts.proofs.Fields.{field-head, field-tag, field-length, field-cut, field-found}
 use Rattle.record_parts.proofs.field.read_field.Statement.{statement}
 use Rattle.record_parts.proofs.field.read_field.Tie as tie
 
@@ -100,7 +100,7 @@ returns-4 c =
     let o = c .before .before in
     let l = o .before in
     let k = args-length l in
-    field-body (k .args .input .now) (k .args .tags .now) (asked k) (k .args .at) (k .pre .0) (at-tag (at-length l) .if1 .left)
+    field-cut (k .args .input .now) (k .args .tags .now) (asked k) (k .args .at) (k .pre .0) (at-tag (at-length l) .if1 .left)
     (tag-good l) _ (l .before .get-bytes .ensures .0) (length-good o) _ (c .no-field4 .ensures) (c .before .if4 .taken)
 
 add-t7 : tie.Need-add-t7

@@ -11,7 +11,7 @@ use Rattle.outputs.proofs.Outputs.Writers.{rest-left}
 use Rattle.record_format.specs.Fields.{Field, fieldOf, laid}
 use Rattle.record_format.specs.Runs.{rateTag, countTag, rateSize, countSize, sideFields, frontFields, positionsField}
 use Rattle.record_parts.specs.Leads.{leadFields}
-use Rattle.record_parts.proofs.putting.Writings.{fields-next, Begun, begun-short, begun-inside, begun-fits, begun-done}
+use Rattle.record_parts.proofs.putting.Writings.{fields-next, FirstLaid, first-laid-short, first-laid-inside, first-laid-fits, first-laid-done}
 use Rattle.record_parts.proofs.putting.put_lead.Statement.{statement}
 use Rattle.record_parts.proofs.putting.put_lead.Tie as tie
 
@@ -83,12 +83,12 @@ count-done k =
     (k .put-number-next .ensures) (side-done (sided k))
 
 -- the front is written, and the positions' field is to come
-front-begun : (k : tie.After-put-number-next) → let e = entry (rated (sided k)) in
-    Begun (frontFields (e .args .rate) (e .args .side) (count e)) (positions-field e) (all e) (k .put-number-next .result) (e .args .out .now) (count-out k)
-front-begun k = record { both = refl; put = count-done k }
+front-first : (k : tie.After-put-number-next) → let e = entry (rated (sided k)) in
+    FirstLaid (frontFields (e .args .rate) (e .args .side) (count e)) (positions-field e) (all e) (k .put-number-next .result) (e .args .out .now) (count-out k)
+front-first k = record { both = refl; put = count-done k }
 
 inside : (k : tie.After-front-end) → k .front-end .given .0 .0 ≤ length (count-out (counted k))
-inside k = begun-inside (front-begun (counted k)) (k .front-end .given .1)
+inside k = first-laid-inside (front-first (counted k)) (k .front-end .given .1)
 
 -- ---- the needs
 
@@ -119,7 +119,7 @@ same-length c = search needs
 returns : tie.Need-returns
 returns c =
     let k = c .before .before .before .before in
-    begun-short (front-begun k) (c .enum-told .given .1)
+    first-laid-short (front-first k) (c .enum-told .given .1)
 
 sub-put-coded : tie.Need-sub-put-coded
 sub-put-coded c = inside (c .before)
@@ -137,7 +137,7 @@ both-wrote-requires : tie.Need-both-wrote-requires
 both-wrote-requires c κs m is =
     let p = c .before .before in
     let k = coding p in
-    let fit = begun-fits (front-begun (counted k)) (k .front-end .given .1) (p .put-coded .result) (positions-out p) (p .put-coded .ensures) m is in
+    let fit = first-laid-fits (front-first (counted k)) (k .front-end .given .1) (p .put-coded .result) (positions-out p) (p .put-coded .ensures) m is in
     omega (arith, entry (rated (sided (counted k))) .good)
 
 same-length-2 : tie.Need-same-length-2
@@ -147,7 +147,7 @@ returns-2 : tie.Need-returns-2
 returns-2 c =
     let p = c .before .before .before in
     let k = coding p in
-    begun-done (front-begun (counted k)) (k .front-end .given .1) (p .put-coded .result) (positions-out p) (p .put-coded .ensures) (c .both-wrote .result) (c .both-wrote .ensures)
+    first-laid-done (front-first (counted k)) (k .front-end .given .1) (p .put-coded .result) (positions-out p) (p .put-coded .ensures) (c .both-wrote .result) (c .both-wrote .ensures)
 
 pub put-lead-spec : {M : Type 1} → statement M
 put-lead-spec =

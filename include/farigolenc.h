@@ -229,7 +229,7 @@ farigolenc_cursor_answer farigolenc_cursor_new(uint64_t count);
 /* Reads the next ratio, strictly. `next` is the state after it, and on a refusal
  * the state that was given. Tests 7; where `count` were given, 8 if the body is
  * used up, else 18; before that, 18 if the bytes at `place` begin with no ratio
- * form that would be written next. */
+ * form that would be written for a next ratio. */
 typedef struct {
     uint32_t number, place;
     uint64_t ratio;

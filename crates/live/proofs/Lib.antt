@@ -1,2 +1,3 @@
 pub mod Additions
 pub mod States
+pub mod Claims

@@ -10,7 +10,7 @@ use Rattle.ratio_format.specs.declared.Cursor.{Cursor}
 use Rattle.ratio_format.specs.declared.StepAnswer.{StepAnswer}
 use Rattle.ratio_format.specs.Windows.{pushed}
 use Rattle.ratio_format.specs.Stepping.{stepAnswer, stepCursor}
-use Rattle.ratio_format.specs.Claims.{ratioGiven}
+use Rattle.ratio_format.specs.SteppingClaims.{ratioGiven}
 use Rattle.ratio_format.proofs.Stepping.{Good, good-cursor, read-within, refusal, moved, StepOutcome, step-outcome, left-bad, left-end, left-over, left-no, left-ratio}
 use Rattle.live.specs.declared.stepping.Found.{Found}
 use Rattle.live.specs.States.{stepFound}

@@ -1,3 +1,4 @@
 pub mod Readers
 pub mod States
 pub mod Additions
+pub mod Claims

@@ -1,4 +1,4 @@
--- The claims of specs/Claims on the coding. Those on additions and steps are proved with their laws, in proofs/Lives and proofs/Stepping.
+-- The claims of specs/Claims.
 use mathlib.Core.List.{[]}
 use mathlib.Core.Logic.{_⊎_, inl, inr}
 use mathlib.Core.Path.{_≡_, refl}

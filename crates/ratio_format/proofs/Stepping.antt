@@ -24,7 +24,7 @@ use Rattle.ratio_format.specs.Open.{strictOne}
 use Rattle.ratio_format.specs.Bodies.{codedFrom, codedRatios}
 use Rattle.ratio_format.specs.Lives.{badWindow}
 use Rattle.ratio_format.specs.Stepping.{made, madeBody, madeCursor, badCursor, nextRead, stepRefusal, stepAnswer, stepCursor}
-use Rattle.ratio_format.specs.Claims.{stepAnswers, stepCursors, ratioGiven, ended, SteppingGives, SteppingEnds, SteppingOnly, CursorStays, MadeStays}
+use Rattle.ratio_format.specs.SteppingClaims.{stepAnswers, stepCursors, ratioGiven, ended, SteppingGives, SteppingEnds, SteppingOnly, CursorStays, MadeStays}
 use Rattle.ratio_format.proofs.Windows.{pushed-size, held-pushed, held-length, push-below}
 use Rattle.ratio_format.proofs.Open.{strict-takes, strict-open, strict-only, strict-used, open-value}
 use Rattle.ratio_format.proofs.Lives.{good-fill, window-stays, refusalBy}

@@ -4,6 +4,13 @@ pub mod Choice
 pub mod RatioForms
 pub mod Open
 pub mod Bodies
+pub mod OpenRule
+pub mod OpenExamples
 pub mod Lives
 pub mod Stepping
 pub mod Claims
+pub mod WindowClaims
+pub mod LiveClaims
+pub mod SteppingClaims
+pub mod LiveExamples
+pub mod SteppingExamples

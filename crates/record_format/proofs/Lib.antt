@@ -6,6 +6,7 @@ pub mod Moves
 pub mod Claims
 pub mod SideClaims
 pub mod WideClaims
+pub mod OpenReading
 pub mod MoveClaims
 pub mod FourFields
 pub mod Sizes

@@ -6,11 +6,13 @@ pub mod Moves
 pub mod Claims
 pub mod SideClaims
 pub mod WideClaims
+pub mod OpenReading
 pub mod MoveClaims
 pub mod FourFields
 pub mod Examples
 pub mod AnswerExamples
 pub mod SideExamples
 pub mod WideExamples
+pub mod OpenReadingExamples
 pub mod MoveExamples
 pub mod Sizes

@@ -10,7 +10,7 @@ ghost use Rattle.lists.specs.Compare.{both};
 ghost use Rattle.bits.specs.Digits.{bitsOf, byteOf};
 ghost use Rattle.position_format.specs.Rows.{rows, wideRows, holds, inTable, residue, reading, noRow, rowOf};
 ghost use Rattle.position_format.specs.Tables.{tableOf};
-ghost use Rattle.position_codec.specs.Codes.{PrefixIs, Coded};
+ghost use Rattle.position_codec.specs.Codes.{PrefixIs, Coded, CodableStep};
 ghost use Rattle.position_codec.specs.Found.{Leads, ReadBy};
 use bits::byte_of;
 use position_format::Form;
@@ -167,10 +167,10 @@ fn code_in(form: Form, row: usize, z: i64) -> Code
     }
 }
 
-// The code of z, which the form's table holds. Each row has a call of its own, whose numbers the compiler then knows: one call for all rows is
-// slower by a fifth.
+// The code of the step z: in the wide form each step between positions in range has one, in the old form each that the table holds. Each row has a
+// call of its own, whose numbers the compiler then knows: one call for all rows is slower by a fifth.
 pub(crate) fn code_of(form: Form, z: i64) -> Code
-    requires { ⌜ inTable (tableOf form) z ≡ true ⌝ }
+    requires { ⌜ CodableStep form z ⌝ }
     ensures { λ r. ⌜ Coded (tableOf form) z r ⌝ }
 {
     let row = row_of(z);

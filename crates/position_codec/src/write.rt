@@ -1,5 +1,4 @@
 // Positions written: the bits of one point after the other, and then the fill.
-ghost use mathlib.Core.Bool.{true};
 ghost use mathlib.Core.List.{List};
 ghost use mathlib.Core.Path.{_≡_};
 ghost use Prim.Native.Nat.{ℕ, _+_, _^_, _≤_, _<_};
@@ -10,8 +9,8 @@ ghost use Rattle.limits.specs.Points.{maxPoints, firstHigh};
 ghost use Rattle.position_format.specs.Rows.{Row, rows};
 ghost use Rattle.position_format.specs.Steps.{stepOf, firstOutside, stepHere};
 ghost use Rattle.position_format.specs.Tables.{tableOf};
-ghost use Rattle.position_format.specs.Positions.{positionBits, codedPositions, validPositions};
-ghost use Rattle.position_codec.specs.Codes.{Point};
+ghost use Rattle.position_format.specs.Positions.{positionBits, codedPositions};
+ghost use Rattle.position_codec.specs.Codes.{CodablePositions, Point};
 use crate::table::code_of;
 use crate::table::in_table;
 use bits::Sink;
@@ -73,7 +72,7 @@ fn put_first(positions: &[u64], out: &mut [u8]) -> Sink
 // The bits of point i, from the third on, come after those of the points before it: the code of its step. The step 0 is the usual one, and
 // its code one bit.
 fn put_point(form: Form, positions: &[u64], i: usize, out: &mut [u8], s: Sink) -> Sink
-    requires { ⌜ (2 ≤ i) × Point (tableOf form) (now positions) i × Sound s × Held (positionBits (tableOf form) (take i (now positions))) s ⌝ }
+    requires { ⌜ (2 ≤ i) × Point form (now positions) i × Sound s × Held (positionBits (tableOf form) (take i (now positions))) s ⌝ }
     ensures { λ r. ⌜ Sound r × Held (positionBits (tableOf form) (take (i + 1) (now (positions .entry)))) r
         × ((o : List ℕ) → PlacedBits (positionBits (tableOf form) (take i (now (positions .entry)))) (s .at) o (now (out .entry))
         → PlacedBits (positionBits (tableOf form) (take (i + 1) (now (positions .entry)))) (r .at) o (now (out .exit))) ⌝ }
@@ -86,9 +85,10 @@ fn put_point(form: Form, positions: &[u64], i: usize, out: &mut [u8], s: Sink) -
     bits::lay_both(out, s, c.size, c.prefix, c.width, c.rest)
 }
 
-// The coding of the positions in a form is written at the front of the output, whose rest stays, if there is room.
+// The coding of the positions in a form is written at the front of the output, whose rest stays, if there is room. In the wide form all positions in
+// range have one, in the old form those whose steps the table holds.
 pub fn put_positions(form: Form, positions: &[u64], out: &mut [u8]) -> Wrote
-    requires { ⌜ (validPositions (tableOf form) (now positions) ≡ true) × (length (now positions) ≤ maxPoints) ⌝ }
+    requires { ⌜ CodablePositions form (now positions) × (length (now positions) ≤ maxPoints) ⌝ }
     ensures { λ r. ⌜ Placed (codedPositions (tableOf form) (now (positions .entry))) r (now (out .entry)) (now (out .exit)) ⌝ }
 {
     let mut s = put_first(positions, out);

@@ -1,4 +1,4 @@
--- `code_of` meets its contract: by the row of the step.
+-- `code_of` meets its contract: the form's table holds the step, and the code is by the step's row.
 use mathlib.Core.Bool.{true}
 use mathlib.Core.Path.{_≡_, sym, ap, _∙_}
 use Prim.Native.Nat.{_<_}
@@ -11,6 +11,7 @@ use Rattle.position_format.specs.Rows.{inTable, rowOf}
 use Rattle.position_format.specs.Tables.{tableOf}
 use Rattle.position_format.proofs.Rows.Codes.{inTable-row}
 use Rattle.position_format.proofs.Tables.WideRows.{form-row, form-count}
+use Rattle.position_codec.proofs.Codes.{codable-held}
 use Rattle.position_codec.proofs.table.code_of.Statement.{statement}
 use Rattle.position_codec.proofs.table.code_of.Tie as tie
 
@@ -27,7 +28,7 @@ found : (c : tie.After-row-of) → let s = c .before in
 found c =
     let s = c .before in
     let z = toZ w64 (ofZ w64 (s .args .z)) in
-    let held : inTable (tableOf (s .args .form)) z ≡ true = ap (inTable (tableOf (s .args .form))) (step-is c) ∙ s .pre in
+    let held : inTable (tableOf (s .args .form)) z ≡ true = ap (inTable (tableOf (s .args .form))) (step-is c) ∙ codable-held (s .args .form) (s .args .z) (s .pre) in
     (held, form-row (s .args .form) z held ∙ sym (c .row-of .ensures))
 
 inside : (c : tie.After-row-of) → c .row-of .result < 6

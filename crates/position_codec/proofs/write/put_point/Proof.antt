@@ -1,4 +1,5 @@
 -- `put_point` meets its contract: the bits laid are those of the point.
+use mathlib.Core.Bool.{true}
 use mathlib.Core.List.{List, _++_}
 use mathlib.Core.Path.{_≡_, sym, ap, _∙_}
 use Prim.Native.Nat.{ℕ, _+_, _^_, _≤_}
@@ -10,14 +11,14 @@ use mir.Syntax.{w64}
 use mir.Val.{toZ, ofZ}
 use mir.ValLaws.{toZ-ofZ}
 use Rattle.bits.specs.Digits.{bitsOf}
-use Rattle.position_format.specs.Rows.{Row, inTable, code}
+use Rattle.position_format.specs.Rows.{Row, code}
 use Rattle.position_format.specs.Steps.{stepHere}
-use Rattle.position_format.specs.Positions.{positionBits}
+use Rattle.position_format.specs.Positions.{positionBits, validPositions}
 use Rattle.position_format.specs.Tables.{tableOf}
 use Rattle.position_format.proofs.Tables.{mostBits, form-sound, zero-row}
-use Rattle.position_format.proofs.Positions.Valid.{valid-parts}
 use Rattle.position_format.proofs.Positions.Sizes.{bits-few}
-use Rattle.position_format.proofs.Points.{valid-here, point-step, point-place}
+use Rattle.position_format.proofs.Points.{point-step, point-place}
+use Rattle.position_codec.proofs.Codes.{codable-valid, codable-range, codable-here}
 use Rattle.position_codec.proofs.write.put_point.Statement.{statement}
 use Rattle.position_codec.proofs.write.put_point.Tie as tie
 
@@ -31,17 +32,21 @@ positions s = s .args .positions .now
 abbrev before-it : tie.Start → List ℕ
 before-it s = positionBits (table s) (take (s .args .i) (positions s))
 
+-- the positions are valid by the table
+valid : (s : tie.Start) → validPositions (table s) (positions s) ≡ true
+valid s = codable-valid (s .args .form) (positions s) (s .pre .1 .codable)
+
 -- there are not too many bits
 small : (s : tie.Start) → s .args .s .at + 8 ≤ 2 ^ 32
 small s =
     let p = s .pre .1 in
-    omega (arith, s .pre .3 .size, p .many, point-place (table s) (positions s) (s .args .i) (omega (arith, p .here)), bits-few (s .args .form) (positions s) (p .valid) (p .many))
+    omega (arith, s .pre .3 .size, p .many, point-place (table s) (positions s) (s .args .i) (omega (arith, p .here)), bits-few (s .args .form) (positions s) (valid s) (p .many))
 
 step-at-requires : tie.Need-step-at-requires
 step-at-requires c κs =
     let s = c .before .before in
     let p = s .pre .1 in
-    (s .pre .0, p .here, omega (arith, valid-parts (table s) (positions s) (p .valid) .0))
+    (s .pre .0, p .here, codable-range (s .args .form) (positions s) (p .codable))
 
 -- where the step is known: the start, and the step, read back from its bits
 abbrev start : tie.After-step-at → tie.Start
@@ -76,7 +81,8 @@ code-of-requires : tie.Need-code-of-requires
 code-of-requires c κs =
     let k = c .before in
     let s = start k in
-    ap (inTable (table s)) (step-is k) ∙ valid-here (positions s) (s .args .i) (s .pre .0) (s .pre .1 .here) (table s) (s .pre .1 .valid)
+    let p = s .pre .1 in
+    rw (step-is k) (codable-here (s .args .form) (positions s) (s .args .i) (s .pre .0) (p .here) (p .codable))
 
 lay-both-requires : tie.Need-lay-both-requires
 lay-both-requires c κs =

@@ -1,5 +1,6 @@
 -- `put_positions` meets its contract. The loop's invariant: the bits of the points passed are written or held.
 -- The measure is what is left of the length.
+use mathlib.Core.Bool.{true}
 use mathlib.Core.List.{List}
 use mathlib.Core.Path.{_≡_, refl, _∙_}
 use Prim.Native.Nat.{ℕ, _-_, _≤_}
@@ -10,10 +11,11 @@ use lib.Seq.{take-all}
 use Rattle.lists.proofs.Below.{below-of}
 use Rattle.bits.specs.Sinks.{Sound, Held, PlacedBits}
 use Rattle.position_format.specs.Tables.{tableOf}
-use Rattle.position_format.specs.Positions.{positionBits, codedPositions}
+use Rattle.position_format.specs.Positions.{positionBits, codedPositions, validPositions}
 use Rattle.position_format.proofs.Tables.{table-good}
 use Rattle.position_format.proofs.Positions.{positions-below}
 use Rattle.position_format.proofs.Positions.Sizes.{bits-few}
+use Rattle.position_codec.proofs.Codes.{codable-valid}
 use Rattle.position_codec.proofs.write.put_positions.Statement.{statement}
 use Rattle.position_codec.proofs.write.put_positions.Tie as tie
 
@@ -38,12 +40,16 @@ first c = c .before .before .before
 abbrev start : tie.At-loop Inv-loop μ-loop → tie.Start Inv-loop μ-loop
 start c = first c .before .before .before .before
 
+-- the positions are valid by the form's table
+valid : (s : tie.Start Inv-loop μ-loop) → validPositions (tableOf (s .args .form)) (s .args .positions .now) ≡ true
+valid s = codable-valid (s .args .form) (s .args .positions .now) (s .pre .0)
+
 put-point-requires : tie.Need-put-point-requires Inv-loop μ-loop
 put-point-requires c κs =
     let head = c .before .before in
     let p = start head .pre in
     let l = head .loop .inv in
-    (l .0, record { valid = p .0; many = p .1; here = c .before .loop-test .taken }, l .2, l .3)
+    (l .0, record { codable = p .0; many = p .1; here = c .before .loop-test .taken }, l .2, l .3)
 
 add-i : tie.Need-add-i Inv-loop μ-loop
 add-i c = omega arith
@@ -72,7 +78,7 @@ put-last-requires c κs =
     let end = c .before in
     let s = start (end .before) in
     let ts = s .args .positions .now in
-    (omega (arith, done end .0 .size, bits-few (s .args .form) ts (s .pre .0) (s .pre .1)), end .before .loop .inv .2)
+    (omega (arith, done end .0 .size, bits-few (s .args .form) ts (valid s) (s .pre .1)), end .before .loop .inv .2)
 
 same-length : tie.Need-same-length Inv-loop μ-loop
 same-length c = search needs
@@ -86,7 +92,7 @@ returns c =
     let s = start head in
     let o = s .args .out .now in
     let ts = s .args .positions .now in
-    put .put-last .ensures o (positionBits (tableOf (s .args .form)) ts) (below-of 256 o (λ i. first head .before .before .slice-known .given i .fits)) (positions-below (tableOf (s .args .form)) (table-good (s .args .form)) ts (s .pre .0)) (done end .0) (done end .1)
+    put .put-last .ensures o (positionBits (tableOf (s .args .form)) ts) (below-of 256 o (λ i. first head .before .before .slice-known .given i .fits)) (positions-below (tableOf (s .args .form)) (table-good (s .args .form)) ts (valid s)) (done end .0) (done end .1)
 
 pub put-positions-spec : {M : Type 1} → statement M
 put-positions-spec =

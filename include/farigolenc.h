@@ -13,8 +13,9 @@
  * long pause makes; its records have at most 55325 bytes. The wide form, tag 5,
  * has a code for each step between positions, and takes at most 3500 points. A run
  * that both forms take has a record in each, and farigolenc_to_wide and
- * farigolenc_to_old make each out of the other. Calls that are given neither a form
- * nor a record know of no form, and their limit is 4096.
+ * farigolenc_to_old make each out of the other. A span, live addition, stepping and
+ * an explanation know of no form, and their limit is 4096. The calls that compare
+ * have no limit: what was read is lent to them, and lists of any length are taken.
  *
  * The answer of a call that can refuse begins with a number, 0 for success or the
  * number of a refusal, and a place, 0 on success:

@@ -2,3 +2,4 @@ pub mod Differences
 pub mod Overall
 pub mod Claims
 pub mod Comparisons
+pub mod NumberClaims

@@ -3,3 +3,6 @@ pub mod Overall
 pub mod Comparisons
 pub mod Claims
 pub mod Examples
+pub mod Numbers
+pub mod NumberClaims
+pub mod NumberExamples

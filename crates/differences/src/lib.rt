@@ -1,9 +1,12 @@
 // What differs between two records (document 02, No. 7), by what strict reading answered of each: all but the points in one call, and the points
-// one index at a time, so that no call needs room for the differences.
+// one index at a time, so that no call needs room for the differences; and each difference in numbers.
 ghost use mathlib.Core.Path.{_≡_};
 ghost use Rattle.differences.specs.Differences.{valuesAt, propertyDifference, moreDifference, positionAt, ratioAt};
 ghost use Rattle.differences.specs.Overall.{refusedOverall, overallOf};
+ghost use Rattle.differences.specs.Numbers.{noKind, propertyNumber, plainNumbers, differenceNumbers, overallNumbers};
 use kind::Kind;
+use kind::KindAnswer;
+use kind::kind_numbers;
 use kind::kind_of;
 use record_format::ReadAnswer;
 
@@ -47,6 +50,33 @@ pub struct OverallDifferences {
     pub count: Difference,
     pub form: Difference,
     pub more: Difference,
+}
+
+// A difference in numbers, for C: what differs, 1 the rate, 2 the side, 3 the count, 4 the form, 5 the position and 6 the ratio at an index, 7 how
+// many points only the longer run has, 0 nothing; the index; the first record's value and the second's, or for 7 the number of points; of ratios
+// both kinds.
+#[repr(C)]
+pub struct DifferenceAnswer {
+    pub what: u32,
+    pub index: u64,
+    pub first: u64,
+    pub second: u64,
+    pub first_kind: KindAnswer,
+    pub second_kind: KindAnswer,
+}
+
+// The differences that are of no index (rate, side, count, form, and how many points only the longer run has), or the refusal: its number, its
+// place, and which record it was, 1 or 2.
+#[repr(C)]
+pub struct OverallAnswer {
+    pub number: u32,
+    pub place: u32,
+    pub which: u32,
+    pub rate: DifferenceAnswer,
+    pub side: DifferenceAnswer,
+    pub count: DifferenceAnswer,
+    pub form: DifferenceAnswer,
+    pub more: DifferenceAnswer,
 }
 
 // A refusal: no difference beside it.
@@ -158,5 +188,92 @@ pub fn ratio_at(first: &[u64], second: &[u64], index: u64) -> Difference
             second: b,
             second_kind: kind_of(b),
         },
+    }
+}
+
+// No kind: all numbers are 0.
+fn no_kind() -> KindAnswer
+    ensures { λ r. ⌜ r ≡ noKind ⌝ }
+{
+    KindAnswer {
+        kind: 0,
+        negative: 0,
+        value: 0.0,
+        bits: 0,
+    }
+}
+
+// A difference without kinds.
+fn plain_numbers(what: u32, index: u64, first: u64, second: u64) -> DifferenceAnswer
+    ensures { λ r. ⌜ r ≡ plainNumbers what index first second ⌝ }
+{
+    DifferenceAnswer {
+        what,
+        index,
+        first,
+        second,
+        first_kind: no_kind(),
+        second_kind: no_kind(),
+    }
+}
+
+// The number of a property.
+fn property_number(property: Property) -> u32
+    ensures { λ r. ⌜ r ≡ propertyNumber property ⌝ }
+{
+    match property {
+        Property::Rate => 1,
+        Property::Side => 2,
+        Property::Count => 3,
+        Property::Form => 4,
+    }
+}
+
+// The numbers of a difference.
+pub fn difference_numbers(difference: Difference) -> DifferenceAnswer
+    ensures { λ r. ⌜ r ≡ differenceNumbers difference ⌝ }
+{
+    match difference {
+        Difference::Equal => plain_numbers(0, 0, 0, 0),
+        Difference::InProperty(property, first, second) => {
+            plain_numbers(property_number(property), 0, first as u64, second as u64)
+        }
+        Difference::Position(index, first, second) => plain_numbers(5, index, first, second),
+        Difference::Ratio {
+            index,
+            first,
+            first_kind,
+            second,
+            second_kind,
+        } => DifferenceAnswer {
+            what: 6,
+            index,
+            first,
+            second,
+            first_kind: kind_numbers(first_kind),
+            second_kind: kind_numbers(second_kind),
+        },
+        Difference::More(n) => plain_numbers(7, 0, n as u64, 0),
+    }
+}
+
+// The numbers of the differences that are of no index, beside the refusal.
+pub fn overall_numbers(overall: OverallDifferences) -> OverallAnswer
+    ensures { λ r. ⌜ r ≡ overallNumbers overall ⌝ }
+{
+    let rate = overall.rate;
+    let side = overall.side;
+    let count = overall.count;
+    let form = overall.form;
+    let more = overall.more;
+    OverallAnswer {
+        number: overall.number,
+        place: overall.place,
+        which: overall.which,
+        rate: difference_numbers(rate),
+        side: difference_numbers(side),
+        count: difference_numbers(count),
+        form: difference_numbers(form),
+        more: difference_numbers(more),
     }
 }

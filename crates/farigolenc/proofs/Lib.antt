@@ -1,2 +1,1 @@
-pub mod Differences
 pub mod Demand3

@@ -20,8 +20,10 @@ use Rattle.ratio_format.specs.Zeros.{leadZeros, trailZeros, sumOf}
 use Rattle.ratio_format.proofs.Bodies.{coded-on, coded-more}
 use Rattle.ratio_format.proofs.Choice.{best-at, best-most, best-first, best-xor, bestXor, find-at, find-first}
 use Rattle.ratio_format.proofs.Windows.Before.{window-inside, window-at}
+use Rattle.reasons.specs.declared.Reason.{Reason}
 use Rattle.reasons.specs.declared.Reason.the-variants.{Reference, Xor, Exception, Empty, Refused}
-use Rattle.reasons.specs.Reasons.{xorReason, reasonOf, windowAt}
+use Rattle.reasons.specs.Reasons.{xorReason, reasonOf, windowAt, explained}
+use Rattle.reasons.specs.Numbers.{reasonNumbers}
 use Rattle.reasons.specs.Claims.{NoneEqual, Says, SaysTrue, WindowIs, SaysOne, ratioFormNamed, NamesRatioForm, OnlyWindow, RefusesExactly}
 use Rattle.reasons.proofs.Reasons.{reason-cases, explained-many, explained-past, explained-here}
 
@@ -163,6 +165,21 @@ only-window vs us i fv fu hv hu same =
     ∙ ap₂ reasonOf (same i (omega arith) (omega arith)) (window-same vs us i hv hu same)
     ∙ sym (explained-here us i fu hu)
 
+-- a reason that says something has the number 0 and the place 0
+said-clear : (v : ℕ) (w : List ℕ) (r : Reason) → Says v w r → (reasonNumbers r .number ≡ 0) × (reasonNumbers r .place ≡ 0)
+said-clear v w (Reference p) h = (refl, refl)
+said-clear v w (Xor p l t) h = (refl, refl)
+said-clear v w (Exception s) h = (refl, refl)
+said-clear v w Empty h = (refl, refl)
+said-clear v w (Refused n p) h = absurd h
+
 pub refuses-exactly : RefusesExactly
-refuses-exactly vs i =
-    (explained-many vs i, explained-past vs i, λ few h n p e. subst (Says (getD vs i 0) (windowAt vs i)) e (says-true vs i few h))
+refuses-exactly vs i = (
+  λ h. let e = explained-many vs i h in (e, ap reasonNumbers e),
+  (λ few h. let e = explained-past vs i few h in (e, ap reasonNumbers e)),
+  λ few h.
+      let v = getD vs i 0 in
+      let w = windowAt vs i in
+      let s = says-true vs i few h in
+      let clear = said-clear v w (explained vs i) s in ((λ n p e. subst (Says v w) e s), clear .0, clear .1),
+)

@@ -1,4 +1,4 @@
--- Document 02, No. 1, as statements about the answer `explained`; proved in proofs/Claims.
+-- Document 02, No. 1, as statements about the answer `explained` and its numbers; ReasonsApart is proved in proofs/Numbers, each other in proofs/Claims.
 --   NoneEqual v w n        no ratio of the window w before place n is v; NoneAbove v w s: none of it has a sum above s
 --   Says v w r             what the reason r says of the ratio v is true of the window w
 --   SaysTrue               the answer for an index says what is true of the window there
@@ -7,7 +7,9 @@
 --   ratioFormNamed v w r   the ratio form of v that the reason r names; a refusal names none
 --   NamesRatioForm         it is the ratio form that the writer chooses there, and its bytes are those at that point of the body of the whole run
 --   OnlyWindow             the answer goes by the ratio at the index and the 127 before it, and by no other
---   RefusesExactly         it is the refusal 3 for more than 4,096 ratios, else 22 for an index not below their number, and else no refusal
+--   refusedNumbers n       the numbers of the refusal n, each of them written out: its place and all else is 0
+--   RefusesExactly         it is the refusal 3 for more than 4,096 ratios, else 22 for an index not below their number, and else no refusal, in numbers too
+--   ReasonsApart           no two answers have the same numbers
 use mathlib.Core.List.{List, _++_}
 use mathlib.Core.Option.{Option, none, some}
 use mathlib.Core.Path.{_≡_}
@@ -24,7 +26,9 @@ use Rattle.ratio_format.specs.Windows.{windowSize}
 use Rattle.ratio_format.specs.Zeros.{leadZeros, trailZeros, sumOf}
 use Rattle.reasons.specs.declared.Reason.{Reason}
 use Rattle.reasons.specs.declared.Reason.the-variants.{Reference, Xor, Exception, Empty, Refused}
+use Rattle.reasons.specs.declared.ExplainAnswer.{ExplainAnswer}
 use Rattle.reasons.specs.Reasons.{windowAt, explained}
+use Rattle.reasons.specs.Numbers.{reasonNumbers}
 
 -- no equal ratio nearer than place n
 abbrev pub NoneEqual : ℕ → List ℕ → ℕ → Type 0
@@ -80,8 +84,19 @@ abbrev pub OnlyWindow : Type 0
 OnlyWindow = (vs us : List ℕ) (i : ℕ) → length vs ≤ maxPoints → length us ≤ maxPoints → i < length vs → i < length us
     → ((j : ℕ) → j ≤ i → i ≤ j + windowSize → getD vs j 0 ≡ getD us j 0) → explained vs i ≡ explained us i
 
--- the refusals, and their places
+-- all but the number is 0
+abbrev pub refusedNumbers : ℕ → ExplainAnswer
+refusedNumbers n = record { number = n; place = 0; reason = 0; at = 0; leading = 0; trailing = 0; sum = 0 }
+
+-- the refusals, and their places; where there is none, number and place are 0
 abbrev pub RefusesExactly : Type 0
 RefusesExactly = (vs : List ℕ) (i : ℕ)
-    → (maxPoints < length vs → explained vs i ≡ Refused 3 0) × (length vs ≤ maxPoints → length vs ≤ i → explained vs i ≡ Refused 22 0)
-    × (length vs ≤ maxPoints → i < length vs → (n p : ℕ) → explained vs i ≡ Refused n p → ⊥)
+    → let answer = explained vs i in
+    let numbers = reasonNumbers answer in
+    (maxPoints < length vs → (answer ≡ Refused 3 0) × (numbers ≡ refusedNumbers 3))
+    × (length vs ≤ maxPoints → length vs ≤ i → (answer ≡ Refused 22 0) × (numbers ≡ refusedNumbers 22))
+    × (length vs ≤ maxPoints → i < length vs → ((n p : ℕ) → answer ≡ Refused n p → ⊥) × (numbers .number ≡ 0) × (numbers .place ≡ 0))
+
+-- so each case can be told, with all that it carries
+abbrev pub ReasonsApart : Type 0
+ReasonsApart = (r q : Reason) → reasonNumbers r ≡ reasonNumbers q → r ≡ q

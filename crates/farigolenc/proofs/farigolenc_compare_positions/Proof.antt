@@ -1,7 +1,7 @@
 -- `farigolenc_compare_positions` meets its contract: the numbers of the difference.
 use mathlib.Core.Path.{ap, _∙_}
 use borrow.Author.Needs.{needs}
-use Rattle.farigolenc.specs.Differences.{differenceNumbers}
+use Rattle.differences.specs.Numbers.{differenceNumbers}
 use Rattle.farigolenc.proofs.farigolenc_compare_positions.Statement.{statement}
 use Rattle.farigolenc.proofs.farigolenc_compare_positions.Tie as tie
 

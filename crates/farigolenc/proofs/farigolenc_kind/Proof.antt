@@ -1,7 +1,7 @@
 -- `farigolenc_kind` meets its contract: the numbers of the ratio's kind.
 use mathlib.Core.Path.{ap, _∙_}
 use borrow.Author.Needs.{needs}
-use Rattle.farigolenc.specs.Kinds.{kindNumbers}
+use Rattle.kind.specs.Numbers.{kindNumbers}
 use Rattle.farigolenc.proofs.farigolenc_kind.Statement.{statement}
 use Rattle.farigolenc.proofs.farigolenc_kind.Tie as tie
 

@@ -1,9 +1,8 @@
 -- `kind_of` meets its contract: each return is one of the three places of the bits without their sign.
-mod Values
 use mathlib.Core.Path.{sym, ap}
 use native.Mathlib.Omega.{arith}
 use Rattle.kind.specs.Kinds.{kindAt}
-use Rattle.kind.proofs.kind_of.Proof.Values.{value-above, value-equal, value-not-nan, value-below}
+use Rattle.kind.proofs.Values.{value-above, value-equal, value-not-nan, value-below}
 use Rattle.kind.proofs.kind_of.Statement.{statement}
 use Rattle.kind.proofs.kind_of.Tie as tie
 

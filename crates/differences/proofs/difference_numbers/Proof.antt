@@ -2,10 +2,10 @@
 use mathlib.Core.Path.{sym, ap, ap₂, _∙_}
 use Prim.Native.Nat.{ℕ}
 use borrow.Author.Needs.{needs}
-use Rattle.farigolenc.specs.declared.KindAnswer.{KindAnswer}
-use Rattle.farigolenc.specs.Differences.{plainNumbers, differenceNumbers}
-use Rattle.farigolenc.proofs.difference_numbers.Statement.{statement}
-use Rattle.farigolenc.proofs.difference_numbers.Tie as tie
+use Rattle.kind.specs.declared.KindAnswer.{KindAnswer}
+use Rattle.differences.specs.Numbers.{plainNumbers, differenceNumbers}
+use Rattle.differences.proofs.difference_numbers.Statement.{statement}
+use Rattle.differences.proofs.difference_numbers.Tie as tie
 
 enum-told : tie.Need-enum-told
 enum-told c = search needs

@@ -3,9 +3,9 @@
 --   kindNumbers k   kind 0 with the value of a number, 1 with the sign of an infinity, 2 with the bits of a not-a-number; all else is 0
 use mathlib.Core.Bool.{cond}
 use lib.Ieee.{Float, binary64, ofBits}
 use Rattle.kind.specs.declared.Kind.{Kind}
 use Rattle.kind.specs.declared.Kind.the-variants.{Number, Infinity, Nan}
-use Rattle.farigolenc.specs.declared.KindAnswer.{KindAnswer}
+use Rattle.kind.specs.declared.KindAnswer.{KindAnswer}
 
 -- 0 as a float
 abbrev pub zeroFloat : Float

@@ -1,29 +1,21 @@
--- The numbers of a difference tell it: from them it comes back.
-use mathlib.Core.Bool.{true, false, cond}
+-- What a caller from C sees of differences. The numbers of a difference tell it: from them it comes back.
+use mathlib.Core.Bool.{cond}
 use mathlib.Core.Path.{_≡_, refl, sym, ap, ap₂, _∙_}
+use Prim.Native.Nat.{ℕ}
 use lib.Dec.{eqb}
+use lib.Ieee.{ofBits, ofFields}
 use Rattle.kind.specs.declared.Kind.{Kind}
-use Rattle.kind.specs.declared.Kind.the-variants.{Number, Infinity, Nan}
+use Rattle.kind.proofs.Numbers.{kindIn, kind-back}
 use Rattle.differences.specs.declared.Property.the-variants.{Rate, Side, Count, Form}
 use Rattle.differences.specs.declared.Difference.{Difference}
 use Rattle.differences.specs.declared.Difference.the-variants.{Equal, InProperty, Position, Ratio, More}
+use Rattle.differences.specs.declared.DifferenceAnswer.{DifferenceAnswer}
 use Rattle.differences.specs.declared.OverallDifferences.{OverallDifferences}
-use Rattle.farigolenc.specs.declared.KindAnswer.{KindAnswer}
-use Rattle.farigolenc.specs.declared.DifferenceAnswer.{DifferenceAnswer}
-use Rattle.farigolenc.specs.declared.OverallAnswer.{OverallAnswer}
-use Rattle.farigolenc.specs.Kinds.{kindNumbers}
-use Rattle.farigolenc.specs.Differences.{differenceNumbers, overallNumbers}
-use Rattle.farigolenc.specs.Claims.{DifferencesApart, OverallApart}
-
--- the kind that has these numbers
-abbrev kindIn : KindAnswer → Kind
-kindIn k = cond (eqb (k .kind) 0) (Number (k .value)) (cond (eqb (k .kind) 1) (Infinity (eqb (k .negative) 1)) (Nan (k .bits)))
-
-kind-back : (k : Kind) → kindIn (kindNumbers k) ≡ k
-kind-back (Number v) = refl
-kind-back (Infinity true) = refl
-kind-back (Infinity false) = refl
-kind-back (Nan n) = refl
+use Rattle.differences.specs.declared.OverallAnswer.{OverallAnswer}
+use Rattle.differences.specs.Overall.{refusedOverall}
+use Rattle.differences.specs.Numbers.{differenceNumbers, overallNumbers}
+use Rattle.differences.specs.NumberClaims.{refusedNumbers, DifferencesApart, OverallApart, RefusedAlone}
+use Rattle.differences.proofs.Overall.{overall-first, overall-second}
 
 -- the difference that has these numbers
 abbrev differenceIn : DifferenceAnswer → Difference
@@ -69,3 +61,14 @@ overall-back h = rw (difference-back (h .rate), difference-back (h .side), diffe
 
 pub overall-apart : OverallApart
 overall-apart h k e = sym (overall-back h) ∙ ap overallIn e ∙ overall-back k
+
+-- a refusal, in numbers
+refused-is : (n p w : ℕ) → overallNumbers (refusedOverall n p w) ≡ refusedNumbers n p w
+unfolding ofBits ofFields
+refused-is n p w = refl
+
+pub refused-alone : RefusedAlone
+refused-alone a b = (
+  λ n. ap overallNumbers (sym (overall-first a b n)) ∙ refused-is (a .number) (a .place) 1,
+  λ ok n. ap overallNumbers (sym (overall-second a b ok n)) ∙ refused-is (b .number) (b .place) 2,
+)

@@ -4,9 +4,9 @@ use mathlib.Core.Path.{_≡_, refl, sym, ap, _∙_}
 use Prim.Native.Nat.{ℕ}
 use mir.Val.{boolByte}
 use borrow.Author.Needs.{needs}
-use Rattle.farigolenc.specs.Kinds.{zeroFloat, kindNumbers}
-use Rattle.farigolenc.proofs.kind_numbers.Statement.{statement}
-use Rattle.farigolenc.proofs.kind_numbers.Tie as tie
+use Rattle.kind.specs.Numbers.{zeroFloat, kindNumbers}
+use Rattle.kind.proofs.kind_numbers.Statement.{statement}
+use Rattle.kind.proofs.kind_numbers.Tie as tie
 
 -- a flag as a number
 as-number : (b : Bool) → boolByte b ≡ cond b 1 0

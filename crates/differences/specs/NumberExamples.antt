@@ -1,27 +1,24 @@
 -- Document 02, No. 7: differences and their numbers, as one table, proved from the definitions by one statement.
---   Example, example      a difference, and its numbers as they should be
---   kindIs, differs       numbers of a kind and of a difference, each of them written out
---   floatZero, kindless   0 as a float, and the numbers of no kind, written out and not by the definitions
---   noNumbers             all of them 0
---   examples              the rows; examples-hold: each is as it is given
+--   Example, example   a difference, and its numbers as they should be
+--   examples           the rows; examples-hold: each is as it is given
 --   first, second, refusedAnswer   what strict reading answered of two records, and of one that was refused
---   overall-hold          the numbers of two records that differ in every property and in their counts
---   refused-hold          those of a refusal of the second record
+--   overall-hold       the numbers of two records that differ in every property and in their counts
+--   refused-hold       those of a refusal of the second record
 use mathlib.Core.Bool.{true, false}
 use mathlib.Core.List.{List, [], _∷_, map}
 use mathlib.Core.Path.{_≡_, refl}
-use Prim.Native.Nat.{ℕ}
-use lib.Ieee.{Float, fin, ofBits, ofFields}
+use lib.Ieee.{fin, ofBits, ofFields}
 use lib.IntN.{pos, negsuc}
 use Rattle.kind.specs.Kinds.{kindOf}
-use Rattle.differences.specs.declared.Property.the-variants.{Rate, Side, Count, Form}
-use Rattle.differences.specs.declared.Difference.{Difference}
-use Rattle.differences.specs.declared.Difference.the-variants.{Equal, InProperty, Position, Ratio, More}
-use Rattle.differences.specs.Overall.{overallOf}
+use Rattle.kind.specs.Claims.{kindIs, floatZero}
 use Rattle.record_format.specs.declared.ReadAnswer.{ReadAnswer}
-use Rattle.farigolenc.specs.declared.KindAnswer.{KindAnswer}
-use Rattle.farigolenc.specs.declared.DifferenceAnswer.{DifferenceAnswer}
-use Rattle.farigolenc.specs.Differences.{differenceNumbers, overallNumbers}
+use Rattle.differences.specs.declared.Property.the-variants.{Rate, Side, Count, Form}
+use Rattle.differences.specs.declared.Difference.{Difference}
+use Rattle.differences.specs.declared.Difference.the-variants.{Equal, InProperty, Position, Ratio, More}
+use Rattle.differences.specs.declared.DifferenceAnswer.{DifferenceAnswer}
+use Rattle.differences.specs.Overall.{overallOf}
+use Rattle.differences.specs.Numbers.{differenceNumbers, overallNumbers}
+use Rattle.differences.specs.NumberClaims.{differs, kindless, noNumbers, refusedNumbers}
 
 -- an example: a difference, and its numbers
 pub record Example : Type 0 where
@@ -31,26 +28,6 @@ pub record Example : Type 0 where
 -- such an example
 abbrev example : Difference → DifferenceAnswer → Example
 example d n = record { difference = d; expected = n }
-
--- 0 as a float
-abbrev floatZero : Float
-floatZero = fin false 0 (pos 0)
-
--- the kind, whether it is a negative infinity, the value and the bits
-abbrev kindIs : ℕ → ℕ → Float → ℕ → KindAnswer
-kindIs k s v b = record { kind = k; negative = s; value = v; bits = b }
-
--- what differs, the index, both values and both kinds
-abbrev differs : ℕ → ℕ → ℕ → ℕ → KindAnswer → KindAnswer → DifferenceAnswer
-differs w i a b k l = record { what = w; index = i; first = a; second = b; «first_kind» = k; «second_kind» = l }
-
--- no kind
-abbrev kindless : KindAnswer
-kindless = kindIs 0 0 floatZero 0
-
--- no difference
-abbrev noNumbers : DifferenceAnswer
-noNumbers = differs 0 0 0 0 kindless kindless
 
 -- each property; a position; ratios of each kind on each side, infinities of both signs among them; the points that only the longer run has; and none
 pub examples : List Example
@@ -103,7 +80,6 @@ unfolding ofBits ofFields overallOf
 overall-hold = refl
 
 -- no difference beside a refusal
-pub refused-hold : overallNumbers (overallOf first refusedAnswer)
-    ≡ record { number = 10; place = 7; which = 2; rate = noNumbers; side = noNumbers; count = noNumbers; form = noNumbers; more = noNumbers }
+pub refused-hold : overallNumbers (overallOf first refusedAnswer) ≡ refusedNumbers 10 7 2
 unfolding ofBits ofFields overallOf
 refused-hold = refl

@@ -2,9 +2,9 @@
 --   reasonNumbers r   reason 1 with the place of a reference, 2 with the place, both counts and the sum of an xor form, 3 with the best sum of an
 --                     exception, 4 for an empty window, 0 with the number and the place of a refusal; all else is 0
 use Prim.Native.Nat.{_+_}
 use Rattle.reasons.specs.declared.Reason.{Reason}
 use Rattle.reasons.specs.declared.Reason.the-variants.{Reference, Xor, Exception, Empty, Refused}
-use Rattle.farigolenc.specs.declared.ExplainAnswer.{ExplainAnswer}
+use Rattle.reasons.specs.declared.ExplainAnswer.{ExplainAnswer}
 
 -- the numbers of each case
 abbrev pub reasonNumbers : Reason → ExplainAnswer

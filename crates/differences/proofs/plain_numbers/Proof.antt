@@ -1,9 +1,9 @@
 -- `plain_numbers` meets its contract: neither value has a kind.
 use mathlib.Core.Path.{ap₂}
 use borrow.Author.Needs.{needs}
-use Rattle.farigolenc.specs.declared.KindAnswer.{KindAnswer}
-use Rattle.farigolenc.proofs.plain_numbers.Statement.{statement}
-use Rattle.farigolenc.proofs.plain_numbers.Tie as tie
+use Rattle.kind.specs.declared.KindAnswer.{KindAnswer}
+use Rattle.differences.proofs.plain_numbers.Statement.{statement}
+use Rattle.differences.proofs.plain_numbers.Tie as tie
 
 no-kind-requires : tie.Need-no-kind-requires
 no-kind-requires c κs = search needs

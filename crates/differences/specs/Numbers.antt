@@ -6,15 +6,15 @@
 --                          bits and the kinds of both ratios; 7 with the number of points that only the longer run has; all else is 0
 --   overallNumbers h       the same of each difference of h, beside the refusal
 use Prim.Native.Nat.{ℕ}
+use Rattle.kind.specs.declared.KindAnswer.{KindAnswer}
+use Rattle.kind.specs.Numbers.{zeroFloat, kindNumbers}
 use Rattle.differences.specs.declared.Property.{Property}
 use Rattle.differences.specs.declared.Property.the-variants.{Rate, Side, Count, Form}
 use Rattle.differences.specs.declared.Difference.{Difference}
 use Rattle.differences.specs.declared.Difference.the-variants.{Equal, InProperty, Position, Ratio, More}
 use Rattle.differences.specs.declared.OverallDifferences.{OverallDifferences}
-use Rattle.farigolenc.specs.declared.KindAnswer.{KindAnswer}
-use Rattle.farigolenc.specs.declared.DifferenceAnswer.{DifferenceAnswer}
-use Rattle.farigolenc.specs.declared.OverallAnswer.{OverallAnswer}
-use Rattle.farigolenc.specs.Kinds.{zeroFloat, kindNumbers}
+use Rattle.differences.specs.declared.DifferenceAnswer.{DifferenceAnswer}
+use Rattle.differences.specs.declared.OverallAnswer.{OverallAnswer}
 
 -- all 0
 abbrev pub noKind : KindAnswer

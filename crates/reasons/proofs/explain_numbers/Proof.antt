@@ -1,13 +1,13 @@
--- `farigolenc_explain` meets its contract: the numbers of each case, which are small.
+-- `explain_numbers` meets its contract: the numbers of each case, which are small.
 use mathlib.Core.Path.{_≡_, sym, ap, subst, _∙_}
 use native.Mathlib.Omega.{arith}
 use borrow.Author.Needs.{needs}
 use Rattle.reasons.specs.declared.Reason.{Reason}
 use Rattle.reasons.specs.Reasons.{explained}
 use Rattle.reasons.proofs.Reasons.{Small, explained-small}
-use Rattle.farigolenc.specs.Reasons.{reasonNumbers}
-use Rattle.farigolenc.proofs.farigolenc_explain.Statement.{statement}
-use Rattle.farigolenc.proofs.farigolenc_explain.Tie as tie
+use Rattle.reasons.specs.Numbers.{reasonNumbers}
+use Rattle.reasons.proofs.explain_numbers.Statement.{statement}
+use Rattle.reasons.proofs.explain_numbers.Tie as tie
 
 -- the start, from where the answer is known; and that place, from where its case is: a reference, an xor form, an exception, an empty window, a refusal
 abbrev start : tie.After-explain → tie.Start
@@ -92,8 +92,8 @@ returns-4 c = let k = c .before in c .reason-numbers4 .ensures ∙ said (empty k
 returns-5 : tie.Need-returns-5
 returns-5 c = let k = c .before in said (refused k) (k .r4 .given .1)
 
-pub farigolenc-explain-spec : {M : Type 1} → statement M
-farigolenc-explain-spec =
+pub explain-numbers-spec : {M : Type 1} → statement M
+explain-numbers-spec =
     tie.close
     (tie.spec
     explain-requires

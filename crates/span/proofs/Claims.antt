@@ -6,15 +6,16 @@ use mathlib.Core.Path.{_≡_, refl, sym, ap, _∙_, subst}
 use Prim.Native.Nat.{ℕ, _-_, _*_, _/_, _%_, _^_, _≤_, _<_}
 use native.Mathlib.Nat.{div-add-mod', mul-mod-left, mul-le-mul-left}
 use native.Mathlib.Omega.{arith}
-use borrow.Author.Tests.{ltb-true, ltb-false, leb-true, leb-false}
+use borrow.Author.Tests.{ltb-true, ltb-false, leb-true, leb-false, lt-ltb}
 use lib.Dec.{ltb, leb}
 use lib.IntN.{ℤ, pos, negℤ, natAbs, _-ℤ_, _*ℤ_}
-use lib.ListN.{length, length-append}
+use lib.ListN.{length, getD, length-append}
 use lib.Seq.{getD-at}
 use Rattle.lists.proofs.Below.{below-at}
+use Rattle.lists.proofs.Lists.{first-at, first-found}
 use Rattle.integers.proofs.Integers.{abs-neg, abs-diff}
 use Rattle.limits.specs.Rates.{isRate}
-use Rattle.limits.specs.Points.{maxPoints, firstHigh}
+use Rattle.limits.specs.Points.{maxPoints, maxPosition, tooHigh, firstHigh}
 use Rattle.limits.proofs.Rates.{rate-low}
 use Rattle.limits.proofs.Points.{none-high, high-below}
 use Rattle.refusals.specs.declared.Refusal.{Refusal}
@@ -22,7 +23,7 @@ use Rattle.refusals.specs.Tests.{firstOf}
 use Rattle.refusals.proofs.Tests.{firstOf-here}
 use Rattle.span.specs.declared.SpanAnswer.{SpanAnswer}
 use Rattle.span.specs.Spans.{roundedDown, firstPosition, lastPosition, dividend, milliseconds, spanTests, spanAnswer, spanned}
-use Rattle.span.specs.Claims.{SpanAccepted, AcceptsOnly, spanOf, IsFloor, RoundsDown, ZeroShort, towardZero, answerWith, Exact, SameSpan, OneLess, SpanFits}
+use Rattle.span.specs.Claims.{SpanAccepted, AcceptsOnly, refusedSpan, RefusesSpan, spanOf, IsFloor, RoundsDown, ZeroShort, towardZero, answerWith, Exact, SameSpan, OneLess, SpanFits}
 use Rattle.span.proofs.Spans.Rounding.{toward-neg, down-exact, down-inexact, down-abs, down-floor}
 use Rattle.integers.proofs.Negation.{neg-less, neg-times, abs-times}
 use Rattle.span.proofs.Spans.{dividend-forward, dividend-backward, milliseconds-short, spanned-no-rate, spanned-many, spanned-high, spanned-accepted}
@@ -48,6 +49,28 @@ by-answer P r ts refusal good = go (isRate r) refl (ltb maxPoints (length ts)) r
 
 pub accepts-only : AcceptsOnly
 accepts-only r ts = by-answer (λ (a : SpanAnswer). a .number ≡ 0 → SpanAccepted r ts) r ts (λ n p h e. absurd (omega arith)) (λ t e. t)
+
+-- a position out of range before which there is none is the first
+first-high : (ts : List ℕ) (i : ℕ) → i < length ts → ((j : ℕ) → j < i → getD ts j 0 < 2 ^ 62) → 2 ^ 62 ≤ getD ts i 0 → firstHigh ts ≡ i
+first-high ts i h low high =
+    let up : i ≤ firstHigh ts = go (ltb (firstHigh ts) i) refl in
+    first-found tooHigh 0 ts i h up (lt-ltb maxPosition (getD ts i 0) (omega arith))
+  where
+    go : (b : Bool) → ltb (firstHigh ts) i ≡ b → i ≤ firstHigh ts
+    go true e =
+        let l = ltb-true (firstHigh ts) i e in
+        let f = ltb-true maxPosition (getD ts (firstHigh ts) 0) (first-at tooHigh 0 ts (omega arith)) in
+        absurd (omega (arith, low (firstHigh ts) l))
+    go false e = ltb-false (firstHigh ts) i e
+
+pub refuses-span : RefusesSpan
+refuses-span r ts = (
+  λ e. spanned-no-rate r ts e,
+  λ e h. spanned-many r ts e h,
+  λ e h i il low high.
+      let f = first-high ts i il low high in
+      spanned-high r ts e h (omega (arith, f)) ∙ ap (refusedSpan 4) f,
+)
 
 -- ---- what they are
 

@@ -1,6 +1,9 @@
--- Document 02, No. 6: what a span is, whatever way it is computed, and where it is what document 01 had. Each is proved in proofs/Claims.
+-- Document 01, "Numbers that come back", and document 02, No. 6: what refuses a span, what a span is, whatever way it is computed, and where it is what
+-- document 01 had. Each is proved in proofs/Claims.
 --   SpanAccepted r ts  a rate of the list, at most 4,096 positions, and each at most 2^62 - 1
 --   AcceptsOnly        no other rate and positions are given a span
+--   refusedSpan n p    the answer of the refusal n at the place p
+--   RefusesSpan        which refusal each other rate and positions get: 1, then 3, then 4 with the index of the first position out of range
 --   spanOf z           the answer with the span z
 --   IsFloor m z r      m is the largest whole number that is not above z / r
 --   RoundsDown         of every accepted rate and positions, two or more, the span is the largest whole number of milliseconds that is not above the exact
@@ -12,13 +15,13 @@
 --   SameSpan           there, or where the last position is not below the first, the answer is document 01's, refusals too
 --   OneLess            and everywhere else it has a millisecond less, or is the same refusal
 --   SpanFits           of any rate and any positions the span is of less than 2^62 milliseconds, so that 64 bits hold it with its sign
-use mathlib.Core.Bool.{true}
+use mathlib.Core.Bool.{true, false}
 use mathlib.Core.List.{List, [], _∷_, _++_}
 use mathlib.Core.Logic.{_⊎_}
 use mathlib.Core.Path.{_≡_}
 use Prim.Native.Nat.{ℕ, _^_, _≤_, _<_}
 use lib.IntN.{ℤ, pos, natAbs, _-ℤ_, _*ℤ_}
-use lib.ListN.{length}
+use lib.ListN.{length, getD}
 use lib.Signed.{quotZ, _≤ℤ_}
 use Rattle.lists.specs.Below.{Below}
 use Rattle.limits.specs.Rates.{isRate}
@@ -37,6 +40,18 @@ pub record SpanAccepted (r : ℕ) (ts : List ℕ) : Type 0 where
 -- that each of these is accepted is in RoundsDown and ZeroShort
 abbrev pub AcceptsOnly : Type 0
 AcceptsOnly = (r : ℕ) (ts : List ℕ) → spanned r ts .number ≡ 0 → SpanAccepted r ts
+
+-- 0 milliseconds beside number and place
+abbrev pub refusedSpan : ℕ → ℕ → SpanAnswer
+refusedSpan n p = record { number = n; place = p; milliseconds = pos 0 }
+
+-- "Span tests 1, 3, 4", each over the whole run
+abbrev pub RefusesSpan : Type 0
+RefusesSpan = (r : ℕ) (ts : List ℕ)
+    → (isRate r ≡ false → spanned r ts ≡ refusedSpan 1 0)
+    × (isRate r ≡ true → 4096 < length ts → spanned r ts ≡ refusedSpan 3 0)
+    × (isRate r ≡ true → length ts ≤ 4096 → (i : ℕ) → i < length ts → ((j : ℕ) → j < i → getD ts j 0 < 2 ^ 62) → 2 ^ 62 ≤ getD ts i 0
+    → spanned r ts ≡ refusedSpan 4 i)
 
 -- ---- what they are
 

@@ -1,10 +1,10 @@
--- What the program does with the record of a run and with all else, proved of the definitions.
+-- What the program does with the record of a run, with all else, and where it is called otherwise, proved of the definitions.
+use mathlib.Core.Bool.{Bool, true}
 use mathlib.Core.Path.{_≡_, refl, sym, ap, ap₂, _∙_}
-use mathlib.Core.List.{List, _++_, append-assoc}
+use mathlib.Core.List.{List, [], _++_, append-assoc}
 use Prim.Native.Nat.{ℕ, _-_, _≤_}
 use native.Mathlib.Omega.{arith}
 use borrow.Author.Tests.{ne-eqb}
-use lib.Dec.{eqb}
 use lib.ListN.{length, take, drop, length-replicate, take-append-drop}
 use lib.Seq.{take-at}
 use Rattle.lists.proofs.Below.{below-take}
@@ -22,9 +22,11 @@ use Rattle.record_format.proofs.Sizes.{within}
 use Rattle.record_format.proofs.Writing.{accepted-fits}
 use Rattle.inputs.specs.Inputs.{inputLimit}
 use Rattle.inputs.proofs.Inputs.{record-uncut}
-use Rattle.move_record.specs.Lines.{movedLine}
-use Rattle.move_record.specs.Printed.{blankRecord, moveInput}
-use Rattle.move_record.specs.Claims.{MovesFile, RefusesFile}
+use Rattle.move_record.specs.declared.Word.{Word}
+use Rattle.move_record.specs.Words.{wordOf, argumentCount, isForm}
+use Rattle.move_record.specs.Printed.{blankRecord, moveInput, standardOutput, Response, moveResponse, responseTo, response}
+use Rattle.move_record.specs.Claims.{MovesFile, RefusesFile, SaysUsage}
+use Rattle.move_record.proofs.Words.{asks-for, asks-for-none}
 use Rattle.move_record.proofs.Printed.{line-refused, line-moved}
 
 -- every record has room
@@ -40,15 +42,20 @@ moved f r a e b rest =
     ap (λ (l : List ℕ). moveOf f l blankRecord) (record-uncut r a rest)
     ∙ by-room f r a e more blankRecord clear .1 (record-has-room (inForm f r) b)
 
+-- a line on standard output
+abbrev answered : Bool → List ℕ → List ℕ → Response
+answered made file line = record { stream = standardOutput; moved = made; file = file; line = line }
+
+-- a call that asks for the form f
+asked : (n : ℕ) → argumentCount ≤ n → (f : Form) (s : List ℕ) → response n (wordOf f) s ≡ moveResponse (moveInput f s)
+asked n many f s = ap (λ (a : Word). responseTo a s) (asks-for n many f)
+
 pub moves-file : MovesFile
-moves-file f r a e b rest =
-    let m = moved f r a e b rest in
-    let q = recordOf (inForm f r) in (
-      ap (λ (x : Move). eqb (x .answer .number) 0) m,
-      ap (λ (x : Move). take (x .answer .length) (x .output)) m ∙ take-at q (drop (length q) blankRecord) (length q) refl,
-      sym (line-moved (moveInput f (recordOf r ++ rest) .answer) (ap (λ (x : Move). x .answer .number) m))
-          ∙ ap₂ movedLine (ap (λ (x : Move). x .answer .used) m) (ap (λ (x : Move). x .answer .length) m),
-    )
+moves-file n many f r a e b rest =
+    let q = recordOf (inForm f r) in
+    asked n many f (recordOf r ++ rest)
+    ∙ ap moveResponse (moved f r a e b rest)
+    ∙ ap₂ (λ (file line : List ℕ). answered true file line) (take-at q (drop (length q) blankRecord) (length q) refl) (sym (line-moved _ refl))
 
 -- what the bytes that are read begin with the whole file begins with
 from-cut : (r : Run) (s : List ℕ) → Beginning (recordOf r) (take inputLimit s) → Beginning (recordOf r) s
@@ -56,13 +63,21 @@ from-cut r s b =
     (b .0 ++ drop inputLimit s, sym (take-append-drop inputLimit s) ∙ ap (λ (x : List ℕ). x ++ drop inputLimit s) (b .1) ∙ append-assoc (recordOf r) (b .0) (drop inputLimit s))
 
 pub refuses-file : RefusesFile
-refuses-file f s bytes never =
+refuses-file n many f s bytes never =
     let l = take inputLimit s in
+    let a = moveOf f l blankRecord .answer in
     let low = below-take 256 inputLimit s bytes in
-    let no : (moveOf f l blankRecord .answer .number ≡ 0 → ⊥) = λ e. (let m = moves-only f l blankRecord low e in never (m .0) (m .1) (m .2) (m .4) (from-cut (m .0) s (m .3))) in (
+    let no : (a .number ≡ 0 → ⊥) = λ e. (let m = moves-only f l blankRecord low e in never (m .0) (m .1) (m .2) (m .4) (from-cut (m .0) s (m .3))) in (
       no,
       λ e. (let m = short-only f l blankRecord low e in let room = record-has-room (inForm f (m .0)) (m .4) in let short = m .5 in omega arith),
-      ne-eqb (moveInput f s .answer .number) 0 no,
-      ap (λ (x : Move). take (x .answer .length) (moveInput f s .output)) (moves-whole f l blankRecord no),
-      sym (line-refused (moveInput f s .answer) no),
+      asked n many f s
+          ∙ ap moveResponse (moves-whole f l blankRecord no)
+          ∙ ap₂ (λ (made : Bool) (line : List ℕ). answered made [] line) (ne-eqb (a .number) 0 no) (sym (line-refused _ no)),
     )
+
+-- ---- calls that ask for no form
+
+pub says-usage : SaysUsage
+says-usage n w wrong s =
+    let none = asks-for-none n w wrong in
+    (ap isForm none, ap (λ (a : Word). responseTo a s) none)

@@ -1,20 +1,24 @@
--- Laws of two texts that are compared byte by byte, and of the words that name a form.
-use mathlib.Core.Path.{_≡_, sym, ap, ap₂, _∙_}
-use mathlib.Core.Bool.{Bool, true, false}
+-- Laws of two texts that are compared byte by byte, of the words that name a form, and of the calls that ask for one.
+use mathlib.Core.Path.{_≡_, refl, sym, ap, ap₂, _∙_}
+use mathlib.Core.Bool.{Bool, true, false, cond}
 use mathlib.Core.List.{List}
-use Prim.Native.Nat.{ℕ, _+_, _<_}
+use mathlib.Core.Logic.{_⊎_, inl, inr}
+use Prim.Native.Nat.{ℕ, _+_, _≤_, _<_}
 use native.Mathlib.Nat.{add-zero}
 use native.Mathlib.Numerals.{add-one}
 use native.Mathlib.Omega.{arith}
-use borrow.Author.Tests.{eq-eqb}
+use borrow.Author.Tests.{eq-eqb, lt-ltb, le-ltb}
+use lib.Dec.{ltb}
 use lib.ListN.{length, getD, drop}
 use lib.Seq.{drop-cons, drop-length, getD-drop}
 use Rattle.lists.specs.Compare.{same}
 use Rattle.lists.proofs.Compare.{same-own, same-not}
+use Rattle.position_format.specs.declared.Form.{Form}
 use Rattle.position_format.specs.declared.Form.the-variants.{Old, Wide}
+use Rattle.move_record.specs.declared.Word.{Word}
 use Rattle.move_record.specs.declared.Word.the-variants.{To, Other}
-use Rattle.move_record.specs.Words.{wideWord, oldWord, formNamed}
-use Rattle.move_record.specs.Claims.{NamesForms}
+use Rattle.move_record.specs.Words.{wideWord, oldWord, wordOf, formNamed, argumentCount, formAsked, isForm}
+use Rattle.move_record.specs.Claims.{NamesForms, ReadsFile}
 
 -- ---- byte by byte
 
@@ -61,3 +65,33 @@ names-forms = (
   rw (same-not oldWord wideWord (λ e. let z : _≡_ {A = ℕ} 111 119 = ap (λ (l : List ℕ). getD l 0 0) e in omega arith), same-own oldWord),
   λ w n m. rw (same-not w wideWord n, same-not w oldWord m),
 )
+
+-- ---- the calls
+
+-- by the number of arguments
+module _ (n : ℕ) (w : List ℕ) where
+  pub too-few : n < argumentCount → Other ≡ formAsked n w
+  too-few few = sym (rw (lt-ltb n argumentCount few))
+
+  pub enough : argumentCount ≤ n → formNamed w ≡ formAsked n w
+  enough many = sym (rw (le-ltb n argumentCount many))
+
+-- a form by its word
+named : (f : Form) → formNamed (wordOf f) ≡ To f
+named Wide = names-forms .0
+named Old = names-forms .1
+
+pub asks-for : (n : ℕ) → argumentCount ≤ n → (f : Form) → formAsked n (wordOf f) ≡ To f
+asks-for n many f = sym (enough n (wordOf f) many) ∙ named f
+
+-- none by any other, whatever the number is
+either : (b : Bool) → cond b Other Other ≡ Other
+either true = refl
+either false = refl
+
+pub asks-for-none : (n : ℕ) (w : List ℕ) → (n < argumentCount) ⊎ ((f : Form) → w ≡ wordOf f → ⊥) → formAsked n w ≡ Other
+asks-for-none n w (inl few) = sym (too-few n w few)
+asks-for-none n w (inr other) = ap (λ (a : Word). cond (ltb n argumentCount) Other a) (names-forms .2 w (other Wide) (other Old)) ∙ either (ltb n argumentCount)
+
+pub reads-file : ReadsFile
+reads-file n many f = ap isForm (asks-for n many f)

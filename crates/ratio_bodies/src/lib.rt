@@ -99,14 +99,14 @@ pub struct Took {
 }
 
 impl Took {
-    // Whether that is all of a body of `length` bytes, as `count` ratios.
-    pub fn whole(self, count: usize, length: usize) -> bool
-        ensures { λ r. ⌜ r ≡ both (eqb (self .count) count) (eqb (self .used) length) ⌝ }
+    // Whether that is all of a body of `size` bytes, as `count` ratios.
+    pub fn whole(self, count: usize, size: usize) -> bool
+        ensures { λ r. ⌜ r ≡ both (eqb (self .count) count) (eqb (self .used) size) ⌝ }
     {
         if self.count != count {
             return false;
         }
-        self.used == length
+        self.used == size
     }
 }
 

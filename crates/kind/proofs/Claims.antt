@@ -1,4 +1,5 @@
 -- What document 01 says of a ratio's kind holds, in numbers.
+pub mod Values
 use mathlib.Core.Bool.{Bool}
 use mathlib.Core.Path.{_≡_, refl, sym, ap, _∙_}
 use Prim.Native.Nat.{ℕ, _/_, _%_, _^_, _<_}
@@ -10,7 +11,7 @@ use Rattle.kind.specs.declared.Kind.the-variants.{Infinity}
 use Rattle.kind.specs.Kinds.{kindAt}
 use Rattle.kind.specs.Numbers.{zeroFloat, kindNumbers}
 use Rattle.kind.specs.Claims.{kindIs, floatZero, ShowsKind}
-use Rattle.kind.proofs.Values.{infinity, value-above, value-equal, value-below}
+use Rattle.kind.proofs.Claims.Values.{infinity, value-above, value-equal, value-below}
 
 zero-float : zeroFloat ≡ floatZero
 unfolding ofBits ofFields

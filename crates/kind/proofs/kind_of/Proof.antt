@@ -2,7 +2,7 @@
 use mathlib.Core.Path.{sym, ap}
 use native.Mathlib.Omega.{arith}
 use Rattle.kind.specs.Kinds.{kindAt}
-use Rattle.kind.proofs.Values.{value-above, value-equal, value-not-nan, value-below}
+use Rattle.kind.proofs.Claims.Values.{value-above, value-equal, value-not-nan, value-below}
 use Rattle.kind.proofs.kind_of.Statement.{statement}
 use Rattle.kind.proofs.kind_of.Tie as tie
 

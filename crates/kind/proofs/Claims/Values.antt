@@ -1,5 +1,4 @@
--- Laws of the definitions in specs/Kinds: the value of 64 bits as a double, by the bits without their sign, which are above an infinity's, equal to them,
--- or below.
+-- The value of 64 bits as a double, by the bits without their sign: above an infinity's, equal to them, or below.
 use mathlib.Core.Path.{_≡_, refl, sym, ap, ap₂, _∙_, subst}
 use mathlib.Core.Bool.{Bool, true, false, not}
 use Prim.Native.Nat.{ℕ, _/_, _%_, _^_, _≤_, _<_}

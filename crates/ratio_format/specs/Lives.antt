@@ -6,10 +6,10 @@
 --   stateTests s      the tests of an addition that need no bytes: 7, 3
 --   addedTo s v       the state after the ratio v was added
 --   Coder             a coder of one ratio: a ratio and a window, newest first, to bytes
---   addBytesBy, addTestsBy, addRefusalBy, addAnswerBy, addOutputBy, addStateBy    the definitions below by any coder, their first argument;
---                     document 01's are these at the coder `coded`
+--   addTestsBy k s v o   the tests of an addition by the coder k, in their order: 7, 3, 6
+--   addBytesBy, addRefusalBy, addAnswerBy, addOutputBy, addStateBy    the definitions below by any coder, their first argument; document 01's are
+--                     these at the coder `coded`
 --   addBytes s v      the bytes of the ratio v in the state s
---   addTests s v o    the tests of an addition in their order: 7, 3, 6
 --   addRefusal s v o  the refusal of an addition, or none
 --   addAnswer s v o   the answer: number, place and the number of bytes written
 --   addOutput s v o   the output o afterwards
@@ -86,10 +86,6 @@ addStateBy k s v o = cond (refused (addRefusalBy k s v o)) s (addedTo s v)
 -- the bytes
 abbrev pub addBytes : Live → ℕ → List ℕ
 addBytes = addBytesBy coded
-
--- the tests
-abbrev pub addTests : Live → ℕ → List ℕ → List Test
-addTests = addTestsBy coded
 
 -- the refusal
 abbrev pub addRefusal : Live → ℕ → List ℕ → Refusal

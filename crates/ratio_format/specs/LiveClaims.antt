@@ -31,7 +31,7 @@ use Rattle.ratio_format.specs.Lives.{freshLive, badLive, Coder, addState
 
 -- ---- one addition
 
--- "every other returned number is 0, a kept state is unchanged, and all lent outputs are 0 from end to end"
+-- "On a refusal every other returned number is 0, a kept state (not an output) is unchanged, and all lent outputs are 0 from end to end"
 abbrev pub RefusesAdd : Live → List ℕ → ℕ → AddAnswer → List ℕ → Live → Type 0
 RefusesAdd s o n a p t = (a ≡ record { number = n; place = 0; length = 0 }) × (p ≡ replicate (length o) 0) × (t ≡ s)
 
@@ -49,7 +49,7 @@ pub record AddsSo (s : Live) (v : ℕ) (b o : List ℕ) (a : AddAnswer) (p : Lis
       × (t .seen ≡ s .seen + 1)
       × Takes (s .window) v (t .window)
 
--- of every state, ratio and output
+-- of every state, ratio and output; which bytes are written for a ratio is ChoosesForm (Claims)
 abbrev pub Adds : Type 0
 Adds = (s : Live) (v : ℕ) (o : List ℕ) → AddsSo s v (coded v (held (s .window))) o (addAnswer s v o) (addOutput s v o) (addState s v o)
 

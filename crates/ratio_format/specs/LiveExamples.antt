@@ -57,7 +57,7 @@ addExamples =
     ∷ refuses (state (replicate 127 5) 126 127) 1 (replicate 9 7) 7
     ∷ refuses (state (replicate 127 5) 128 200) 1 (replicate 9 7) 7
     ∷ refuses (state (replicate 127 5) 127 4097) 1 (replicate 9 7) 7
-    ∷ refuses (state (replicate 127 5) 126 4096) 1 (replicate 8 7) 7
+    ∷ refuses (state (replicate 127 5) 126 4096) 1 (7 ∷ 7 ∷ []) 7
     ∷ refuses (state (replicate 127 5) 127 4097) 1 (7 ∷ []) 7
     ∷ refuses (state (replicate 127 5) 127 4096) 1 (replicate 9 7) 3
     ∷ refuses (state (replicate 127 5) 127 4096) 1 (7 ∷ []) 3

@@ -30,8 +30,9 @@ one = 0xFF ∷ (replicate 7 0 ++ (0x01 ∷ []))
 abbrev back : ℕ → List ℕ
 back n = 0xFF ∷ (replicate 7 0 ++ (0x05 ∷ 0xFF ∷ (replicate 7 0 ++ (0x06 ∷ replicate (n - 1) 0))))
 
--- lengths 0, 7 and 8, each with the largest trailing count; sums of 9; places that hold no ratio; bytes that end in the counts, in the middle and in an
--- exception; a byte left over, and a ratio too few; no ratio; forms that our writer does not choose; ratios 127 and 128 back
+-- lengths 0 and 7 with the smallest and the largest trailing count, and length 8; sums of 9; places that hold no ratio; bytes that end before the counts, in
+-- the middle and in an exception; a byte left over, and a ratio too few; no ratio; what our writer writes for 1, 2, 1, 2; forms that it does not choose: an
+-- exception and a far place for a repeat, zero bytes in a middle; ratios 127 and 128 back
 pub openExamples : List OpenExample
 openExamples =
     reads 2 (one ++ (0x80 ∷ 0x00 ∷ [])) (some (1 ∷ 1 ∷ []))
@@ -56,8 +57,9 @@ openExamples =
     ∷ reads 0 [] (some [])
     ∷ reads 0 (0x00 ∷ []) none
     ∷ reads 1 [] none
-    ∷ reads 2 (one ++ one) (some (1 ∷ 1 ∷ []))
     ∷ reads 4 (one ++ (0x80 ∷ 0x01 ∷ 0x03 ∷ 0x01 ∷ 0x01 ∷ [])) (some (1 ∷ 2 ∷ 1 ∷ 2 ∷ []))
+    ∷ reads 2 (one ++ one) (some (1 ∷ 1 ∷ []))
+    ∷ reads 3 (one ++ (0x00 ∷ 0x01 ∷ [])) (some (1 ∷ 1 ∷ 1 ∷ []))
     ∷ reads 2 (one ++ (0x80 ∷ 0x03 ∷ 0x00 ∷ 0x00 ∷ 0x03 ∷ [])) (some (1 ∷ 2 ∷ []))
     ∷ reads 128 (back 126 ++ (0x7E ∷ [])) (some (5 ∷ (replicate 126 6 ++ (5 ∷ []))))
     ∷ reads 129 (back 127 ++ (0x7E ∷ [])) (some (5 ∷ replicate 128 6))

@@ -1,6 +1,6 @@
 -- Document 01, "Ratios": the open rule as it is worded there, form by form, as a relation, and that open reading is by it. Proved in proofs/OpenRule.
 --   OpenReads w s r   the open rule reads the string s, against the window w, as r: a ratio with the number of its bytes, or nothing
---   OpenForms         of every window and every string of bytes `openOne` answers what the open rule says, and the rule says no two things of one
+--   OpenForms         of every window and every string of bytes the open rule says exactly one thing, and `openOne` answers it
 --   ReadAs w vs s     s is the ratios vs one after the other, each in bytes that the open rule reads as it, and no byte more; the window, w at
 --                     first, takes each ratio as it is read
 --   OpenBodies        of every count and every string of bytes `openRatios` gives the ratios vs exactly when they are as many as the count, and the

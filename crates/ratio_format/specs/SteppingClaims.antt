@@ -78,7 +78,8 @@ pub record StepsSo (b : List ℕ) (c : Cursor) (a : StepAnswer) (d : Cursor) : T
       × (d .seen ≡ c .seen + 1)
       × Takes (c .window) v (d .window)
 
--- of every body and state: the three conditions are those of their types, bytes and 127 cells of 64 bits
+-- of every body and state: the three conditions are those of their types, bytes and 127 cells of 64 bits. What the written form of a ratio is, is
+-- ChoosesForm (Claims)
 abbrev pub Steps : Type 0
 Steps = (b : List ℕ) (c : Cursor) → Below 256 b → length (c .window .ratios) ≡ 127 → Below (2 ^ 64) (c .window .ratios)
     → StepsSo b c (stepAnswer b c) (stepCursor b c)

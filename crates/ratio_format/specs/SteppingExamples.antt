@@ -81,7 +81,8 @@ abbrev refuses : List ℕ → Cursor → ℕ → StepExample
 refuses b c n = record { body = b; before = c; answer = record { number = n; place = 0; ratio = 0 }; after = c }
 
 -- each form, the last ratio that a count of 4,096 has, and a form with a byte behind it that begins none; a bad state: each condition by itself, and 7
--- before 8 and 18; all given with the body used up, and with a byte left; before that no byte, a form that is cut, and forms that only the open rule reads
+-- before 18 and before 8; all given with the body used up, and with a byte left; before that no byte, a form that is cut, forms that only the open rule
+-- reads, and a place that holds no ratio
 pub stepExamples : List StepExample
 stepExamples =
     gives one (reader 0 1 0 [] 0) 1 (reader 9 1 1 (1 ∷ []) 1)
@@ -95,6 +96,7 @@ stepExamples =
     ∷ refuses one (reader 0 4097 0 [] 0) 7
     ∷ refuses one (reader 10 2 1 (1 ∷ []) 1) 7
     ∷ refuses one (reader 10 1 1 (1 ∷ []) 1) 7
+    ∷ refuses [] (reader 0 0 0 [] 1) 7
     ∷ refuses one (reader 9 1 1 (1 ∷ []) 1) 8
     ∷ refuses [] (reader 0 0 0 [] 0) 8
     ∷ refuses (one ++ (0x00 ∷ [])) (reader 9 1 1 (1 ∷ []) 1) 18

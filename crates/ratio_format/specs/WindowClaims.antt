@@ -1,4 +1,5 @@
--- Document 01, "Ratios": the kept window as document 01 words it. Proved in proofs/WindowClaims.
+-- Document 01, "Ratios": what the kept window holds, and in which cells of its array. Document 01 says which ratios it holds and in which order; that the
+-- cells stand oldest first, and that unused ones are 0 at first, is ours. Proved in proofs/WindowClaims.
 --   Takes w v u      the window u is the window w after the ratio v
 --   TakesRatio       a window takes each ratio so, repeats too
 --   NewestFirst      place 0 of a window is its newest ratio, and as many places hold a ratio as its fill says

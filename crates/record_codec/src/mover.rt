@@ -1,13 +1,11 @@
 // Moving: a record is read strictly and written in the other form. Its ratios' field is copied as it stands, since it is the same in both.
 ghost use mathlib.Core.Path.{_≡_};
-ghost use mathlib.Core.Bool.{true};
 ghost use mathlib.Core.List.{_++_};
 ghost use Prim.Native.Nat.{_≤_, _<_};
 ghost use lib.ListN.{length};
 ghost use Rattle.limits.specs.Points.{maxPoints, firstHigh};
 ghost use Rattle.outputs.specs.Outputs.{Placed};
-ghost use Rattle.position_format.specs.Positions.{validPositions};
-ghost use Rattle.position_format.specs.Tables.{tableOf};
+ghost use Rattle.position_codec.specs.Codes.{CodablePositions};
 ghost use Rattle.refusals.specs.Tests.{firstOf};
 ghost use Rattle.record_format.specs.Fields.{laid};
 ghost use Rattle.record_format.specs.Moves.{targetTests, refusedMove, moveOf};
@@ -64,7 +62,7 @@ fn put_moved(
     field: &[u8],
     out: &mut [u8],
 ) -> Wrote
-    requires { ⌜ (validPositions (tableOf form) (now positions) ≡ true) × (length (now positions) ≤ maxPoints) ⌝ }
+    requires { ⌜ CodablePositions form (now positions) × (length (now positions) ≤ maxPoints) ⌝ }
     ensures { λ r. ⌜ Placed (laid (leadFields rate side form (now (positions .entry))) ++ now (field .entry)) r (now (out .entry)) (now (out .exit)) ⌝ }
 {
     let lead_end = put_lead(rate, side, form, positions, out);

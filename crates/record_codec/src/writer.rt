@@ -1,12 +1,10 @@
 // Writing: the record of a run, part by part, each straight into the rest of the caller's output.
 ghost use mathlib.Core.Path.{_≡_};
-ghost use mathlib.Core.Bool.{true};
 ghost use Prim.Native.Nat.{_≤_};
 ghost use lib.ListN.{length};
 ghost use Rattle.limits.specs.Points.{maxPoints, firstHigh};
 ghost use Rattle.outputs.specs.Outputs.{Placed, zeros};
-ghost use Rattle.position_format.specs.Positions.{validPositions};
-ghost use Rattle.position_format.specs.Tables.{tableOf};
+ghost use Rattle.position_codec.specs.Codes.{CodablePositions};
 ghost use Rattle.refusals.specs.Tests.{firstOf};
 ghost use Rattle.record_format.specs.Runs.{run, recordOf};
 ghost use Rattle.record_format.specs.Writing.{outsideTests, runTests, writeAnswer, writeOutput};
@@ -29,7 +27,7 @@ fn put_record(
     ratios: &[u64],
     out: &mut [u8],
 ) -> Wrote
-    requires { ⌜ (validPositions (tableOf form) (now positions) ≡ true) × (length (now positions) ≤ maxPoints) × (length (now ratios) ≤ maxPoints) ⌝ }
+    requires { ⌜ CodablePositions form (now positions) × (length (now positions) ≤ maxPoints) × (length (now ratios) ≤ maxPoints) ⌝ }
     ensures { λ r. ⌜ Placed (recordOf (run rate side form (now (positions .entry)) (now (ratios .entry)))) r (now (out .entry)) (now (out .exit)) ⌝ }
 {
     let Wrote::Done(lead_end) = put_lead(rate, side, form, positions, out) else {

@@ -19,7 +19,7 @@ use Rattle.record_format.specs.Fields.{bodyAt, fieldTests}
 use Rattle.record_format.specs.Runs.{ratiosTag}
 use Rattle.record_format.specs.Reading.{Answer, refusalAnswer, recordAnswer, frontTests, roomTests, positionsTests, readTests, readWith, readStrict, readOpen, missing, countIn, ratiosAt, ratiosIn}
 use Rattle.record_format.specs.Claims.{Bytes}
-use Rattle.record_format.specs.OpenReading.{ReadsOpenly, DiffersInRatios}
+use Rattle.record_format.specs.OpenReading.{ReadsOpenly, DiffersInRatios, BothReadings}
 use Rattle.record_format.proofs.Reading.{front-numbered, answer-refused, answer-good, read-refused}
 use Rattle.record_format.proofs.Claims.{open-agrees}
 use Rattle.record_format.proofs.WideClaims.{ratios-by-reading}
@@ -118,3 +118,6 @@ module _ (e : ℕ) (s ts vs : List ℕ) where
 pub differs-in-ratios : DiffersInRatios
 differs-in-ratios e s ts vs bytes =
     alike e s ts vs bytes (eqb (firstOf (before e s ts vs) .number) 0) refl (missing (ratiosIn openRatios s)) refl (missing (ratiosIn strictRatios s)) refl
+
+pub both-readings : BothReadings
+both-readings e s ts vs = (refl, refl)

@@ -1,9 +1,10 @@
 -- Document 01, "Ratios" and "Numbers that come back": open reading of a record, by the open rule as document 01 words it. Proved in proofs/OpenReading.
 --   ReadsOpenly      past a front and positions that any reading takes, with room: whatever body the ratios' field has, the answer has the ratios that
 --                    the open rule reads it as, as many as the count; and where it reads the body as no such ratios, 18 at that field
---   DiffersInRatios  "Open reading differs from strict reading in field 4 only": what open reading refuses strict reading refuses alike, and strict
---                    reading refuses by 18 whatever it answers otherwise than open reading
--- All other refusals are stated of every reading: SideClaims and WideClaims.
+--   DiffersInRatios  "Open reading differs from strict reading in field 4 only": what open reading refuses strict reading refuses alike, and where the two
+--                    answers differ strict reading gives 18
+--   BothReadings     strict and open reading are readings of the ratios by a rule, `readWith`: so what SideClaims and WideClaims state of every reading, all
+--                    refusals but 18 among it, holds of both
 use mathlib.Core.Bool.{true}
 use mathlib.Core.List.{List, [], _∷_, _++_}
 use mathlib.Core.Path.{_≡_}
@@ -16,7 +17,8 @@ use Rattle.position_format.specs.Tables.{tableOf, pointsOf}
 use Rattle.ratio_format.specs.OpenRule.{ReadAs}
 use Rattle.record_format.specs.Fields.{fieldOf, fieldBytes, laid}
 use Rattle.record_format.specs.Runs.{positionsTag, positionsField, frontFields}
-use Rattle.record_format.specs.Reading.{readStrict, readOpen}
+use Rattle.ratio_format.specs.Bodies.{openRatios, strictRatios}
+use Rattle.record_format.specs.Reading.{readWith, readStrict, readOpen}
 use Rattle.record_format.specs.Claims.{Bytes}
 use Rattle.record_format.specs.SideClaims.{Expects, refusedBy}
 
@@ -43,3 +45,8 @@ abbrev pub DiffersInRatios : Type 0
 DiffersInRatios = (e : ℕ) (s ts vs : List ℕ) → Bytes s
     → ((readOpen e s ts vs .answer .number ≡ 0 → ⊥) → readStrict e s ts vs ≡ readOpen e s ts vs)
     × ((readStrict e s ts vs .answer .number ≡ 18 → ⊥) → readOpen e s ts vs ≡ readStrict e s ts vs)
+
+-- the rules are those of whole bodies
+abbrev pub BothReadings : Type 0
+BothReadings = (e : ℕ) (s ts vs : List ℕ)
+    → (readStrict e s ts vs ≡ readWith strictRatios e s ts vs) × (readOpen e s ts vs ≡ readWith openRatios e s ts vs)

@@ -44,7 +44,7 @@ openly body = openOnly 2 (twoWith body) (refusedRead 18 31) (read 0 2 3 (34 + le
 abbrev neither : List ℕ → ReadExample
 neither body = alike 0 2 (twoWith body) (refusedRead 18 31)
 
--- lengths 0, 7 and 8; a sum of 9; a place that holds no ratio; a middle that is cut; a byte left over; a ratio too few; and our own form
+-- lengths 0, 7 and 8; an exception for a repeat; a sum of 9; a place that holds no ratio; a middle that is cut; a byte left over; a ratio too few; and our own form
 pub openReads : List ReadExample
 openReads =
     openly (one ++ (0x80 ∷ 0x00 ∷ []))

@@ -30,7 +30,8 @@ use Rattle.limits.specs.Points.{maxPoints}
 use Rattle.outputs.specs.Outputs.{over}
 use Rattle.refusals.specs.declared.Refusal.{Refusal}
 use Rattle.refusals.specs.Tests.{Test, firstOf}
-use Rattle.position_format.specs.Positions.{codedPositions, validPositions}
+use Rattle.position_format.specs.Positions.{codedPositions}
+use Rattle.position_codec.specs.Codes.{CodablePositions}
 use Rattle.position_format.specs.Tables.{tableOf}
 use Rattle.ratio_format.specs.Bodies.{codedRatios, openRatios, strictRatios}
 use Rattle.record_format.specs.Fields.{headSize, maxBody, bodyAt, nextAt}
@@ -133,9 +134,9 @@ abbrev pub codedBy : Coding → List ℕ → List ℕ
 codedBy (Positions f) ns = codedPositions (tableOf f) ns
 codedBy Ratios ns = codedRatios ns
 
--- not too many, and positions that the form's table can code
+-- not too many, and positions that the form can code
 abbrev pub Codable : Coding → List ℕ → Type 0
-Codable (Positions f) ns = (validPositions (tableOf f) ns ≡ true) × (length ns ≤ maxPoints)
+Codable (Positions f) ns = CodablePositions f ns × (length ns ≤ maxPoints)
 Codable Ratios ns = length ns ≤ maxPoints
 
 -- ratios by the open rule, or strictly

@@ -1,14 +1,12 @@
 // Fields put at the front of an output: those that hold a number, those of coded numbers, and the front of a record with its positions.
 ghost use mathlib.Core.List.{[], _∷_};
 ghost use mathlib.Core.Path.{_≡_};
-ghost use mathlib.Core.Bool.{true};
 ghost use Prim.Native.Nat.{_≤_};
 ghost use lib.ListN.{length};
 ghost use Rattle.bits.specs.Digits.{bytesOf};
 ghost use Rattle.limits.specs.Points.{maxPoints};
 ghost use Rattle.outputs.specs.Outputs.{over, Placed, Left, Next};
-ghost use Rattle.position_format.specs.Positions.{validPositions};
-ghost use Rattle.position_format.specs.Tables.{tableOf};
+ghost use Rattle.position_codec.specs.Codes.{CodablePositions};
 ghost use Rattle.record_format.specs.Fields.{fieldOf, lengthSize, headSize, laid};
 ghost use Rattle.record_format.specs.Runs.{sideFields};
 ghost use Rattle.record_parts.specs.Fields.{tagOf, codedBy, Codable};
@@ -91,7 +89,7 @@ fn put_side_next(wrote: Wrote, side: u32, out: &mut [u8]) -> Wrote
 
 // The fields of the rate, of the side, of the count and of the positions in a form, at the front of the output: all but the ratios'.
 pub fn put_lead(rate: u32, side: u32, form: Form, positions: &[u64], out: &mut [u8]) -> Wrote
-    requires { ⌜ (validPositions (tableOf form) (now positions) ≡ true) × (length (now positions) ≤ maxPoints) ⌝ }
+    requires { ⌜ CodablePositions form (now positions) × (length (now positions) ≤ maxPoints) ⌝ }
     ensures { λ r. ⌜ Placed (laid (leadFields rate side form (now (positions .entry)))) r (now (out .entry)) (now (out .exit)) ⌝ }
 {
     let rate_end = put_number(out, RATE_TAG, RATE_SIZE, rate as u64);

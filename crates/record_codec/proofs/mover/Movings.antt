@@ -17,7 +17,8 @@ use Rattle.refusals.specs.Tests.{refusal, firstOf}
 use Rattle.refusals.proofs.Tests.{firstOf-here, firstOf-skip}
 use Rattle.position_format.specs.declared.Form.{Form}
 use Rattle.position_format.specs.declared.Form.the-variants.{Old, Wide}
-use Rattle.position_format.specs.Positions.{validPositions}
+use Rattle.position_codec.specs.Codes.{CodablePositions}
+use Rattle.position_codec.proofs.Codes.{valid-codable}
 use Rattle.position_format.specs.Tables.{tableOf, pointsOf}
 use Rattle.position_format.proofs.Positions.Valid.{valid-parts}
 use Rattle.ratio_format.specs.Bodies.{strictRatios}
@@ -141,8 +142,8 @@ module _ {f : Form} {s ts vs : List ℕ} {c : ℕ} {g : Points} {ps qs : List �
         target-clear : firstOf (targetTests f (runIn s .positions)) .number ≡ 0
         target-clear = sym (ap (λ (x : Refusal). x .number) target-is) ∙ fits
 
-        pub points-valid : validPositions (tableOf f) (take c ps) ≡ true
-        points-valid = subst (λ (l : List ℕ). validPositions (tableOf f) l ≡ true) (sym points-are) (moved-fits f (runIn s) (sound .fits) target-clear .valid)
+        pub points-codable : CodablePositions f (take c ps)
+        points-codable = subst (CodablePositions f) (sym points-are) (valid-codable f (runIn s .positions) (moved-fits f (runIn s) (sound .fits) target-clear .valid))
 
         -- what is written
         module _ (rate side : ℕ) (rated : rate ≡ rateIn s) (sided : side ≡ sideIn s) (w : Wrote) (p : List ℕ)

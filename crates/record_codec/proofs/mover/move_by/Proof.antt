@@ -6,7 +6,7 @@ use borrow.Author.Needs.{needs}
 use lib.ListN.{length}
 use Rattle.lists.proofs.Below.{below-of}
 use Rattle.refusals.specs.Tests.{refusal}
-use Rattle.record_codec.proofs.mover.Movings.{PointsFound, moved-as, refused-as, points-stop, points-count, points-low, field-order, target-stops, points-valid, room-stops, all-moved}
+use Rattle.record_codec.proofs.mover.Movings.{PointsFound, moved-as, refused-as, points-stop, points-count, points-low, field-order, target-stops, points-codable, room-stops, all-moved}
 use Rattle.record_codec.proofs.mover.move_by.Statement.{statement}
 use Rattle.record_codec.proofs.mover.move_by.Tie as tie
 
@@ -171,7 +171,7 @@ put-moved-requires c κs =
     let e = c .before .before .before in
     let t = target e in
     let k = past e in (
-      points-valid (found (read k)) (out k) (k .if1 .left)
+      points-codable (found (read k)) (out k) (k .if1 .left)
           (t .check-target .result) (t .check-target .ensures) (e .if2 .left),
       points-low (found (read k)) (out k) (k .if1 .left) .1,
     )

@@ -4,6 +4,7 @@ use Prim.Native.Nat.{ℕ}
 use native.Mathlib.Omega.{arith}
 use borrow.Author.Needs.{needs}
 use lib.ListN.{length, replicate}
+use Rattle.position_codec.proofs.Codes.{valid-codable}
 use Rattle.refusals.specs.declared.Refusal.{Refusal}
 use Rattle.refusals.specs.Tests.{firstOf}
 use Rattle.record_format.specs.declared.WriteAnswer.{WriteAnswer}
@@ -70,7 +71,7 @@ put-record-requires c κs =
     let r = given-run (k .before) in
     let f = accepted-fits r (clear-accepts r (clear k)) in
     let few = fitting-few r f in
-    (f .valid, few, omega (arith, few, f .paired))
+    (valid-codable (r .form) (r .positions) (f .valid), few, omega (arith, few, f .paired))
 
 enum-known-n : tie.Need-enum-known-n
 enum-known-n c = search needs

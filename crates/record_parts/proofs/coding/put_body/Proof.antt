@@ -1,7 +1,6 @@
 -- `put_body` meets its contract, by the case of the coding.
 use mathlib.Core.Path.{subst}
 use borrow.Author.Needs.{needs}
-use Rattle.position_codec.proofs.Codes.{valid-codable}
 use Rattle.record_parts.specs.declared.coding.Coding.{Coding}
 use Rattle.record_parts.specs.Fields.{Codable}
 use Rattle.record_parts.proofs.coding.put_body.Statement.{statement}
@@ -28,8 +27,7 @@ put-positions-requires : tie.Need-put-positions-requires
 put-positions-requires c κs =
     let ns = entry (positions c) .args .numbers .now in
     let known = positions c .coding .given in
-    let p = subst (λ (k : Coding). Codable k ns) (known .1) (entry (positions c) .pre) in
-    (valid-codable (known .0 .0) ns (p .0), p .1)
+    subst (λ (k : Coding). Codable k ns) (known .1) (entry (positions c) .pre)
 
 enum-told : tie.Need-enum-told
 enum-told c = search needs

@@ -15,7 +15,7 @@
  * that both forms take has a record in each, and farigolenc_to_wide and
  * farigolenc_to_old make each out of the other. A span, live addition, stepping and
  * an explanation know of no form, and their limit is 4096. The calls that compare
- * have no limit: what was read is lent to them, and lists of any length are taken.
+ * have no limit: they are given what was read, and take lists of any length.
  *
  * The answer of a call that can refuse begins with a number, 0 for success or the
  * number of a refusal, and a place, 0 on success:

@@ -1,8 +1,8 @@
 // The moving program: reads the record in the file that its second argument names, moves it to the form that the first names, `wide` or `old`,
 // and makes the file that the third names of what was written. Prints one line: what was moved, or the refusal. Called otherwise it reads and makes
 // no file, and a line on standard error says how it is called.
-// All that follows from the arguments and from the bytes read is answered by `respond`. `main` and `save` open, read and write, and decide by nothing but
-// that answer and what failed.
+// Whether a file is read is answered by `is_call`, and all else that follows from the arguments and from the bytes read by `respond`. `main` and `save`
+// open, read and write, and decide by nothing but these answers and what failed.
 ghost use mathlib.Core.Path.{_≡_};
 ghost use mathlib.Core.Bool.{false};
 ghost use Prim.Native.Nat.{_≤_};

@@ -1,3 +1,4 @@
 pub mod Reasons
 pub mod Numbers
 pub mod Claims
+pub mod NumberExamples

@@ -3,8 +3,8 @@
 --                    the open rule reads it as, as many as the count; and where it reads the body as no such ratios, 18 at that field
 --   DiffersInRatios  "Open reading differs from strict reading in field 4 only": what open reading refuses strict reading refuses alike, and where the two
 --                    answers differ strict reading gives 18
---   BothReadings     strict and open reading are readings of the ratios by a rule, `readWith`: so what SideClaims and WideClaims state of every reading, all
---                    refusals but 18 among it, holds of both
+--   BothReadings     strict and open reading are readings of the ratios by a rule, `readWith`: so what SideClaims and WideClaims state of every reading holds
+--                    of both: all refusals, 18 where the rule takes nothing
 use mathlib.Core.Bool.{true}
 use mathlib.Core.List.{List, [], _∷_, _++_}
 use mathlib.Core.Path.{_≡_}

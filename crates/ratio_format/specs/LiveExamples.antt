@@ -1,6 +1,5 @@
 -- Document 01, "Live" and "Numbers that come back": additions, as one table, computed from the definitions by one statement.
 --   state vs fill seen        a state whose first cells are the ratios vs, and the others 0
---   one                       the exception of the ratio 1
 --   AddExample                a state, a ratio and an output; and the answer, the output and the state afterwards
 --   adds s v o n p t          such an example of a success with n bytes; refuses s v o n: of a refusal by n, with zeros in the output and the state as it was
 --   addExamples               the rows; add-examples-hold: each is as it is given
@@ -15,15 +14,12 @@ use Rattle.ratio_format.specs.declared.AddAnswer.{AddAnswer}
 use Rattle.ratio_format.specs.Zeros.{zerosAt, leadZeros, trailZeros, sumOf}
 use Rattle.ratio_format.specs.Choice.{find, best, ratioForm}
 use Rattle.ratio_format.specs.RatioForms.{written, coded}
+use Rattle.ratio_format.specs.OpenExamples.{one}
 use Rattle.ratio_format.specs.Lives.{addRefusalBy, addAnswerBy, addOutputBy, addStateBy, addAnswer, addOutput, addState}
 
 -- a state by its numbers
 abbrev state : List ℕ → ℕ → ℕ → Live
 state vs fill seen = record { window = record { ratios = vs ++ replicate (127 - length vs) 0; fill = fill }; seen = seen }
-
--- FF and the eight bytes of 1
-abbrev one : List ℕ
-one = 0xFF ∷ (replicate 7 0 ++ (0x01 ∷ []))
 
 -- what is given, and what comes back
 pub record AddExample : Type 0 where

@@ -23,7 +23,7 @@ abbrev reads : ℕ → List ℕ → Option (List ℕ) → OpenExample
 reads n s o = record { count = n; body = s; ratios = o }
 
 -- FF and the eight bytes of 1
-abbrev one : List ℕ
+abbrev pub one : List ℕ
 one = 0xFF ∷ (replicate 7 0 ++ (0x01 ∷ []))
 
 -- n is at least 1

@@ -1,6 +1,5 @@
 -- Document 01, "Stepping" and "Numbers that come back": readers that are made and steps, as tables, computed from the definitions by one statement each.
 --   reader place count seen vs fill   a reader's state whose window's first cells are the ratios vs, and the others 0
---   one                               the exception of the ratio 1
 --   MakeExample, makes n b f k c      a count and a body, and what making gives: its number, the body that is held and the state
 --   makeExamples                      the rows; make-examples-hold: each is as it is given
 --   StepExample                       a body and a state, and the answer and the state afterwards
@@ -21,6 +20,7 @@ use Rattle.ratio_format.specs.Zeros.{zerosAt, leadZeros, trailZeros, sum
 use Rattle.ratio_format.specs.Choice.{find, best, ratioForm}
 use Rattle.ratio_format.specs.RatioForms.{written, coded}
 use Rattle.ratio_format.specs.Open.{openXor, openOne, strictOne}
+use Rattle.ratio_format.specs.OpenExamples.{one}
 use Rattle.ratio_format.specs.Stepping.{made, madeBody, madeCursor, stepRefusal, stepAnswer, stepCursor}
 use Rattle.ratio_format.specs.SteppingClaims.{stepAnswers}
 
@@ -28,10 +28,6 @@ use Rattle.ratio_format.specs.SteppingClaims.{stepAnswers}
 abbrev reader : ℕ → ℕ → ℕ → List ℕ → ℕ → Cursor
 reader place count seen vs fill =
     record { place = place; count = count; seen = seen; window = record { ratios = vs ++ replicate (127 - length vs) 0; fill = fill } }
-
--- FF and the eight bytes of 1
-abbrev one : List ℕ
-one = 0xFF ∷ (replicate 7 0 ++ (0x01 ∷ []))
 
 -- ---- making
 

@@ -1,6 +1,5 @@
 -- Open reading of records, as one table, computed from the definitions by one statement.
 --   twoWith body           the record at 96,000 of two points at 0 whose ratios' field has this body, in the old form
---   one                    the exception of the ratio 1
 --   openly, neither        both readings of such a record: strict reading gives 18, and open reading accepts; or both give 18
 --   openReads              the rows; open-reads-hold: each is as it is given
 --   open-ratios            what open reading leaves in the ratios' output
@@ -23,6 +22,7 @@ use Rattle.ratio_format.specs.Choice.{find, best, ratioForm}
 use Rattle.ratio_format.specs.RatioForms.{written, coded}
 use Rattle.ratio_format.specs.Open.{openXor, openOne}
 use Rattle.ratio_format.specs.Bodies.{codedFrom, openFrom, strictRatios}
+use Rattle.ratio_format.specs.OpenExamples.{one}
 use Rattle.record_format.specs.Fields.{tagAt, lengthAt, bodyAt, nextAt}
 use Rattle.record_format.specs.SideClaims.{refusedRead}
 use Rattle.record_format.specs.AnswerExamples.{givenRate, givenCount, read, ReadExample, alike, openOnly, ReadsSo}
@@ -31,10 +31,6 @@ use Rattle.record_format.specs.Reading.{countAt, sideIn, readWith, readO
 -- its ratios' field stands at the offset 31
 abbrev twoWith : List ℕ → List ℕ
 twoWith body = givenRate ++ (givenCount 2 ++ (0x03 ∷ 0x00 ∷ 0x10 ∷ (replicate 16 0 ++ (0x04 ∷ (bytesOf 2 (length body) ++ body)))))
-
--- FF and the eight bytes of 1
-abbrev one : List ℕ
-one = 0xFF ∷ (replicate 7 0 ++ (0x01 ∷ []))
 
 -- only open reading accepts
 abbrev openly : List ℕ → ReadExample

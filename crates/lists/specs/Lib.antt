@@ -2,3 +2,4 @@ pub mod Lists
 pub mod Compare
 pub mod Below
 pub mod Among
+pub mod Optional

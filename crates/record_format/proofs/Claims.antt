@@ -14,6 +14,7 @@ use lib.Dec.{eqb, lit<, lit≤}
 use lib.ListN.{length, drop}
 use Rattle.lists.specs.Below.{Below}
 use Rattle.lists.proofs.Lists.{every}
+use Rattle.lists.specs.Optional.{listOf}
 use Rattle.bits.specs.Digits.{bytesOf, numberOf}
 use Rattle.bits.proofs.Digits.{number-digits-lt}
 use Rattle.limits.proofs.Rates.{rate-high}
@@ -35,7 +36,7 @@ use Rattle.ratio_format.proofs.Bodies.Strict.{strict-coded}
 use Rattle.record_format.specs.Fields.{Field, fieldBytes, laid}
 use Rattle.record_format.specs.Runs.{Run, formOf, ratiosTag, rateSize, countSize, sideFields, positionsField, ratiosField, frontFields, fieldsOf, recordOf}
 use Rattle.record_format.specs.Writing.{runTests, accepts}
-use Rattle.record_format.specs.Reading.{Answer, refusalAnswer, recordAnswer, answerBy, readTests, readWith, readStrict, readOpen, blank, formIn, listOf}
+use Rattle.record_format.specs.Reading.{Answer, refusalAnswer, recordAnswer, answerBy, readTests, readWith, readStrict, readOpen, blank, formIn}
 use Rattle.record_format.specs.Moves.{Move, moveOf}
 use Rattle.record_format.specs.Claims.{Accepted, AllAccepted, joined, ownTests, ownAnswer, runAnswer, ReadsBack, ReadsOnly, AcceptsExactly, OpenAgrees, Writes, ReadsWhole, ReadsFront, PrefixFree, ListsApart, TrailingBytes, Shortest, NineEach, countPlace, positionsPlace, FieldPlaces}
 use Rattle.record_format.proofs.Fields.{fieldIn, closed, closed-append, laid-same}

@@ -13,6 +13,7 @@ use Rattle.lists.specs.Below.{Below}
 use Rattle.lists.specs.Compare.{both}
 use Rattle.lists.proofs.Compare.{both-true}
 use Rattle.lists.specs.Lists.{member}
+use Rattle.lists.specs.Optional.{missing}
 use Rattle.limits.specs.Points.{maxPoints, firstHigh}
 use Rattle.refusals.specs.declared.Refusal.{Refusal}
 use Rattle.refusals.specs.Tests.{Test, test, refusal, firstOf, refused}
@@ -28,7 +29,7 @@ use Rattle.ratio_format.specs.Bodies.{strictRatios}
 use Rattle.ratio_format.proofs.Bodies.Strict.{strict-coded}
 use Rattle.record_format.specs.Fields.{Field, headSize, fieldBytes, laid, tagAt, bodyTests}
 use Rattle.record_format.specs.Runs.{Run, positionsTag, positionsTags, countSize, positionsField, ratiosField, frontFields, recordOf}
-use Rattle.record_format.specs.Reading.{positionsAt, ratiosAt, endAt, countIn, positionsIn, missing, frontTests, manyTests, positionsTestsBy, positionsTests, ratiosTests, readTests}
+use Rattle.record_format.specs.Reading.{positionsAt, ratiosAt, endAt, countIn, positionsIn, frontTests, manyTests, positionsTestsBy, positionsTests, ratiosTests, readTests}
 use Rattle.record_format.specs.Moves.{otherForm, inForm, runIn, sourceTests, targetTests, moveTests, Move, refusedMove, recordMove, moveOf}
 use Rattle.record_format.specs.Claims.{positionsPlace}
 use Rattle.record_format.specs.MoveClaims.{notMoved, movedTo, FormFirst}

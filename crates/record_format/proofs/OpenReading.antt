@@ -9,6 +9,7 @@ use native.Mathlib.Omega.{arith}
 use borrow.Author.Tests.{eqb-true, eqb-false}
 use lib.Dec.{eqb}
 use lib.ListN.{length}
+use Rattle.lists.specs.Optional.{missing}
 use Rattle.refusals.specs.Tests.{Test, test, refusal, firstOf}
 use Rattle.refusals.proofs.Tests.{numbered, numbered-append, firstOf-here, firstOf-skip, firstOf-append-none, firstOf-append-some}
 use Rattle.ratio_format.specs.OpenRule.{ReadAs}
@@ -17,7 +18,7 @@ use Rattle.ratio_format.proofs.Bodies.Strict.{strict-reads}
 use Rattle.ratio_format.proofs.OpenRule.{open-bodies}
 use Rattle.record_format.specs.Fields.{bodyAt, fieldTests}
 use Rattle.record_format.specs.Runs.{ratiosTag}
-use Rattle.record_format.specs.Reading.{Answer, refusalAnswer, recordAnswer, frontTests, roomTests, positionsTests, readTests, readWith, readStrict, readOpen, missing, countIn, ratiosAt, ratiosIn}
+use Rattle.record_format.specs.Reading.{Answer, refusalAnswer, recordAnswer, frontTests, roomTests, positionsTests, readTests, readWith, readStrict, readOpen, countIn, ratiosAt, ratiosIn}
 use Rattle.record_format.specs.Claims.{Bytes}
 use Rattle.record_format.specs.OpenReading.{ReadsOpenly, DiffersInRatios, BothReadings}
 use Rattle.record_format.proofs.Reading.{front-numbered, answer-refused, answer-good, read-refused}

@@ -12,6 +12,7 @@ use lib.Dec.{ltb, eqb·suc-zero}
 use lib.ListN.{length, getD, drop, length-append}
 use lib.Seq.{getD-append-add}
 use Rattle.lists.specs.Lists.{member}
+use Rattle.lists.specs.Optional.{missing, listOf}
 use Rattle.bits.specs.Digits.{bytesOf}
 use Rattle.bits.proofs.Digits.{length-digits}
 use Rattle.limits.specs.Points.{maxPoints}
@@ -28,7 +29,7 @@ use Rattle.position_format.proofs.Positions.Sizes.{points-few}
 use Rattle.position_format.proofs.Tables.WideRows.{wide-valid}
 use Rattle.record_format.specs.Fields.{Field, fieldOf, lengthSize, headSize, fieldBytes, laid, tagAt, lengthAt, bodyAt, nextAt, fieldTests}
 use Rattle.record_format.specs.Runs.{Run, run, positionsTag, positionsTags, formOf, ratiosTag, countSize, positionsField, frontFields, recordOf}
-use Rattle.record_format.specs.Reading.{recordAnswer, readTests, readWith, rateAt, countAt, positionsAt, ratiosAt, endAt, countIn, formIn, positionsIn, ratiosIn, missing, listOf, lacksRoom, positionsTests, ratiosTests}
+use Rattle.record_format.specs.Reading.{recordAnswer, readTests, readWith, rateAt, countAt, positionsAt, ratiosAt, endAt, countIn, formIn, positionsIn, ratiosIn, lacksRoom, positionsTests, ratiosTests}
 use Rattle.record_format.specs.SideClaims.{Expects, refusedBy}
 use Rattle.record_format.specs.Claims.{countPlace, positionsPlace}
 use Rattle.record_format.specs.WideClaims.{FormNumbers, RecordFields, RefusesWide, AcceptsWide, FormsApart, frontBytes, CountFirst, TagFirst, BodyByForm, RatiosByReading}

@@ -16,6 +16,7 @@ use mathlib.Core.List.{List, [], _∷_, _++_}
 use Prim.Native.Nat.{ℕ}
 use lib.Dec.{ltb}
 use lib.ListN.{length}
+use Rattle.lists.specs.Optional.{listOf}
 use Rattle.refusals.specs.declared.Refusal.{Refusal}
 use Rattle.refusals.specs.Tests.{Test, test, firstOf, refused}
 use Rattle.outputs.specs.Outputs.{zeros, over}
@@ -26,7 +27,7 @@ use Rattle.ratio_format.specs.Bodies.{strictRatios}
 use Rattle.record_format.specs.declared.MoveAnswer.{MoveAnswer}
 use Rattle.record_format.specs.Runs.{Run, run, positionsTag, recordOf}
 use Rattle.record_format.specs.Writing.{outsideTests}
-use Rattle.record_format.specs.Reading.{rateIn, sideIn, formIn, positionsIn, ratiosIn, listOf, endAt, recordTestsBy}
+use Rattle.record_format.specs.Reading.{rateIn, sideIn, formIn, positionsIn, ratiosIn, endAt, recordTestsBy}
 
 -- ---- forms
 

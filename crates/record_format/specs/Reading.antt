@@ -7,7 +7,6 @@
 --   formIn s               the form that the tag of the positions' field names
 --   positionsIn s          the positions that the positions' field is the coding of, in its form, or nothing
 --   ratiosIn k s           the ratios that the reading k of the ratios' field gives, or nothing
---   missing, listOf        whether there is no list, and the list, if there is one
 --   otherRate e r          another rate is expected than r
 --   rateTests, sideTests, countTests   the tests of their fields; frontTests e s: of all three, with the expected rate e (0 for none)
 --   lacksRoom m n c        an output lacks room for c numbers, in the standard term capacity; roomTests s m n: the test of it
@@ -32,6 +31,7 @@ use Prim.Native.Nat.{ℕ}
 use lib.Dec.{ltb, eqb}
 use lib.ListN.{length, replicate}
 use Rattle.lists.specs.Compare.{both}
+use Rattle.lists.specs.Optional.{missing, listOf}
 use Rattle.bits.specs.Digits.{numberOf}
 use Rattle.refusals.specs.declared.Refusal.{Refusal}
 use Rattle.limits.specs.Rates.{isRate}
@@ -100,16 +100,6 @@ positionsIn s = readPositions (tableOf (formIn s)) (countIn s) (bodyAt s (positi
 -- the ratios by the reading k, or nothing
 abbrev pub ratiosIn : (ℕ → List ℕ → Option (List ℕ)) → List ℕ → Option (List ℕ)
 ratiosIn k s = k (countIn s) (bodyAt s (ratiosAt s))
-
--- whether there is no list
-abbrev pub missing : Option (List ℕ) → Bool
-missing none = true
-missing (some l) = false
-
--- the list, if there is one
-abbrev pub listOf : Option (List ℕ) → List ℕ
-listOf none = []
-listOf (some l) = l
 
 -- ---- the tests, field by field
 

@@ -25,6 +25,7 @@ use mathlib.Core.Option.{Option, none, some}
 use Prim.Native.Nat.{ℕ, _+_, _*_, _^_, _≤_, _<_}
 use lib.Dec.{eqb}
 use lib.ListN.{length}
+use Rattle.lists.specs.Optional.{listOf}
 use Rattle.bits.specs.Digits.{numberOf}
 use Rattle.limits.specs.Points.{maxPoints}
 use Rattle.outputs.specs.Outputs.{over}
@@ -36,7 +37,7 @@ use Rattle.position_format.specs.Tables.{tableOf}
 use Rattle.ratio_format.specs.Bodies.{codedRatios, openRatios, strictRatios}
 use Rattle.record_format.specs.Fields.{headSize, maxBody, bodyAt, nextAt}
 use Rattle.record_format.specs.Runs.{positionsTag, ratiosTag, sideSize}
-use Rattle.record_format.specs.Reading.{listOf, sideAt, countAt, positionsAt, ratiosAt, endAt, rateIn, sideIn, countIn, formIn, positionsIn, ratiosIn, sideTests, frontTests, positionsTests, ratiosTests}
+use Rattle.record_format.specs.Reading.{sideAt, countAt, positionsAt, ratiosAt, endAt, rateIn, sideIn, countIn, formIn, positionsIn, ratiosIn, sideTests, frontTests, positionsTests, ratiosTests}
 use Rattle.record_parts.specs.declared.field.FieldBody.{FieldBody}
 use Rattle.record_parts.specs.declared.field.Length.{Length}
 use Rattle.record_parts.specs.declared.field.Length.the-variants.{Any, Exactly}

@@ -8,6 +8,7 @@ use native.Mathlib.Omega.{arith}
 use borrow.Author.Tests.{le-ltb}
 use lib.ListN.{length}
 use Rattle.lists.specs.Lists.{member}
+use Rattle.lists.specs.Optional.{missing, listOf}
 use Rattle.refusals.specs.declared.Refusal.{Refusal}
 use Rattle.refusals.specs.Tests.{test, firstOf, refused}
 use Rattle.refusals.proofs.Tests.{firstOf-skip, firstOf-cong}
@@ -16,7 +17,7 @@ use Rattle.ratio_format.specs.Bodies.{codedRatios}
 use Rattle.record_format.specs.Fields.{Field}
 use Rattle.record_format.specs.Runs.{Run, run, positionsTag, ratiosTag, countSize, positionsField, ratiosField, frontFields, fieldsOf, recordOf}
 use Rattle.record_format.specs.Claims.{ownTests, ownAnswer, runAnswer}
-use Rattle.record_format.specs.Reading.{Answer, refusalAnswer, recordAnswer, readTests, readWith, rateAt, positionsAt, ratiosAt, endAt, rateIn, sideIn, countIn, formIn, positionsIn, ratiosIn, missing, listOf, otherRate, lacksRoom, ratiosTests}
+use Rattle.record_format.specs.Reading.{Answer, refusalAnswer, recordAnswer, readTests, readWith, rateAt, positionsAt, ratiosAt, endAt, rateIn, sideIn, countIn, formIn, positionsIn, ratiosIn, otherRate, lacksRoom, ratiosTests}
 use Rattle.record_format.proofs.Fields.{FieldStands, StandAll, laid-stand, pastAll, stand-past, stand-append, past-append}
 use Rattle.record_format.proofs.Reading.Fronts.{count-at, front-past, rate-is, side-is, count-is, front-tests, form-is, positions-are, positions-pass}
 use Rattle.record_format.proofs.Reading.{field-passes}

@@ -12,6 +12,7 @@ use lib.Dec.{ltb, lit<}
 use lib.ListN.{length, getD, length-append}
 use lib.Seq.{getD-append-add}
 use Rattle.lists.specs.Lists.{member}
+use Rattle.lists.specs.Optional.{missing}
 use Rattle.bits.specs.Digits.{numberOf}
 use Rattle.bits.proofs.Digits.{length-digits, number-digits-lt}
 use Rattle.limits.specs.Points.{maxPoints}
@@ -27,7 +28,7 @@ use Rattle.position_format.proofs.Positions.{read-coded}
 use Rattle.position_format.proofs.Tables.{table-good}
 use Rattle.record_format.specs.Fields.{Field, headSize, tagAt, bodyAt, nextAt}
 use Rattle.record_format.specs.Runs.{rateTag, countTag, positionsTags, formOf, rateSize, countSize, rateField, sideFields, sideLength, countField, positionsField, frontFields}
-use Rattle.record_format.specs.Reading.{rateAt, sideAt, countAt, positionsAt, rateIn, sideIn, countIn, formIn, positionsIn, missing, otherRate, lacksRoom, readTests, sideTests, countTests, frontTests, roomTests, positionsTests, ratiosTests}
+use Rattle.record_format.specs.Reading.{rateAt, sideAt, countAt, positionsAt, rateIn, sideIn, countIn, formIn, positionsIn, otherRate, lacksRoom, readTests, sideTests, countTests, frontTests, roomTests, positionsTests, ratiosTests}
 use Rattle.record_format.specs.WideClaims.{frontBytes}
 use Rattle.record_format.proofs.Fields.{FieldStands, StandAll, length-field, laid-stand, pastAll, stand-past, stand-append, past-append}
 use Rattle.record_format.proofs.Reading.{field-passes, positions-few, front-flat}

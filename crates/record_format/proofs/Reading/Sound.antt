@@ -6,6 +6,7 @@ use mathlib.Core.Option.{Option, none, some}
 use Prim.Native.Nat.{ℕ, _≤_}
 use borrow.Author.Tests.{ltb-false, not-false}
 use lib.Dec.{ltb, lit<}
+use Rattle.lists.specs.Optional.{missing}
 use Rattle.limits.specs.Rates.{isRate}
 use Rattle.limits.specs.Points.{maxPoints}
 use Rattle.refusals.specs.Tests.{Test, test, firstOf}
@@ -13,7 +14,7 @@ use Rattle.refusals.proofs.Tests.{firstOf-clear}
 use Rattle.position_format.specs.Tables.{pointsOf}
 use Rattle.record_format.specs.Fields.{tagAt}
 use Rattle.record_format.specs.Runs.{rateTag, countTag, positionsTag, ratiosTag, rateSize, countSize}
-use Rattle.record_format.specs.Reading.{readTests, rateAt, countAt, positionsAt, ratiosAt, rateIn, countIn, formIn, positionsIn, ratiosIn, missing, otherRate, sideTests, countTests, frontTests, roomTests, positionsTests, ratiosTests}
+use Rattle.record_format.specs.Reading.{readTests, rateAt, countAt, positionsAt, ratiosAt, rateIn, countIn, formIn, positionsIn, ratiosIn, otherRate, sideTests, countTests, frontTests, roomTests, positionsTests, ratiosTests}
 use Rattle.record_format.proofs.Reading.{FieldSound, field-clear, missing-some, front-flat}
 use Rattle.record_format.proofs.Reading.Sides.{SideSound, side-clear}
 use Rattle.record_format.proofs.Runs.{tag-named}

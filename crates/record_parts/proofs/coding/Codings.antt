@@ -10,6 +10,7 @@ use lib.Dec.{leb, ltb}
 use lib.ListN.{length, take, drop}
 use Rattle.lists.specs.Compare.{both}
 use Rattle.lists.proofs.Compare.{both-true}
+use Rattle.lists.specs.Optional.{missing, listOf}
 use Rattle.limits.specs.Points.{maxPoints}
 use Rattle.outputs.specs.Outputs.{over, Filled}
 use Rattle.refusals.specs.declared.Refusal.{Refusal}
@@ -20,7 +21,7 @@ use Rattle.position_format.specs.Positions.{readPositions}
 use Rattle.position_format.specs.Tables.{tableOf, pointsOf}
 use Rattle.record_format.specs.Fields.{headSize, tagAt, lengthAt, bodyAt, nextAt, headTests, fieldTests}
 use Rattle.record_format.specs.Runs.{positionsTags}
-use Rattle.record_format.specs.Reading.{missing, listOf, countAt, positionsAt, countIn, formIn, positionsTests}
+use Rattle.record_format.specs.Reading.{countAt, positionsAt, countIn, formIn, positionsTests}
 use Rattle.record_format.proofs.Reading.{positions-few, positions-many, many-tag}
 use Rattle.record_parts.specs.declared.field.FieldBody.{FieldBody}
 use Rattle.record_parts.specs.Fields.{PartRead, FieldRead, CodedRead}

@@ -5,6 +5,7 @@ use mathlib.Core.Option.{Option}
 use Prim.Native.Nat.{ℕ, _+_, _≤_}
 use native.Mathlib.Omega.{arith}
 use lib.ListN.{length}
+use Rattle.lists.specs.Optional.{listOf}
 use Rattle.outputs.specs.Outputs.{over}
 use Rattle.refusals.specs.declared.Refusal.{Refusal}
 use Rattle.refusals.specs.Tests.{Test, firstOf}
@@ -13,7 +14,7 @@ use Rattle.position_format.specs.declared.Form.{Form}
 use Rattle.position_format.specs.Positions.{readPositions}
 use Rattle.position_format.specs.Tables.{tableOf}
 use Rattle.record_format.specs.Fields.{bodyAt, nextAt}
-use Rattle.record_format.specs.Reading.{positionsAt, ratiosAt, endAt, countIn, formIn, listOf, positionsTests, ratiosTests}
+use Rattle.record_format.specs.Reading.{positionsAt, ratiosAt, endAt, countIn, formIn, positionsTests, ratiosTests}
 use Rattle.record_parts.specs.declared.coding.Part.{Part}
 use Rattle.record_parts.specs.declared.points.Points.{Points}
 use Rattle.record_parts.specs.Fields.{farthest, PartRead, CountFound, RatiosDue, CodedRead, PointsRead}

@@ -5,13 +5,14 @@
 //!
 //! Live addition and stepping are set beside straightforward ones that take and return their
 //! state by value; the straightforward step is a C function as the library's is, so that both
-//! are handed the state in the same way. A move of a record to the other form is set beside the
-//! two calls of the library that it stands for, strict reading and writing in that form; moved are
-//! runs that both forms take. Positions are timed in runs of one ratio throughout, which takes a
+//! are handed the state in the same way. A check is set beside a straightforward reading of the
+//! record that drops the points. A move of a record to the other form is set beside two calls of the
+//! library, fetch and write in that form, by whoever knows rate and side already; moved are runs that
+//! both forms take. Positions are timed in runs of one ratio throughout, which takes a
 //! byte and no search; so are those of the wide form, in a table of its own. Runs have no side but
-//! in a table of their own. Two records are laid side by side from their bytes, and as runs that
-//! were read already: with the library by a call for each position and each ratio, and beside it
-//! by one loop. At the end stand the targets that were not met.
+//! in a table of their own. Two records are laid side by side from their bytes, by describe and
+//! fetch of each, and as runs that were read already: with the library by a call for each
+//! position and each ratio, and beside it by one loop. At the end stand the targets that were not met.
 //!
 //! Each sample of the library is timed between two of what it is set beside. A ratio says how many
 //! times as fast the library is as the mean of these two; printed are medians over the samples.
@@ -25,7 +26,8 @@ mod library;
 mod plain;
 
 use answers::{
-    Cursor, Difference, Live, Making, Move, Reading, Stepped, Write, Written, OLD, WIDE,
+    Cursor, Described, Difference, Fetched, Live, Making, Move, Reading, Stepped, Write, Written,
+    OLD, WIDE,
 };
 use plain::ReadRun;
 use std::hint::black_box;
@@ -196,7 +198,7 @@ fn compare_by_calls(first: &ReadRun, second: &ReadRun, list: &mut Vec<Difference
             list.push(difference);
         }
     };
-    let overall = library::compare_overall(first.reading, second.reading);
+    let overall = library::compare_overall(first.described, second.described);
     for property in [overall.rate, overall.side, overall.count, overall.form] {
         put(property);
     }
@@ -212,10 +214,22 @@ fn compare_by_calls(first: &ReadRun, second: &ReadRun, list: &mut Vec<Difference
     put(overall.more);
 }
 
+// The library's check is lent no output; the straightforward one is.
+
+fn check_alone(expected: u32, record: &[u8], _: &mut [u64], _: &mut [u64]) -> u32 {
+    library::check(expected, record)
+}
+
+fn describe_alone(expected: u32, record: &[u8], _: &mut [u64], _: &mut [u64]) -> Described {
+    library::describe(expected, record)
+}
+
 /// One implementation's calls.
 struct Calls {
     write: Write,
-    read_strict: fn(u32, &[u8], &mut [u64], &mut [u64]) -> Reading,
+    check: fn(u32, &[u8], &mut [u64], &mut [u64]) -> u32,
+    describe: fn(u32, &[u8], &mut [u64], &mut [u64]) -> Described,
+    fetch: fn(u32, &[u8], &mut [u64], &mut [u64]) -> Fetched,
     read_open: fn(u32, &[u8], &mut [u64], &mut [u64]) -> Reading,
     live_new: fn() -> Live,
     live_add: fn(&mut Live, u64, &mut [u8]) -> Written,
@@ -226,7 +240,9 @@ struct Calls {
 
 const LIBRARY: Calls = Calls {
     write: library::write,
-    read_strict: library::read_strict,
+    check: check_alone,
+    describe: describe_alone,
+    fetch: library::fetch,
     read_open: library::read_open,
     live_new: library::live_new,
     live_add: library::live_add,
@@ -237,7 +253,9 @@ const LIBRARY: Calls = Calls {
 
 const PLAIN: Calls = Calls {
     write: plain::write,
-    read_strict: plain::read_strict,
+    check: plain::check,
+    describe: plain::describe,
+    fetch: plain::fetch,
     read_open: plain::read_open,
     live_new: plain::live_new,
     live_add: plain::live_add_by_value,
@@ -249,11 +267,13 @@ const PLAIN: Calls = Calls {
 #[derive(Clone, Copy, PartialEq)]
 enum Call {
     Write,
-    Strict,
+    Check,
+    Describe,
+    Fetch,
     Open,
     ToWide,
     ToOld,
-    StrictAndWrite,
+    FetchAndWrite,
     Live,
     Step,
 }
@@ -261,11 +281,13 @@ enum Call {
 fn name(call: Call) -> &'static str {
     match call {
         Call::Write => "write",
-        Call::Strict => "strict read",
+        Call::Check => "check",
+        Call::Describe => "describe",
+        Call::Fetch => "fetch",
         Call::Open => "open read",
         Call::ToWide => "move to the wide form",
         Call::ToOld => "move to the old form",
-        Call::StrictAndWrite => "strict read, and write in the other form",
+        Call::FetchAndWrite => "fetch, and write in the other form",
         Call::Live => "live addition",
         Call::Step => "step",
     }
@@ -278,7 +300,7 @@ fn is_move(call: Call) -> bool {
 /// What a call of the library is set beside.
 fn beside(call: Call) -> (&'static Calls, Call) {
     if is_move(call) {
-        (&LIBRARY, Call::StrictAndWrite)
+        (&LIBRARY, Call::FetchAndWrite)
     } else {
         (&PLAIN, call)
     }
@@ -308,13 +330,28 @@ fn work(calls: &Calls, call: Call, run: &Run, out: &mut Output) {
             let written = (calls.write)(RATE, side, form, run.positions, run.ratios, bytes);
             assert_eq!(written.length, run.record.len() as u64);
         }
-        Call::Strict | Call::Open => {
-            let read = if call == Call::Strict {
-                calls.read_strict
-            } else {
-                calls.read_open
-            };
-            let read = read(RATE, &run.record, &mut out.positions, &mut out.ratios);
+        Call::Check => {
+            let (positions, ratios) = (&mut out.positions, &mut out.ratios);
+            let checked = (calls.check)(RATE, &run.record, positions, ratios);
+            assert_eq!(checked as usize, run.record.len());
+        }
+        Call::Describe => {
+            let (positions, ratios) = (&mut out.positions, &mut out.ratios);
+            let described = (calls.describe)(RATE, &run.record, positions, ratios);
+            assert_eq!(described.size, run.record.len() as u64);
+            assert_eq!((described.side, described.form), (run.side, run.form));
+        }
+        Call::Fetch => {
+            let (positions, ratios) = (&mut out.positions, &mut out.ratios);
+            let fetched = (calls.fetch)(RATE, &run.record, positions, ratios);
+            assert_eq!(
+                (fetched.number, fetched.count as usize),
+                (0, run.ratios.len())
+            );
+        }
+        Call::Open => {
+            let (positions, ratios) = (&mut out.positions, &mut out.ratios);
+            let read = (calls.read_open)(RATE, &run.record, positions, ratios);
             assert_eq!(read.used, run.record.len() as u64);
             assert_eq!((read.side, read.form), (run.side, run.form));
         }
@@ -327,14 +364,14 @@ fn work(calls: &Calls, call: Call, run: &Run, out: &mut Output) {
             let moved = move_record(&run.record, &mut out.bytes);
             assert_eq!((moved.number, moved.used), (0, run.record.len() as u64));
         }
-        Call::StrictAndWrite => {
+        Call::FetchAndWrite => {
             let (positions, ratios) = (&mut out.positions, &mut out.ratios);
-            let read = (calls.read_strict)(0, &run.record, positions, ratios);
-            let count = read.count as usize;
+            let fetched = (calls.fetch)(0, &run.record, positions, ratios);
+            let count = fetched.count as usize;
             let (positions, ratios) = (&positions[..count], &ratios[..count]);
-            let (form, bytes) = (other(read.form), &mut out.bytes);
-            let written = (calls.write)(read.rate, read.side, form, positions, ratios, bytes);
-            assert_eq!((written.number, read.used), (0, run.record.len() as u64));
+            let (side, form, bytes) = (run.side, other(run.form), &mut out.bytes);
+            let written = (calls.write)(RATE, side, form, positions, ratios, bytes);
+            assert_eq!((written.number, count), (0, run.ratios.len()));
         }
         Call::Live => {
             let mut state = (calls.live_new)();
@@ -365,10 +402,12 @@ fn check(calls: &Calls, call: Call, run: &Run, out: &mut Output) {
     let count = run.ratios.len();
     let same = match call {
         Call::Write => out.bytes.starts_with(record),
-        Call::Strict | Call::Open => {
+        // Nothing more comes of them than what was looked at.
+        Call::Check | Call::Describe => true,
+        Call::Fetch | Call::Open => {
             out.positions.starts_with(run.positions) && out.ratios.starts_with(run.ratios)
         }
-        Call::ToWide | Call::ToOld | Call::StrictAndWrite => {
+        Call::ToWide | Call::ToOld | Call::FetchAndWrite => {
             let form = other(run.form);
             let moved = &runs(run.side, form, run.positions, run.ratios, count)[0];
             !moved.record.is_empty() && out.bytes.starts_with(&moved.record)
@@ -379,21 +418,19 @@ fn check(calls: &Calls, call: Call, run: &Run, out: &mut Output) {
     assert!(same, "{} differs on a run of {count} points", name(call));
 }
 
-/// Two records to be compared, and what strict reading answers of each.
+/// Two records to be compared, and what describe answers of each.
 struct Pair<'a> {
     runs: [Run<'a>; 2],
-    readings: [Reading; 2],
+    described: [Described; 2],
 }
 
 fn pairs<'a>(first: Vec<Run<'a>>, second: Vec<Run<'a>>) -> Vec<Pair<'a>> {
-    let out = &mut Output::new();
-    let mut read =
-        |run: &Run| library::read_strict(0, &run.record, &mut out.positions, &mut out.ratios);
-    let mut pair = |(first, second)| Pair {
-        readings: [read(&first), read(&second)],
+    let describe = |run: &Run| library::describe(0, &run.record);
+    let pair = |(first, second)| Pair {
+        described: [describe(&first), describe(&second)],
         runs: [first, second],
     };
-    first.into_iter().zip(second).map(&mut pair).collect()
+    first.into_iter().zip(second).map(pair).collect()
 }
 
 /// The outputs of reading two records, and what differs.
@@ -413,15 +450,17 @@ impl Compared {
 
 /// Lists what differs between two records, which are read first or were read already.
 fn compare(calls: &Calls, read_first: bool, pair: &Pair, out: &mut Compared) {
-    let mut readings = pair.readings;
+    let mut described = pair.described;
     if read_first {
         for n in 0..2 {
             let (record, out) = (&pair.runs[n].record, &mut out.outputs[n]);
-            readings[n] = (calls.read_strict)(0, record, &mut out.positions, &mut out.ratios);
+            let (positions, ratios) = (&mut out.positions, &mut out.ratios);
+            described[n] = (calls.describe)(0, record, positions, ratios);
+            (calls.fetch)(0, record, positions, ratios);
         }
     }
     let [first, second] = [0, 1].map(|n| {
-        let count = readings[n].count as usize;
+        let count = described[n].count as usize;
         let (run, out) = (&pair.runs[n], &out.outputs[n]);
         let (positions, ratios) = if read_first {
             (&out.positions[..count], &out.ratios[..count])
@@ -429,7 +468,7 @@ fn compare(calls: &Calls, read_first: bool, pair: &Pair, out: &mut Compared) {
             (run.positions, run.ratios)
         };
         ReadRun {
-            reading: readings[n],
+            described: described[n],
             positions,
             ratios,
         }
@@ -456,7 +495,7 @@ fn check_comparison(read_first: bool, pair: &Pair, out: &mut Compared) {
 
 fn copy_both(pair: &Pair, out: &mut Compared) {
     for (run, out) in pair.runs.iter().zip(&mut out.outputs) {
-        copy(Call::Strict, run, out);
+        copy(Call::Fetch, run, out);
     }
 }
 
@@ -595,9 +634,9 @@ fn measure_comparison(read_first: bool, pairs: &[Pair], samples: usize) -> Cell 
 /// should nowhere be slower than the two calls.
 fn target(call: Call, length: usize, kind: usize, plain: f64) -> f64 {
     match call {
-        Call::ToWide | Call::ToOld | Call::StrictAndWrite => 1.0,
+        Call::ToWide | Call::ToOld | Call::FetchAndWrite => 1.0,
         _ if length == SHORT => 1.0 / 3.0,
-        Call::Write | Call::Strict => match kind {
+        Call::Write | Call::Check | Call::Describe | Call::Fetch => match kind {
             2..=5 | 8 => 3.0,
             6 | 7 => 2.0,
             _ if plain > 1000.0 => 0.5,
@@ -706,7 +745,7 @@ fn positions_table(form: u32, samples: usize) -> Vec<String> {
     println!("\n{what}, {points} points of one ratio");
     head(Call::Write, steps);
     let ratios = ratios(SAME);
-    for call in [Call::Write, Call::Strict, Call::Open] {
+    for call in [Call::Write, Call::Check, Call::Fetch, Call::Open] {
         print!("{:24}", name(call));
         for steps in steps {
             let positions = positions(steps);
@@ -732,7 +771,13 @@ fn sides_table(samples: usize) -> Vec<String> {
     let lengths = [POINTS, SHORT];
     head(Call::Write, &lengths.map(|length| length.to_string()));
     let (positions, ratios) = (positions("regular"), ratios(SINES));
-    for call in [Call::Write, Call::Strict, Call::Open] {
+    for call in [
+        Call::Write,
+        Call::Check,
+        Call::Describe,
+        Call::Fetch,
+        Call::Open,
+    ] {
         print!("{:24}", name(call));
         for length in lengths {
             cell(
@@ -757,7 +802,7 @@ fn comparisons_table(samples: usize) -> Vec<String> {
     let mut missed = Vec::new();
     println!("\ntwo records side by side, two sines, irregular steps, by the number of points");
     let groups = ["equal", "different"];
-    head(Call::Strict, &groups);
+    head(Call::Fetch, &groups);
     let (positions, ratios) = (positions("irregular"), ratios(SINES));
     let later: Vec<u64> = positions.iter().map(|position| position + 1).collect();
     let others: Vec<u64> = ratios.iter().map(|ratio| ratio ^ 1).collect();
@@ -795,7 +840,7 @@ fn comparisons_table(samples: usize) -> Vec<String> {
 fn growth(samples: usize) {
     println!("\ntwo sines, irregular steps: ns a point by the number of points, library (plain)");
     let (positions, ratios) = (positions("irregular"), ratios(SINES));
-    for call in [Call::Write, Call::Strict, Call::Open] {
+    for call in [Call::Write, Call::Check, Call::Fetch, Call::Open] {
         print!("{:24}", name(call));
         for length in [256, 1_024, POINTS] {
             let cell = measure(call, &runs(0, OLD, &positions, &ratios, length), samples);
@@ -816,7 +861,7 @@ fn main() {
         }
     };
     println!("copy: the positions and ratios (live: ratios) copied; plain: straightforward");
-    println!("2 calls: the library's strict read, and write in the form moved to");
+    println!("2 calls: the library's fetch, and write in the form moved to");
     println!(
         "ratio: how many times as fast as plain, or as 2 calls, the library is; \
          medians of {samples} samples"
@@ -825,7 +870,8 @@ fn main() {
     for length in [POINTS, SHORT] {
         for call in [
             Call::Write,
-            Call::Strict,
+            Call::Check,
+            Call::Fetch,
             Call::Open,
             Call::Live,
             Call::Step,

@@ -1,10 +1,12 @@
-//! A straightforward implementation of writing, reading, live addition, stepping and comparing, to be
-//! timed beside the library. It scans the window newest first, stops at an equal ratio, and takes both counts
+//! A straightforward implementation of writing, checking, fetching, reading, live addition, stepping and comparing,
+//! to be timed beside the library. It scans the window newest first, stops at an equal ratio, and takes both counts
 //! at each entry; the run's own slice is the window. Its calls are not inlined, since those of
 //! the library cannot be. Writing and reading are compiled for each form apart, so that the old
 //! one is as fast as without the wide one.
 
-use crate::answers::{Cursor, Difference, Kind, Live, Making, Reading, Stepped, Written};
+use crate::answers::{
+    Cursor, Described, Difference, Fetched, Kind, Live, Making, Reading, Stepped, Written,
+};
 use crate::answers::{OLD, WIDE, WINDOW};
 
 const RATES: [u32; 6] = [44_100, 48_000, 88_200, 96_000, 176_400, 192_000];
@@ -443,14 +445,45 @@ fn read<const STRICT: bool>(
     }
 }
 
+/// The check in full. The points are read into numbers that are lent, and have no further use.
 #[inline(never)]
-pub fn read_strict(
+pub fn describe(
     expected: u32,
     record: &[u8],
     positions: &mut [u64],
     ratios: &mut [u64],
-) -> Reading {
-    read::<true>(expected, record, positions, ratios)
+) -> Described {
+    let read = read::<true>(expected, record, positions, ratios);
+    Described {
+        number: read.number,
+        place: read.place,
+        rate: read.rate,
+        side: read.side,
+        count: read.count,
+        form: read.form,
+        size: read.used,
+    }
+}
+
+/// The check as one number.
+#[inline(never)]
+pub fn check(expected: u32, record: &[u8], positions: &mut [u64], ratios: &mut [u64]) -> u32 {
+    let read = read::<true>(expected, record, positions, ratios);
+    if read.number == 0 {
+        read.used as u32
+    } else {
+        read.number << 16 | read.place
+    }
+}
+
+#[inline(never)]
+pub fn fetch(expected: u32, record: &[u8], positions: &mut [u64], ratios: &mut [u64]) -> Fetched {
+    let read = read::<true>(expected, record, positions, ratios);
+    Fetched {
+        number: read.number,
+        place: read.place,
+        count: read.count,
+    }
 }
 
 #[inline(never)]
@@ -585,9 +618,9 @@ extern "C" fn step_in_c(body: *const u8, length: usize, cursor: Cursor) -> Stepp
 
 // Two records side by side
 
-/// A record that was read: the answer, and as many positions and ratios as it says.
+/// A record that was read: what describe answered, and as many positions and ratios as it says.
 pub struct ReadRun<'a> {
-    pub reading: Reading,
+    pub described: Described,
     pub positions: &'a [u64],
     pub ratios: &'a [u64],
 }
@@ -632,7 +665,7 @@ pub fn compare(first: &ReadRun, second: &ReadRun, list: &mut Vec<Difference>) {
             });
         }
     };
-    let (one, other) = (first.reading, second.reading);
+    let (one, other) = (first.described, second.described);
     put(1, 0, one.rate.into(), other.rate.into());
     put(2, 0, one.side.into(), other.side.into());
     put(3, 0, one.count.into(), other.count.into());

@@ -17,8 +17,14 @@
  * an explanation know of no form, and their limit is 4096. The calls that compare
  * have no limit: they are given what was read, and take lists of any length.
  *
+ * A record is read in two parts. farigolenc_check says by one number whether it is
+ * sound, and how long it is; farigolenc_describe says the same, and its rate, side,
+ * count and form. farigolenc_fetch gives the points. The first two are lent no output,
+ * and none needs another before it.
+ *
  * The answer of a call that can refuse begins with a number, 0 for success or the
- * number of a refusal, and a place, 0 on success:
+ * number of a refusal, and a place, 0 on success; farigolenc_check puts both into
+ * one number:
  *
  *   no.  given when                                            place
  *    1   rate not in the list                                  0
@@ -59,6 +65,10 @@
  * call writes overlaps nothing else that is lent to it, and no other thread
  * uses it meanwhile. Outputs may hold anything before the call.
  *
+ * No call allocates memory. Of the stack check, describe, fetch and the moves take
+ * about 6 KiB, open reading 5, writing 3, a live addition 4 and a step 7 with the
+ * states that are handed over, and the others less; a test holds each to 8 KiB.
+ *
  * What no input can do: where that is kept, no record, number or state, however
  * damaged or made up, makes a call read or write memory that was not lent to
  * it, stop the program, or fail to return. Answers depend on the arguments
@@ -72,8 +82,8 @@
  * back to 0, when something that stands here changes or goes, so that a program
  * must be looked at and compiled again; the minor grows by one when something is
  * added. Records have no version. */
-#define FARIGOLENC_VERSION_MAJOR 4
-#define FARIGOLENC_VERSION_MINOR 1
+#define FARIGOLENC_VERSION_MAJOR 5
+#define FARIGOLENC_VERSION_MINOR 0
 
 #include <stddef.h>
 #include <stdint.h>
@@ -98,7 +108,7 @@ extern "C" {
 
 /* Writes the record of a run; with side 0 it has no field for the side. A `form`
  * of FARIGOLENC_WIDE is the wide form, and every other number is the old one, so
- * that what a reading gave can be handed back. Tests 1, 21, then 2 to 6 in order:
+ * that the form of an answer can be handed back. Tests 1, 21, then 2 to 6 in order:
  * 3 with the limit of the form, and 5 in the old form alone. */
 typedef struct {
     uint32_t number, place;
@@ -111,16 +121,64 @@ farigolenc_write_answer farigolenc_write(
     const uint64_t *ratios, size_t ratios_length,
     uint8_t *out, size_t out_length);
 
-/* Reads the record at the start of `record`; bytes after it are not looked at.
- * `expected` is the rate that the record must have, or 0 for any. Strict
- * reading accepts only what farigolenc_write writes; open reading accepts any
- * open form in the ratios' field. Both take records of both forms. Takes the
- * fields in order, and in each tests 10 (head), 11, 12, 10 (body), then its
- * contents: 13 and 14 of the rate, 20 of the side, 15 (above 4096) and 16 of the
- * count, 17 of the positions, 18 of the ratios. In the wide form 15 is tested once
- * more, with 3500, straight after 11 of the positions' field and before its body:
- * a wide record that states 3501 to 4096 points is refused by 16 where an output
- * is too short for them, and else by 15. */
+/* Whether the record at the start of `record` is sound, that is, what farigolenc_write
+ * writes for some run; bytes after it are not looked at. `expected` is the rate that
+ * the record must have, or 0 for any. Takes records of both forms. No output is lent.
+ *
+ * The answer is one number. Of a sound record it is the size, the bytes of the record:
+ * 18 to FARIGOLENC_RECORD. Else it is 65536 times the number of the refusal plus the
+ * place, so 655360 or more. It is never 0:
+ *
+ *   checked < 65536    a sound record of so many bytes
+ *   checked / 65536    else the number of the refusal
+ *   checked % 65536    and its place
+ *
+ * Takes the fields in order, and in each tests 10 (head), 11, 12, 10 (body), then its
+ * contents: 13 and 14 of the rate, 20 of the side, 15 (above 4096) of the count, 17 of
+ * the positions, 18 of the ratios. In the wide form 15 is tested once more, with 3500,
+ * straight after 11 of the positions' field and before its body. Of the stack it takes
+ * about 6 KiB, whatever the count is. */
+uint32_t farigolenc_check(
+    uint32_t expected,
+    const uint8_t *record, size_t record_length);
+
+/* What farigolenc_check answers, in full, with the same tests and as much stack. */
+typedef struct {
+    uint32_t number, place;
+    uint32_t rate;
+    uint32_t side; /* 0 where the record has no field for it */
+    uint32_t count;
+    uint32_t form; /* FARIGOLENC_OLD or FARIGOLENC_WIDE; 0 on a refusal */
+    uint64_t size; /* bytes of the record */
+} farigolenc_describe_answer;
+
+farigolenc_describe_answer farigolenc_describe(
+    uint32_t expected,
+    const uint8_t *record, size_t record_length);
+
+/* Fills the outputs with the positions and the ratios of a sound record, as many as its
+ * count; room for FARIGOLENC_POINTS numbers is always enough. No other call need come
+ * before it: it tests all that farigolenc_check tests, in the same order, and 16 straight
+ * after 15 (above 4096) of the count, before the positions' field. So it refuses by 16,
+ * or else as the check does, with the same number and place. A wide record that states
+ * 3501 to 4096 points is refused by 16 where an output is too short for them, and else
+ * by 15. A program for a header before 5.0 that called farigolenc_read_strict calls
+ * this and farigolenc_describe. */
+typedef struct {
+    uint32_t number, place;
+    uint32_t count;
+} farigolenc_fetch_answer;
+
+farigolenc_fetch_answer farigolenc_fetch(
+    uint32_t expected,
+    const uint8_t *record, size_t record_length,
+    uint64_t *positions, size_t positions_length,
+    uint64_t *ratios, size_t ratios_length);
+
+/* Reads a record openly: any open form is accepted in the ratios' field, also one that
+ * farigolenc_write would not write. The tests and their order are those of
+ * farigolenc_fetch, and the outputs are filled as by it; the answer has what
+ * farigolenc_describe answers, with the size as `used`. */
 typedef struct {
     uint32_t number, place;
     uint32_t rate;
@@ -129,12 +187,6 @@ typedef struct {
     uint32_t form; /* FARIGOLENC_OLD or FARIGOLENC_WIDE; 0 on a refusal */
     uint64_t used; /* bytes of the record */
 } farigolenc_read_answer;
-
-farigolenc_read_answer farigolenc_read_strict(
-    uint32_t expected,
-    const uint8_t *record, size_t record_length,
-    uint64_t *positions, size_t positions_length,
-    uint64_t *ratios, size_t ratios_length);
 
 farigolenc_read_answer farigolenc_read_open(
     uint32_t expected,
@@ -148,16 +200,16 @@ farigolenc_read_answer farigolenc_read_open(
  * for byte as it was, where both moves are accepted. Bytes after the record are not
  * looked at and not carried over, and the output may not overlap the record.
  *
- * Tests those of strict reading in their order, with no rate expected and without 16.
- * The tag of the form moved to is a wrong one: 11 at the positions' field, before 15
- * of the wide form and before the body. After the whole record toward the wide form
- * 3, above 3500 points, and toward the old form 5; then 6, by the length of the
- * record that would be written.
+ * Tests those of farigolenc_check in their order, with no rate expected. The tag of
+ * the form moved to is a wrong one: 11 at the positions' field, before 15 of the wide
+ * form and before the body. After the whole record toward the wide form 3, above 3500
+ * points, and toward the old form 5; then 6, by the length of the record that would
+ * be written.
  *
  * That one may be longer than the one read; FARIGOLENC_RECORD bytes are always room
  * enough. On a refusal the output is 0 from end to end, also where a part of the
- * record was written already. The run is kept on the stack meanwhile: a move takes
- * about 68 KiB of it, and of a run of up to 64 points less than 4 KiB. */
+ * record was written already. Of the stack a move takes about as much as
+ * farigolenc_check, whatever the count is. */
 typedef struct {
     uint32_t number, place;
     uint64_t length; /* bytes written */
@@ -227,10 +279,10 @@ typedef struct {
 
 farigolenc_cursor_answer farigolenc_cursor_new(uint64_t count);
 
-/* Reads the next ratio, strictly. `next` is the state after it, and on a refusal
- * the state that was given. Tests 7; where `count` were given, 8 if the body is
- * used up, else 18; before that, 18 if the bytes at `place` begin with no ratio
- * form that would be written for a next ratio. */
+/* Reads the next ratio, strictly: only a form that would be written. `next` is the
+ * state after it, and on a refusal the state that was given. Tests 7; where `count`
+ * were given, 8 if the body is used up, else 18; before that, 18 if the bytes at
+ * `place` begin with no ratio form that would be written for a next ratio. */
 typedef struct {
     uint32_t number, place;
     uint64_t ratio;
@@ -292,11 +344,12 @@ farigolenc_explain_answer farigolenc_explain(
 
 /* What differs between two records, the first and the second:
  *
- *   1. Read each by farigolenc_read_strict, with no rate expected and with outputs of
- *      its own that have room for FARIGOLENC_POINTS numbers.
- *   2. Give both answers to farigolenc_compare_overall.
- *   3. Where that refuses nothing, ask farigolenc_compare_positions and then
- *      farigolenc_compare_ratios at each index below both counts, from 0 up.
+ *   1. Give what farigolenc_describe answers of each, with no rate expected, to
+ *      farigolenc_compare_overall.
+ *   2. Where that refuses nothing, fetch the points of each by farigolenc_fetch, with no
+ *      rate expected, into outputs of its own that have room for its count.
+ *   3. Ask farigolenc_compare_positions and then farigolenc_compare_ratios at each index
+ *      below both counts, from 0 up.
  *
  * Everything that differs is answered once, and nothing that is equal. Two records of
  * the same bytes have no difference, whatever follows either; any others have at
@@ -330,11 +383,11 @@ typedef struct {
     farigolenc_kind_answer first_kind, second_kind; /* of ratios */
 } farigolenc_difference_answer;
 
-/* The differences that are of no index, by what strict reading answered of each
- * record. Where a reading was refused this refuses with the same number and place, the
+/* The differences that are of no index, by what farigolenc_describe answered of each
+ * record. Where it refused a record this refuses with the same number and place, the
  * first record before the second; `which` says which it was, and every difference is
- * 0. After step 1 that is neither 14 nor 16. Tests nothing else: an answer that no
- * reading gave is taken as it stands. The bytes used have no part in it. */
+ * 0. After step 1 that is not 14. Tests nothing else: an answer that no call gave is
+ * taken as it stands. The sizes have no part in it. */
 typedef struct {
     uint32_t number, place;
     uint32_t which; /* the record that was refused, 1 or 2; else 0 */
@@ -343,11 +396,11 @@ typedef struct {
 } farigolenc_overall_answer;
 
 farigolenc_overall_answer farigolenc_compare_overall(
-    farigolenc_read_answer first,
-    farigolenc_read_answer second);
+    farigolenc_describe_answer first,
+    farigolenc_describe_answer second);
 
 /* The difference between two runs' positions, or ratios, at `index`. Lent are those
- * that were read, the first `count` numbers of each output and no more: past them an
+ * that were fetched, the first `count` numbers of each output and no more: past them an
  * output holds what it held before. At an index that not both have there is no
  * difference. Never refuses. */
 farigolenc_difference_answer farigolenc_compare_positions(

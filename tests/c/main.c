@@ -1,8 +1,8 @@
-/* Calls every function of farigolenc.h from C99: writes a run in both forms, reads
- * it, moves it from each form to the other, adds its ratios live, steps through
- * them, explains each, lays records side by side, and tries sides, forms, kinds,
- * spans, reasons and refusals. Prints "ok" and returns 0, or says what differs and
- * returns 1. */
+/* Calls every function of farigolenc.h from C99: writes a run in both forms, checks
+ * it, fetches its points, reads it openly, moves it from each form to the other,
+ * adds its ratios live, steps through them, explains each, lays records side by
+ * side, and tries sides, forms, kinds, spans, reasons and refusals. Prints "ok" and
+ * returns 0, or says what differs and returns 1. */
 
 #include "farigolenc.h"
 
@@ -26,6 +26,16 @@ typedef char count_is_fifth[offsetof(farigolenc_read_answer, count) == 16 ? 1 : 
 typedef char form_is_sixth[offsetof(farigolenc_read_answer, form) == 20 ? 1 : -1];
 typedef char used_is_last[offsetof(farigolenc_read_answer, used) == 24 ? 1 : -1];
 typedef char reading_is_32_bytes[sizeof(farigolenc_read_answer) == 32 ? 1 : -1];
+
+/* So do those of describe and of fetch. */
+typedef char described_rate[offsetof(farigolenc_describe_answer, rate) == 8 ? 1 : -1];
+typedef char described_side[offsetof(farigolenc_describe_answer, side) == 12 ? 1 : -1];
+typedef char described_count[offsetof(farigolenc_describe_answer, count) == 16 ? 1 : -1];
+typedef char described_form[offsetof(farigolenc_describe_answer, form) == 20 ? 1 : -1];
+typedef char size_is_last[offsetof(farigolenc_describe_answer, size) == 24 ? 1 : -1];
+typedef char described_is_32_bytes[sizeof(farigolenc_describe_answer) == 32 ? 1 : -1];
+typedef char fetched_count_is_last[offsetof(farigolenc_fetch_answer, count) == 8 ? 1 : -1];
+typedef char fetched_is_12_bytes[sizeof(farigolenc_fetch_answer) == 12 ? 1 : -1];
 
 /* So do those of a move's. */
 typedef char length_is_third[offsetof(farigolenc_move_answer, length) == 8 ? 1 : -1];
@@ -74,10 +84,54 @@ static const uint32_t forms[2] = {FARIGOLENC_OLD, FARIGOLENC_WIDE};
 /* Numbers that are no form's, with which the old form is written. */
 static const uint32_t other_forms[] = {0, 1, 2, 4, 6, 7, 256 + 5, 65536 + 5, UINT32_MAX};
 
+/* Checks a record, asks what it holds and fetches the points. What the three calls answer must fit
+ * together: check and describe say the same, never 16, and fetch says the same unless it is 16.
+ * Answers as open reading would, by the fetch and, where that gives the points, by describe. */
+static farigolenc_read_answer check_and_fetch(uint32_t expected, const uint8_t *record,
+                                              size_t length, uint64_t *positions,
+                                              size_t positions_room, uint64_t *ratios,
+                                              size_t ratios_room)
+{
+    const uint32_t checked = farigolenc_check(expected, record, length);
+    const farigolenc_describe_answer described = farigolenc_describe(expected, record, length);
+    const farigolenc_fetch_answer fetched = farigolenc_fetch(
+        expected, record, length, positions, positions_room, ratios, ratios_room);
+    farigolenc_read_answer read = {0, 0, 0, 0, 0, 0, 0};
+
+    if (checked < 65536) {
+        check(described.number == 0 && described.place == 0, "describe beside a sound check");
+        check(described.size == checked && checked <= length, "the size of a sound record");
+        check(fetched.number == 0 || fetched.number == 16, "fetch beside a sound check");
+    } else {
+        check(described.number == checked / 65536 && described.place == checked % 65536,
+              "describe beside a refused check");
+        check(described.number >= 10 && described.number != 16, "the number of a refused check");
+        check(described.rate == 0 && described.side == 0 && described.count == 0 &&
+                  described.form == 0 && described.size == 0,
+              "the rest of a refused describe");
+        check(fetched.number != 0, "fetch beside a refused check");
+    }
+    if (fetched.number != 16) {
+        check(fetched.number == described.number && fetched.place == described.place,
+              "the refusal of fetch");
+        check(fetched.count == described.count, "the count of fetch");
+    }
+    read.number = fetched.number;
+    read.place = fetched.place;
+    read.count = fetched.count;
+    if (fetched.number == 0) {
+        read.rate = described.rate;
+        read.side = described.side;
+        read.form = described.form;
+        read.used = described.size;
+    }
+    return read;
+}
+
 typedef farigolenc_read_answer reading(uint32_t, const uint8_t *, size_t, uint64_t *, size_t,
                                        uint64_t *, size_t);
 
-static reading *const readings[2] = {farigolenc_read_strict, farigolenc_read_open};
+static reading *const readings[2] = {check_and_fetch, farigolenc_read_open};
 
 typedef farigolenc_move_answer moving(const uint8_t *, size_t, uint8_t *, size_t);
 
@@ -117,7 +171,7 @@ static void check_example(void)
     check(memcmp(out, example, 46) == 0, "example, bytes");
     check(all_are(out + 46, 4, DIRT), "example, bytes past the record");
 
-    read = farigolenc_read_strict(0, example, 46, read_positions, 3, read_ratios, 3);
+    read = check_and_fetch(0, example, 46, read_positions, 3, read_ratios, 3);
     check(read.number == 0 && read.place == 0 && read.rate == 96000 && read.side == 0 &&
               read.count == 3 && read.form == FARIGOLENC_OLD && read.used == 46,
           "example, read");
@@ -215,9 +269,9 @@ static void check_run(uint32_t form)
 
     memset(read_positions, DIRT, sizeof read_positions);
     memset(read_ratios, DIRT, sizeof read_ratios);
-    check_reading("strict reading",
-                  farigolenc_read_strict(48000, record, sizeof record, read_positions, ROOM,
-                                         read_ratios, ROOM),
+    check_reading("check and fetch",
+                  check_and_fetch(48000, record, sizeof record, read_positions, ROOM, read_ratios,
+                                  ROOM),
                   form, written.length, positions, ratios, read_positions, read_ratios);
     memset(read_positions, DIRT, sizeof read_positions);
     memset(read_ratios, DIRT, sizeof read_ratios);
@@ -663,16 +717,16 @@ static void check_refusals(void)
     damaged[45] = 2;
     refuse_reading(0, damaged, 46, 8, 18, 32, "reading, no such place");
 
-    /* Place 1 holds the same ratio as place 0: good openly, refused strictly. */
+    /* Place 1 holds the same ratio as place 0: good openly, and no sound record. */
     damaged[45] = 1;
     memset(positions, DIRT, sizeof positions);
     memset(ratios, DIRT, sizeof ratios);
     read = farigolenc_read_open(0, damaged, 46, positions, 4, ratios, 4);
     check(read.number == 0 && read.side == 0 && read.used == 46, "open reading of another place");
-    read = farigolenc_read_strict(0, damaged, 46, positions, 4, ratios, 4);
-    check(read.number == 18 && read.place == 32, "strict reading of another place");
+    read = check_and_fetch(0, damaged, 46, positions, 4, ratios, 4);
+    check(read.number == 18 && read.place == 32, "check and fetch of another place");
     check(all_are(positions, sizeof positions, 0) && all_are(ratios, sizeof ratios, 0),
-          "strict reading of another place");
+          "check and fetch of another place");
 
     memset(out, DIRT, sizeof out);
     before = live;
@@ -696,6 +750,192 @@ static void check_refusals(void)
     making = farigolenc_cursor_new(FARIGOLENC_POINTS + 1);
     check(making.number == 15 && making.place == 0, "making, count too large");
     check(all_are(&making.cursor, sizeof making.cursor, 0), "making, count too large");
+}
+
+/* The one number that a check answers, also with bytes behind it unless the record is cut; what is
+ * lent stays as it is. */
+static void check_number(uint32_t expected, const uint8_t *record, size_t length, uint32_t number,
+                         const char *what)
+{
+    static uint8_t bytes[FARIGOLENC_RECORD + 3];
+    const int cut = number / 65536 == 10;
+
+    check(farigolenc_check(expected, record, length) == number, what);
+    memset(bytes, DIRT, sizeof bytes);
+    memcpy(bytes, record, length);
+    check(farigolenc_check(expected, bytes, length + (cut ? 0 : 3)) == number, what);
+    check(memcmp(bytes, record, length) == 0 &&
+              all_are(bytes + length, sizeof bytes - length, DIRT),
+          what);
+}
+
+/* What the check answers as one number: sizes, and refusals with their places. */
+static void check_numbers(void)
+{
+    static uint64_t positions[FARIGOLENC_WIDE_POINTS], ratios[FARIGOLENC_WIDE_POINTS];
+    static uint8_t largest[FARIGOLENC_RECORD];
+    const uint8_t least[18] = {1, 0, 4, 0, 1, 0x77, 0, 2, 0, 2, 0, 0, 3, 0, 0, 4, 0, 0};
+    uint8_t record[50];
+    farigolenc_write_answer written;
+    size_t i;
+
+    check_number(0, example, 46, 46, "number of a sound record");
+    check_number(96000, example, 46, 46, "number of a sound record of the rate expected");
+    check_number(0, least, 18, 18, "number of the smallest record");
+    check_number(48000, example, 46, 917504, "number of 14 at 0");
+    check_number(0, example, 0, 655360, "number of 10 at 0");
+    check_number(0, example, 7, 655367, "number of 10 at 7");
+    check_number(0, example, 45, 655392, "number of 10 at 32");
+    memcpy(record, example, 46);
+    record[6] = 1;
+    check_number(0, record, 46, 851968, "number of 13 at 0");
+    memcpy(record, example, 46);
+    record[9] = 3;
+    check_number(0, record, 46, 786439, "number of 12 at 7");
+    memcpy(record, example, 46);
+    record[10] = 0x10;
+    check_number(0, record, 46, 983047, "number of 15 at 7");
+    memcpy(record, example, 46);
+    record[31] = 1;
+    check_number(0, record, 46, 1114124, "number of 17 at 12");
+    memcpy(record, example, 46);
+    record[45] = 1;
+    check_number(0, record, 46, 1179680, "number of 18 at 32");
+    put_side(record, 4);
+    check_number(0, record, 50, 50, "number of a sound record with a side");
+    record[10] = 27;
+    check_number(0, record, 50, 1310727, "number of 20 at 7");
+    record[10] = 4;
+    record[36] = 9;
+    check_number(0, record, 50, 720932, "number of 11 at 36");
+
+    /* The longest record, and the largest place of a refusal. */
+    for (i = 0; i < FARIGOLENC_WIDE_POINTS; i++) {
+        positions[i] = i % 2 * LAST_POSITION;
+        ratios[i] = i % 128 * ((UINT64_C(1) << 56) + 1);
+    }
+    written = farigolenc_write(44100, FARIGOLENC_SIDES, FARIGOLENC_WIDE, positions,
+                               FARIGOLENC_WIDE_POINTS, ratios, FARIGOLENC_WIDE_POINTS, largest,
+                               sizeof largest);
+    check(written.number == 0 && written.length == sizeof largest, "the longest record, written");
+    check_number(44100, largest, sizeof largest, FARIGOLENC_RECORD, "number of the longest record");
+    check_number(0, largest, sizeof largest - 1, 685566, "number of 10 at 30206");
+    largest[30206] = 9;
+    check_number(0, largest, sizeof largest, 751102, "number of 11 at 30206");
+    largest[30206] = 4;
+    largest[sizeof largest - 1] ^= 1;
+    largest[sizeof largest - 9] = 0xFE;
+    check_number(0, largest, sizeof largest, 1209854, "number of 18 at 30206");
+}
+
+/* A host whose lathe stands at 48000. Of joined records it checks each before it does anything else,
+ * then asks what the record holds, lends room for as many points and no more, and fetches them.
+ * Returns how many points it got in all. It stops at the first record that is not sound, and says
+ * its number and place. */
+static size_t host(const uint8_t *bytes, size_t length, uint32_t *number, uint32_t *place)
+{
+    static uint64_t positions[FARIGOLENC_POINTS], ratios[FARIGOLENC_POINTS];
+    size_t points = 0;
+
+    *number = *place = 0;
+    while (length > 0) {
+        const uint32_t checked = farigolenc_check(48000, bytes, length);
+        farigolenc_describe_answer described;
+        farigolenc_fetch_answer fetched;
+        if (checked >= 65536) {
+            *number = checked / 65536;
+            *place = checked % 65536;
+            return points;
+        }
+        if (checked < 18 || checked > length) {
+            check(0, "host, a size that no record here has");
+            return points;
+        }
+        described = farigolenc_describe(0, bytes, checked);
+        check(described.number == 0 && described.rate == 48000, "host, rate");
+        check(described.size == checked, "host, size");
+        if (described.count > FARIGOLENC_POINTS) {
+            check(0, "host, more points than any record has");
+            return points;
+        }
+        memset(positions, DIRT, sizeof positions);
+        memset(ratios, DIRT, sizeof ratios);
+        fetched = farigolenc_fetch(described.rate, bytes, checked, positions, described.count,
+                                   ratios, described.count);
+        check(fetched.number == 0 && fetched.place == 0, "host, fetch");
+        check(fetched.count == described.count, "host, count");
+        points += fetched.count;
+        bytes += checked;
+        length -= checked;
+    }
+    return points;
+}
+
+static void check_host(void)
+{
+    static uint64_t positions[POINTS], ratios[POINTS];
+    static uint8_t bytes[3 * FARIGOLENC_RECORD];
+    uint32_t number, place;
+    size_t length = 0;
+    int form;
+
+    for (form = 0; form < 2; form++) {
+        make_run(forms[form], positions, ratios);
+        length += (size_t)farigolenc_write(48000, SIDE, forms[form], positions, POINTS, ratios,
+                                           POINTS, bytes + length, sizeof bytes - length).length;
+        length += (size_t)farigolenc_write(48000, 0, forms[form], positions, 0, ratios, 0,
+                                           bytes + length, sizeof bytes - length).length;
+        length += (size_t)farigolenc_write(48000, 0, forms[form], positions, 7, ratios, 7,
+                                           bytes + length, sizeof bytes - length).length;
+    }
+    check(host(bytes, length, &number, &place) == 2 * POINTS + 14 && number == 0,
+          "host, sound records");
+    check(host(bytes, length - 1, &number, &place) == 2 * POINTS + 7 && number == 10,
+          "host, the last record cut");
+    memcpy(bytes + length, example, 46);
+    check(host(bytes, length + 46, &number, &place) == 2 * POINTS + 14, "host, another rate");
+    check(number == 14 && place == 0, "host, another rate");
+    bytes[length + 6] = 1;
+    check(host(bytes, length + 46, &number, &place) == 2 * POINTS + 14, "host, no rate");
+    check(number == 13 && place == 0, "host, no rate");
+    bytes[7] = 9;
+    check(host(bytes, length, &number, &place) == 0 && number == 11 && place == 7,
+          "host, the first record damaged");
+    check(host(bytes, 0, &number, &place) == 0 && number == 0, "host, nothing");
+}
+
+/* Rooms around the count of the example: a fetch with too little is refused by 16, and the check
+ * takes the record all the while. */
+static void check_rooms(void)
+{
+    uint64_t positions[6], ratios[6];
+    farigolenc_fetch_answer fetched;
+    size_t room, other;
+
+    for (room = 0; room < 6; room++) {
+        for (other = 0; other < 6; other++) {
+            memset(positions, DIRT, sizeof positions);
+            memset(ratios, DIRT, sizeof ratios);
+            fetched = farigolenc_fetch(96000, example, 46, positions, room, ratios, other);
+            check(farigolenc_check(96000, example, 46) == 46, "check beside any room");
+            if (room < 3 || other < 3) {
+                check(fetched.number == 16 && fetched.place == 7 && fetched.count == 0,
+                      "fetch, too little room");
+                check(all_are(positions, room * 8, 0) && all_are(ratios, other * 8, 0),
+                      "fetch, too little room, zeros");
+                check(all_are(positions + room, (6 - room) * 8, DIRT) &&
+                          all_are(ratios + other, (6 - other) * 8, DIRT),
+                      "fetch, too little room, past it");
+            } else {
+                check(fetched.number == 0 && fetched.place == 0 && fetched.count == 3,
+                      "fetch, room enough");
+                check(positions[2] == 1920 && ratios[2] == UINT64_C(0x3FE0000000000000),
+                      "fetch, points");
+                check(all_are(positions + 3, 24, DIRT) && all_are(ratios + 3, 24, DIRT),
+                      "fetch, past the points");
+            }
+        }
+    }
 }
 
 static void put_position(uint8_t *bytes, uint64_t position)
@@ -824,7 +1064,7 @@ static void check_forms(void)
     written = farigolenc_write(96000, 0, FARIGOLENC_WIDE, points, 3, halves, 3, out, 46);
     check(written.number == 0 && written.length == 46, "wide example, written");
     check(memcmp(out, record, 46) == 0, "wide example, bytes");
-    read = farigolenc_read_strict(0, record, 46, positions, 3, ratios, 3);
+    read = check_and_fetch(0, record, 46, positions, 3, ratios, 3);
     check(read.number == 0 && read.form == FARIGOLENC_WIDE && read.used == 46, "wide example");
     check(memcmp(positions, points, sizeof points) == 0, "wide example, positions");
 
@@ -1073,25 +1313,34 @@ static difference swapped(difference wanted)
 
 /* A record that was read to be compared. */
 typedef struct {
-    farigolenc_read_answer read;
+    farigolenc_describe_answer described;
     uint64_t positions[FARIGOLENC_POINTS], ratios[FARIGOLENC_POINTS];
 } read_record;
 
 static void read_to_compare(read_record *record, const uint8_t *bytes, size_t length)
 {
     memset(record, DIRT, sizeof *record);
-    record->read = farigolenc_read_strict(0, bytes, length, record->positions, FARIGOLENC_POINTS,
-                                          record->ratios, FARIGOLENC_POINTS);
+    record->described = farigolenc_describe(0, bytes, length);
+    if (record->described.count > FARIGOLENC_POINTS) {
+        check(0, "describing to compare, more points than any record has");
+        memset(&record->described, 0, sizeof record->described);
+    } else if (record->described.number == 0) {
+        const size_t count = record->described.count;
+        check(farigolenc_fetch(0, bytes, length, record->positions, count, record->ratios, count)
+                      .number == 0,
+              "fetching to compare");
+    }
 }
 
 /* Compares two records as the header says, and checks that this is the list of differences. */
 static void check_list(const read_record *first, const read_record *second,
                        const difference *wanted, size_t count, const char *what)
 {
-    const uint64_t m = first->read.count, n = second->read.count;
+    const uint64_t m = first->described.count, n = second->described.count;
     const uint64_t beyond[] = {m < n ? m : n, m < n ? n : m, FARIGOLENC_POINTS, UINT64_MAX};
     farigolenc_difference_answer found[2 * POINTS + 5];
-    farigolenc_overall_answer overall = farigolenc_compare_overall(first->read, second->read);
+    farigolenc_overall_answer overall =
+        farigolenc_compare_overall(first->described, second->described);
     size_t listed = 0, next = 0, i;
     uint64_t index;
 
@@ -1148,8 +1397,8 @@ static void check_comparison(const uint8_t *first, size_t first_length, const ui
     check_list(&records[1], &records[1], wanted, 0, what);
 }
 
-/* Two readings of which one was refused, the first or the second. */
-static void refuse_comparison(farigolenc_read_answer first, farigolenc_read_answer second,
+/* What describe answered of two records, of which one was refused, the first or the second. */
+static void refuse_comparison(farigolenc_describe_answer first, farigolenc_describe_answer second,
                               uint32_t number, uint32_t place, uint32_t which, const char *what)
 {
     farigolenc_overall_answer overall = farigolenc_compare_overall(first, second);
@@ -1171,18 +1420,18 @@ static void check_refused(const uint8_t *bytes, size_t length, uint32_t number, 
     read_to_compare(&refused, bytes, length);
     read_to_compare(&sound, example, 46);
     read_to_compare(&nothing, example, 0);
-    refuse_comparison(refused.read, sound.read, number, place, 1, what);
-    refuse_comparison(sound.read, refused.read, number, place, 2, what);
-    refuse_comparison(refused.read, refused.read, number, place, 1, what);
-    refuse_comparison(refused.read, nothing.read, number, place, 1, what);
-    refuse_comparison(nothing.read, refused.read, 10, 0, 1, what);
+    refuse_comparison(refused.described, sound.described, number, place, 1, what);
+    refuse_comparison(sound.described, refused.described, number, place, 2, what);
+    refuse_comparison(refused.described, refused.described, number, place, 1, what);
+    refuse_comparison(refused.described, nothing.described, number, place, 1, what);
+    refuse_comparison(nothing.described, refused.described, 10, 0, 1, what);
 }
 
 static void check_refused_comparisons(void)
 {
-    const farigolenc_read_answer sound = {0, 0, 96000, 0, 3, FARIGOLENC_OLD, 46};
-    const farigolenc_read_answer odd = {14, 7, 48000, 2, 9, FARIGOLENC_WIDE, 5};
-    const farigolenc_read_answer most = {UINT32_MAX, UINT32_MAX, 0, 0, 0, 0, 0};
+    const farigolenc_describe_answer sound = {0, 0, 96000, 0, 3, FARIGOLENC_OLD, 46};
+    const farigolenc_describe_answer odd = {14, 7, 48000, 2, 9, FARIGOLENC_WIDE, 5};
+    const farigolenc_describe_answer most = {UINT32_MAX, UINT32_MAX, 0, 0, 0, 0, 0};
     uint8_t damaged[50];
     size_t i;
 
@@ -1203,19 +1452,19 @@ static void check_refused_comparisons(void)
     put_side(damaged, 27);
     check_refused(damaged, 50, 20, 7, "comparing, no side");
 
-    /* Answers that a reading gives with a rate expected, with little room, or not at all. */
+    /* Answers that describe gives with a rate expected, or not at all. */
     refuse_comparison(odd, sound, 14, 7, 1, "comparing, refused by a number of no use here");
     refuse_comparison(sound, odd, 14, 7, 2, "comparing, refused by a number of no use here");
     refuse_comparison(odd, most, 14, 7, 1, "comparing, two such numbers");
     refuse_comparison(most, odd, UINT32_MAX, UINT32_MAX, 1, "comparing, largest numbers");
 }
 
-/* Readings that were not refused, of which every member may be made up. */
-static void check_made_up_readings(void)
+/* Answers of describe that are no refusals, of which every member may be made up. */
+static void check_made_up_answers(void)
 {
-    const farigolenc_read_answer least = {0, 9, 0, 0, 0, 0, 0};
-    const farigolenc_read_answer most = {0,          8,          UINT32_MAX, UINT32_MAX,
-                                         UINT32_MAX, UINT32_MAX, UINT64_MAX};
+    const farigolenc_describe_answer least = {0, 9, 0, 0, 0, 0, 0};
+    const farigolenc_describe_answer most = {0,          8,          UINT32_MAX, UINT32_MAX,
+                                             UINT32_MAX, UINT32_MAX, UINT64_MAX};
     const difference rate = {FARIGOLENC_DIFFERENT_RATE, 0, 0, UINT32_MAX};
     const difference side = {FARIGOLENC_DIFFERENT_SIDE, 0, 0, UINT32_MAX};
     const difference count = {FARIGOLENC_DIFFERENT_COUNT, 0, 0, UINT32_MAX};
@@ -1223,18 +1472,18 @@ static void check_made_up_readings(void)
     const difference more = {FARIGOLENC_MORE_POINTS, 0, UINT32_MAX, 0};
     farigolenc_overall_answer overall = farigolenc_compare_overall(least, most);
 
-    check(overall.number == 0 && overall.place == 0 && overall.which == 0, "made up readings");
-    check(is_difference(overall.rate, rate), "made up readings, rate");
-    check(is_difference(overall.side, side), "made up readings, side");
-    check(is_difference(overall.count, count), "made up readings, count");
-    check(is_difference(overall.form, form), "made up readings, form");
-    check(is_difference(overall.more, more), "made up readings, more");
+    check(overall.number == 0 && overall.place == 0 && overall.which == 0, "made up answers");
+    check(is_difference(overall.rate, rate), "made up answers, rate");
+    check(is_difference(overall.side, side), "made up answers, side");
+    check(is_difference(overall.count, count), "made up answers, count");
+    check(is_difference(overall.form, form), "made up answers, form");
+    check(is_difference(overall.more, more), "made up answers, more");
     overall = farigolenc_compare_overall(most, least);
-    check(is_difference(overall.rate, swapped(rate)), "made up readings, swapped, rate");
-    check(is_difference(overall.side, swapped(side)), "made up readings, swapped, side");
-    check(is_difference(overall.count, swapped(count)), "made up readings, swapped, count");
-    check(is_difference(overall.form, swapped(form)), "made up readings, swapped, form");
-    check(is_difference(overall.more, more), "made up readings, swapped, more");
+    check(is_difference(overall.rate, swapped(rate)), "made up answers, swapped, rate");
+    check(is_difference(overall.side, swapped(side)), "made up answers, swapped, side");
+    check(is_difference(overall.count, swapped(count)), "made up answers, swapped, count");
+    check(is_difference(overall.form, swapped(form)), "made up answers, swapped, form");
+    check(is_difference(overall.more, more), "made up answers, swapped, more");
 }
 
 /* Two ratios that differ, and what is known of the first's kind. */
@@ -1448,10 +1697,13 @@ int main(void)
     check_reasons();
     check_refusals();
     check_side_refusals();
+    check_numbers();
+    check_host();
+    check_rooms();
     check_comparisons();
     check_compared_slices();
     check_compared_kinds();
-    check_made_up_readings();
+    check_made_up_answers();
     check_refused_comparisons();
     if (differences != 0) {
         return 1;

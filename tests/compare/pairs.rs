@@ -89,16 +89,17 @@ fn differences(first: &Run, second: &Run) -> String {
 fn read(file: &[u8]) -> Result<Run, (u32, u32)> {
     let (mut positions, mut ratios) = (vec![0; MOST_POINTS], vec![0; MOST_POINTS]);
     let file = &file[..min(file.len(), LIMIT)];
-    let reading = reference::read_strict(0, file, &mut positions, &mut ratios);
-    if reading.number != 0 {
-        return Err((reading.number, reading.place));
+    let described = reference::describe(0, file);
+    if described.number != 0 {
+        return Err((described.number, described.place));
     }
-    positions.truncate(reading.count as usize);
-    ratios.truncate(reading.count as usize);
+    let fetched = reference::fetch(0, file, &mut positions, &mut ratios);
+    positions.truncate(fetched.count as usize);
+    ratios.truncate(fetched.count as usize);
     Ok(Run {
-        rate: reading.rate,
-        side: reading.side,
-        form: reading.form,
+        rate: described.rate,
+        side: described.side,
+        form: described.form,
         positions,
         ratios,
     })

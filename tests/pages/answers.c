@@ -1,7 +1,7 @@
 /* What the library says to the examples of docs/FORMAT.md, in the words of that page.
-   record BYTE..                   strict reading, with room for three points: all that it gives, a line each
-   reading RATE ROOM ROOM BYTE..   strict and open reading, a line each, `10 at 0`, `taken` or `taken, side 4, wide form`, with this
-                                   rate expected and room for so many positions and ratios
+   record BYTE..                   check, as one number and in full, and fetch, with room for three points: all that they give, a line each
+   reading RATE ROOM ROOM BYTE..   check, its one number, fetch and open reading, a line each, `10 at 0`, `taken` or `taken, side 4, wide form`, with
+                                   this rate expected and room for so many positions and ratios; of fetch no side and no form
    writing RATE SIDE FORM NUMBER NUMBER ROOM   the record of so many positions and ratios, all 0, with room for so many bytes, or the refusal
    moving FORM ROOM BYTE..         a move to this form, with room for so many bytes: the bytes used, and the record or the refusal, a tab between
    longest SIDE FORM               a longest record of this side and form, as it stands
@@ -11,7 +11,7 @@
    coded FORM POSITION..           the body of the positions' field of these positions, or the refusal
    positions FORM COUNT BYTE..     the positions of this body of the positions' field, or the refusal's number
    form RATIO..                    the bytes of the last of these ratios
-   ratios COUNT BYTE..             the ratios of this body of the ratios' field, read strictly and openly, a line each
+   ratios COUNT BYTE..             the ratios of this body of the ratios' field, by fetch and by open reading, a line each
    reason INDEX RATIO..            why the ratio of this index has its form, or the refusal
    span RATE POSITION..            the milliseconds of the span, or the refusal
    comparing BYTE.. and BYTE..     what differs between the records that these inputs begin with, a line each, or `nothing`, or the refusal
@@ -29,10 +29,6 @@
 #include <string.h>
 
 enum { POINTS = FARIGOLENC_POINTS, LENGTH = 0xFFFF, BYTES = 18 + 2 * LENGTH + 16 };
-
-typedef farigolenc_read_answer reading(
-    uint32_t, const uint8_t *, size_t, uint64_t *, size_t, uint64_t *, size_t);
-static reading *const readings[2] = {farigolenc_read_strict, farigolenc_read_open};
 
 static uint8_t bytes[BYTES], body[BYTES];
 static size_t length, body_length;
@@ -95,9 +91,23 @@ static void put_body(void)
     length += body_length;
 }
 
+/* The points by fetch, with the rest by describe, or all by open reading. */
 static farigolenc_read_answer read_all(int open)
 {
-    return readings[open](0, bytes, length, positions, POINTS, ratios, POINTS);
+    const farigolenc_describe_answer described = farigolenc_describe(0, bytes, length);
+    farigolenc_fetch_answer fetched;
+    farigolenc_read_answer read = {0, 0, 0, 0, 0, 0, 0};
+    if (open) {
+        return farigolenc_read_open(0, bytes, length, positions, POINTS, ratios, POINTS);
+    }
+    fetched = farigolenc_fetch(0, bytes, length, positions, POINTS, ratios, POINTS);
+    if (fetched.number != described.number || fetched.place != described.place || fetched.count != described.count) {
+        exit(3);
+    }
+    read.number = fetched.number;
+    read.count = fetched.count;
+    read.form = described.form;
+    return read;
 }
 
 static void print_bytes(const uint8_t *from, size_t size)
@@ -129,15 +139,22 @@ static void print_ratios(uint32_t count)
 
 static void record(char **words)
 {
-    farigolenc_read_answer read;
+    farigolenc_describe_answer described;
+    farigolenc_fetch_answer fetched;
     length = take_bytes(words, bytes);
-    read = farigolenc_read_strict(0, bytes, length, positions, 3, ratios, 3);
-    printf("number %" PRIu32 "\nplace %" PRIu32 "\nrate %" PRIu32 "\nside %" PRIu32 "\ncount %" PRIu32 "\nform %" PRIu32
-           "\nused %" PRIu64 "\npositions ",
-           read.number, read.place, read.rate, read.side, read.count, read.form, read.used);
-    print_positions(read.count);
+    described = farigolenc_describe(0, bytes, length);
+    fetched = farigolenc_fetch(0, bytes, length, positions, 3, ratios, 3);
+    printf("check %" PRIu32 "\nnumber %" PRIu32 "\nplace %" PRIu32 "\nrate %" PRIu32 "\nside %" PRIu32 "\ncount %" PRIu32 "\nform %" PRIu32
+           "\nsize %" PRIu64 "\n",
+           farigolenc_check(0, bytes, length), described.number, described.place, described.rate, described.side, described.count, described.form,
+           described.size);
+    if (fetched.number != 0 || fetched.place != 0 || fetched.count != described.count) {
+        printf("fetched otherwise\n");
+    }
+    printf("positions ");
+    print_positions(fetched.count);
     printf("ratios ");
-    print_ratios(read.count);
+    print_ratios(fetched.count);
 }
 
 /* Whether an output is 0 as far as it was lent, and past that as it was. */
@@ -152,30 +169,56 @@ static int cleared(const uint64_t *output, size_t room, uint64_t held)
     return 1;
 }
 
-static void both_readings(uint32_t expected, size_t positions_room, size_t ratios_room)
+/* Number and place of a refusal, and whether all else is 0. */
+static void print_refused(uint32_t number, uint32_t place, int nothing)
+{
+    printf("%" PRIu32 " at %" PRIu32 "%s\n", number, place, nothing ? "" : ", and not cleared");
+}
+
+/* What was taken, with its side and form where they are not 0 and the old one. */
+static void print_taken(uint32_t place, uint32_t side, uint32_t form, uint64_t size)
+{
+    printf(place == 0 && size <= length ? "taken" : "taken, with a wrong place or length");
+    if (side != 0) {
+        printf(", side %" PRIu32, side);
+    }
+    if (form != FARIGOLENC_OLD) {
+        printf(form == FARIGOLENC_WIDE ? ", wide form" : ", with a wrong form");
+    }
+    putchar('\n');
+}
+
+static void all_readings(uint32_t expected, size_t positions_room, size_t ratios_room)
 {
     const uint64_t held = UINT64_C(0xA5A5A5A5A5A5A5A5);
-    int open;
-    for (open = 0; open < 2; open++) {
-        farigolenc_read_answer read;
-        memset(positions, 0xA5, sizeof positions);
-        memset(ratios, 0xA5, sizeof ratios);
-        read = readings[open](expected, bytes, length, positions, positions_room, ratios, ratios_room);
-        if (read.number == 0) {
-            printf(read.place == 0 && read.used <= length ? "taken" : "taken, with a wrong place or length");
-            if (read.side != 0) {
-                printf(", side %" PRIu32, read.side);
-            }
-            if (read.form != FARIGOLENC_OLD) {
-                printf(read.form == FARIGOLENC_WIDE ? ", wide form" : ", with a wrong form");
-            }
-            putchar('\n');
-        } else if (read.rate == 0 && read.side == 0 && read.count == 0 && read.form == 0 && read.used == 0 &&
-                   cleared(positions, positions_room, held) && cleared(ratios, ratios_room, held)) {
-            printf("%" PRIu32 " at %" PRIu32 "\n", read.number, read.place);
-        } else {
-            printf("%" PRIu32 " at %" PRIu32 ", and not cleared\n", read.number, read.place);
-        }
+    const farigolenc_describe_answer d = farigolenc_describe(expected, bytes, length);
+    farigolenc_fetch_answer f;
+    farigolenc_read_answer r;
+
+    if (d.number == 0) {
+        print_taken(d.place, d.side, d.form, d.size);
+    } else {
+        print_refused(d.number, d.place, d.rate == 0 && d.side == 0 && d.count == 0 && d.form == 0 && d.size == 0);
+    }
+    printf("%" PRIu32 "\n", farigolenc_check(expected, bytes, length));
+
+    memset(positions, 0xA5, sizeof positions);
+    memset(ratios, 0xA5, sizeof ratios);
+    f = farigolenc_fetch(expected, bytes, length, positions, positions_room, ratios, ratios_room);
+    if (f.number == 0) {
+        printf(f.place == 0 && f.count == d.count ? "taken\n" : "taken, with a wrong place or count\n");
+    } else {
+        print_refused(f.number, f.place, f.count == 0 && cleared(positions, positions_room, held) && cleared(ratios, ratios_room, held));
+    }
+
+    memset(positions, 0xA5, sizeof positions);
+    memset(ratios, 0xA5, sizeof ratios);
+    r = farigolenc_read_open(expected, bytes, length, positions, positions_room, ratios, ratios_room);
+    if (r.number == 0) {
+        print_taken(r.place, r.side, r.form, r.used);
+    } else {
+        print_refused(r.number, r.place, r.rate == 0 && r.side == 0 && r.count == 0 && r.form == 0 && r.used == 0 &&
+                      cleared(positions, positions_room, held) && cleared(ratios, ratios_room, held));
     }
 }
 
@@ -384,8 +427,12 @@ typedef uint32_t lent_rate, lent_side, lent_form;
 typedef uint64_t lent_point, lent_count, lent_index;
 static farigolenc_write_answer (*const write_call)(
     lent_rate, lent_side, lent_form, const lent_point *, size_t, const lent_point *, size_t, uint8_t *, size_t) = farigolenc_write;
-static farigolenc_read_answer (*const read_calls[2])(
-    lent_rate, const uint8_t *, size_t, lent_point *, size_t, lent_point *, size_t) = {farigolenc_read_strict, farigolenc_read_open};
+static uint32_t (*const check_call)(lent_rate, const uint8_t *, size_t) = farigolenc_check;
+static farigolenc_describe_answer (*const describe_call)(lent_rate, const uint8_t *, size_t) = farigolenc_describe;
+static farigolenc_fetch_answer (*const fetch_call)(
+    lent_rate, const uint8_t *, size_t, lent_point *, size_t, lent_point *, size_t) = farigolenc_fetch;
+static farigolenc_read_answer (*const read_call)(
+    lent_rate, const uint8_t *, size_t, lent_point *, size_t, lent_point *, size_t) = farigolenc_read_open;
 static farigolenc_move_answer (*const move_calls[2])(const uint8_t *, size_t, uint8_t *, size_t) = {farigolenc_to_wide, farigolenc_to_old};
 static farigolenc_span_answer (*const span_call)(lent_rate, const lent_point *, size_t) = farigolenc_span;
 static farigolenc_write_answer (*const add_call)(farigolenc_live *, lent_point, uint8_t *, size_t) = farigolenc_live_add;
@@ -410,6 +457,9 @@ static void widths(void)
     lent_index index;
     farigolenc_explain_answer why;
     farigolenc_write_answer written;
+    uint32_t checked;
+    farigolenc_describe_answer described;
+    farigolenc_fetch_answer fetched;
     farigolenc_read_answer read;
     farigolenc_move_answer moved;
     farigolenc_span_answer span;
@@ -419,7 +469,7 @@ static void widths(void)
     farigolenc_cursor cursor;
     farigolenc_overall_answer overall;
     farigolenc_difference_answer d;
-    if (!compare_calls[0] || !compare_calls[1] || !write_call || !read_calls[0] || !read_calls[1] || !move_calls[0] || !move_calls[1] || !span_call || !add_call || !making_call || !explain_call) {
+    if (!compare_calls[0] || !compare_calls[1] || !write_call || !check_call || !describe_call || !fetch_call || !read_call || !move_calls[0] || !move_calls[1] || !span_call || !add_call || !making_call || !explain_call) {
         exit(2);
     }
     SAME(rate, side);
@@ -427,6 +477,10 @@ static void widths(void)
     WIDTH(rate);
     WIDTH(point);
     SAME(read.number, read.place);
+    SAME(read.number, described.number);
+    SAME(read.number, described.place);
+    SAME(read.number, fetched.number);
+    SAME(read.number, fetched.place);
     SAME(read.number, written.number);
     SAME(read.number, written.place);
     SAME(read.number, moved.number);
@@ -442,6 +496,12 @@ static void widths(void)
     SAME(read.number, overall.number);
     SAME(read.number, overall.place);
     WIDTH(read.number);
+    WIDTH(checked);
+    SAME(read.rate, described.rate);
+    SAME(read.rate, described.side);
+    SAME(read.rate, described.count);
+    SAME(read.rate, described.form);
+    SAME(read.rate, fetched.count);
     SAME(read.rate, read.side);
     SAME(read.rate, read.count);
     SAME(read.rate, read.form);
@@ -449,6 +509,7 @@ static void widths(void)
     SAME(written.length, moved.length);
     WIDTH(written.length);
     SAME(read.used, moved.used);
+    SAME(read.used, described.size);
     WIDTH(read.used);
     WIDTH(span.milliseconds);
     WIDTH(count);
@@ -519,8 +580,10 @@ static int difference(farigolenc_difference_answer d)
 
 static void comparing(char **words)
 {
+    static uint8_t other_bytes[BYTES];
     static uint64_t others[2][POINTS];
-    farigolenc_read_answer first, second;
+    size_t other_length;
+    farigolenc_describe_answer first, second;
     farigolenc_overall_answer overall;
     uint64_t i;
     int lines;
@@ -533,13 +596,17 @@ static void comparing(char **words)
     }
     *end = NULL;
     length = take_bytes(words, bytes);
-    first = farigolenc_read_strict(0, bytes, length, positions, POINTS, ratios, POINTS);
-    length = take_bytes(end + 1, bytes);
-    second = farigolenc_read_strict(0, bytes, length, others[0], POINTS, others[1], POINTS);
+    other_length = take_bytes(end + 1, other_bytes);
+    first = farigolenc_describe(0, bytes, length);
+    second = farigolenc_describe(0, other_bytes, other_length);
     overall = farigolenc_compare_overall(first, second);
     if (overall.number != 0) {
         printf("refused %" PRIu32 " at %" PRIu32 " in %" PRIu32 "\n", overall.number, overall.place, overall.which);
         return;
+    }
+    if (farigolenc_fetch(0, bytes, length, positions, first.count, ratios, first.count).number != 0 ||
+        farigolenc_fetch(0, other_bytes, other_length, others[0], second.count, others[1], second.count).number != 0) {
+        exit(3);
     }
     lines = difference(overall.rate);
     lines += difference(overall.side);
@@ -566,7 +633,7 @@ int main(int count, char **words)
         if (room[0] > POINTS || room[1] > POINTS) {
             return 2;
         }
-        both_readings(strcmp(words[2], "none") == 0 ? 0 : (uint32_t)decimal(words[2]), (size_t)room[0], (size_t)room[1]);
+        all_readings(strcmp(words[2], "none") == 0 ? 0 : (uint32_t)decimal(words[2]), (size_t)room[0], (size_t)room[1]);
     } else if (strcmp(mode, "writing") == 0 && count == 8) {
         writing((uint32_t)decimal(words[2]), (uint32_t)decimal(words[3]), (uint32_t)decimal(words[4]), (size_t)decimal(words[5]), (size_t)decimal(words[6]),
                 (size_t)decimal(words[7]));

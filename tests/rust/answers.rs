@@ -19,7 +19,29 @@ pub struct Written {
 /// Writing a run, by whichever implementation: rate, side, form, positions, ratios, output.
 pub type Write = fn(u32, u32, u32, &[u64], &[u64], &mut [u8]) -> Written;
 
-/// What strict and open reading answer; `form` is 0 with a refusal.
+/// What describe answers, the check in full; `form` is 0 with a refusal.
+#[repr(C)]
+#[derive(Clone, Copy, Debug, PartialEq)]
+pub struct Described {
+    pub number: u32,
+    pub place: u32,
+    pub rate: u32,
+    pub side: u32,
+    pub count: u32,
+    pub form: u32,
+    pub size: u64,
+}
+
+/// What fetch answers.
+#[repr(C)]
+#[derive(Clone, Copy, Debug, PartialEq)]
+pub struct Fetched {
+    pub number: u32,
+    pub place: u32,
+    pub count: u32,
+}
+
+/// What open reading answers; `form` is 0 with a refusal.
 #[repr(C)]
 #[derive(Clone, Copy, Debug, PartialEq)]
 pub struct Reading {
@@ -138,7 +160,7 @@ pub struct Difference {
     pub second_kind: Kind,
 }
 
-/// What comparing two readings answers; `which` is the record that was refused, 1 or 2, or 0.
+/// What comparing what describe answered of two records answers; `which` is the record that was refused, 1 or 2, or 0.
 #[repr(C)]
 #[derive(Clone, Copy, Debug, Default, PartialEq)]
 pub struct Overall {

@@ -1,9 +1,9 @@
 //! Cases of two records laid side by side: the same, different in each way and in all ways, of any
-//! counts, with bytes behind either, and refused, the first, the second and both. Then readings and
-//! lists that are made up, and indices below, at and past the ends. The answer is known beside that
-//! of the reference, but where all is random.
+//! counts, with bytes behind either, and refused, the first, the second and both. Then answers of
+//! describe and lists that are made up, and indices below, at and past the ends. The answer is known
+//! beside that of the reference, but where all is random.
 
-use crate::answers::{Difference, Kind, Reading, OLD, WIDE};
+use crate::answers::{Described, Difference, Kind, OLD, WIDE};
 use crate::inputs::*;
 use crate::{hex, library, reference, Test};
 
@@ -20,7 +20,7 @@ type Comparison = Result<Vec<Difference>, [u32; 3]>;
 
 /// A record that was read to be compared, and the outputs that were lent.
 struct ReadRecord {
-    reading: Reading,
+    described: Described,
     positions: Vec<u64>,
     ratios: Vec<u64>,
 }
@@ -29,19 +29,20 @@ impl ReadRecord {
     /// The library reads it, so that a comparison is made of its own calls alone.
     fn new(random: &mut Random, record: &[u8]) -> ReadRecord {
         let [mut positions, mut ratios] = [0; 2].map(|_| vec![random.bits(); MOST_POINTS]);
+        library::fetch(0, record, &mut positions, &mut ratios);
         ReadRecord {
-            reading: library::read_strict(0, record, &mut positions, &mut ratios),
+            described: library::describe(0, record),
             positions,
             ratios,
         }
     }
 
     fn positions(&self) -> &[u64] {
-        &self.positions[..self.reading.count as usize]
+        &self.positions[..self.described.count as usize]
     }
 
     fn ratios(&self) -> &[u64] {
-        &self.ratios[..self.reading.count as usize]
+        &self.ratios[..self.described.count as usize]
     }
 }
 
@@ -183,8 +184,11 @@ const SPECIAL: [u64; 16] = [
 impl Test {
     /// Compares two records by the calls, as the header says, and all at once by the reference.
     fn compare(&mut self, first: &[u8], second: &[u8]) -> Comparison {
+        for record in [first, second] {
+            self.check_and_fetch(0, record, [MOST_POINTS; 2]);
+        }
         let [one, other] = [first, second].map(|record| ReadRecord::new(&mut self.random, record));
-        let overall = self.compare_overall(one.reading, other.reading);
+        let overall = self.compare_overall(one.described, other.described);
         let both = one.positions().len().min(other.positions().len()) as u64;
         let all = one.positions().len().max(other.positions().len()) as u64;
         let mut list = vec![overall.rate, overall.side, overall.count, overall.form];
@@ -202,12 +206,12 @@ impl Test {
         }
 
         let what = || format!("comparing {} with {}", hex(first), hex(second));
-        let refusals = [one.reading.number, other.reading.number];
+        let refusals = [one.described.number, other.described.number];
         let mut seen = |what, number| *self.numbers.entry((what, number)).or_default() += 1;
         let found = if overall.number == 0 {
             let records = [
-                &first[..one.reading.used as usize],
-                &second[..other.reading.used as usize],
+                &first[..one.described.size as usize],
+                &second[..other.described.size as usize],
             ];
             let same = records[0] == records[1];
             assert_eq!(list.is_empty(), same, "equal records alone, {}", what());
@@ -367,23 +371,23 @@ impl Test {
         }
     }
 
-    /// Two readings of which any member is made up, and many are the same.
-    fn made_up_readings(&mut self) {
+    /// Two answers of describe of which any member is made up, and many are the same.
+    fn made_up_answers(&mut self) {
         let random = &mut self.random;
         let refused = [10, 11, 12, 13, 14, 15, 16, 17, 18, 20];
         let [number, other] = [0; 2].map(|_| random.pick(&refused));
         let any = random.bits() as u32;
         let numbers = [0, 0, 0, 0, 0, 0, number, other, 1, 1 << 31, u32::MAX, any];
         let few = [0, 1, 3, 5, 26, 4_096, 48_000, any, any ^ 1, u32::MAX];
-        let used = [0, 46, u64::MAX, random.bits()];
-        let [first, second] = [0; 2].map(|_| Reading {
+        let sizes = [0, 46, u64::MAX, random.bits()];
+        let [first, second] = [0; 2].map(|_| Described {
             number: random.pick(&numbers),
             place: random.pick(&few),
             rate: random.pick(&few),
             side: random.pick(&few),
             count: random.pick(&few),
             form: random.pick(&few),
-            used: random.pick(&used),
+            size: random.pick(&sizes),
         });
         self.compare_overall(first, second);
     }
@@ -476,7 +480,7 @@ impl Test {
     /// Random cases of comparisons.
     pub fn comparisons(&mut self) {
         for _ in 0..5_000 {
-            self.made_up_readings();
+            self.made_up_answers();
             self.made_up_lists();
         }
         self.refused_comparisons();

@@ -7,6 +7,7 @@
 //! the case in hex and ends with 1. With `trace` it prints each case before it runs.
 
 mod answers;
+mod checks;
 mod comparisons;
 mod forms;
 mod inputs;
@@ -16,10 +17,11 @@ mod reference;
 mod spans;
 
 use answers::{
-    Cursor, Difference, Explained, Kind, Live, Making, Move, Moved, Overall, Reading, Span,
-    Stepped, Write, Written,
+    Cursor, Described, Difference, Explained, Kind, Live, Making, Move, Moved, Overall, Reading,
+    Span, Stepped, Write, Written,
 };
 use answers::{OLD, WIDE, WINDOW};
+use checks::Pair;
 use inputs::*;
 use std::cmp::Reverse;
 use std::collections::BTreeMap;
@@ -124,64 +126,75 @@ impl Test {
         written
     }
 
-    /// Reads strictly and openly; answers what strict reading answered.
-    fn read(&mut self, expected: u32, record: &[u8], rooms: [usize; 2]) -> Reading {
+    fn read_open(&mut self, expected: u32, record: &[u8], rooms: [usize; 2]) -> Reading {
+        let memory = rooms.map(|room| self.random.memory::<u64>(room));
+        let (reading, ..) = self.case::<Read, _>(
+            "read_open",
+            || {
+                let outputs = format!("rooms {rooms:?} memory {memory:x?}");
+                format!("expected {expected:x} record {} {outputs}", hex(record))
+            },
+            |read| {
+                let [mut positions, mut ratios] = memory.clone();
+                let reading = read(expected, record, lent(&mut positions), lent(&mut ratios));
+                (reading, positions, ratios)
+            },
+            [reference::read_open, library::read_open],
+            |outcome| outcome.0.number,
+        );
+        reading
+    }
+
+    /// Checks, fetches and reads openly; answers what check and fetch answered.
+    fn read(&mut self, expected: u32, record: &[u8], rooms: [usize; 2]) -> Pair {
         let front = Front::of(record);
-        let strict: [Read; 2] = [reference::read_strict, library::read_strict];
-        let open: [Read; 2] = [reference::read_open, library::read_open];
-        let [reading, _] = [("read_strict", strict), ("read_open", open)].map(|(call, both)| {
-            let memory = rooms.map(|room| self.random.memory::<u64>(room));
-            let (reading, ..) = self.case(
-                call,
-                || {
-                    let outputs = format!("rooms {rooms:?} memory {memory:x?}");
-                    format!("expected {expected:x} record {} {outputs}", hex(record))
-                },
-                |read| {
-                    let [mut positions, mut ratios] = memory.clone();
-                    let reading = read(expected, record, lent(&mut positions), lent(&mut ratios));
-                    (reading, positions, ratios)
-                },
-                both,
-                |outcome| outcome.0.number,
-            );
+        let pair = self.check_and_fetch(expected, record, rooms);
+        let opened = self.read_open(expected, record, rooms);
+        let (described, fetched) = (pair.described, pair.fetched);
+        for (number, place, side, form) in [
+            (
+                fetched.number,
+                fetched.place,
+                described.side,
+                described.form,
+            ),
+            (opened.number, opened.place, opened.side, opened.form),
+        ] {
             let mut seen = |what, number| *self.numbers.entry((what, number)).or_default() += 1;
-            match reading.number {
+            match number {
                 0 => {
-                    seen("reading, side", reading.side);
-                    seen("reading, form", reading.form);
+                    seen("reading, side", side);
+                    seen("reading, form", form);
                 }
-                10 => seen("reading, place of 10", reading.place),
-                11 => seen("reading, place of 11", reading.place),
-                12 => seen("reading, place of 12", reading.place),
-                15 if front.count <= MOST_POINTS => seen(LATER_15, reading.place),
-                15 => seen("reading, place of 15", reading.place),
-                16 if front.tag == WIDE && front.count > WIDE_POINTS => {
-                    seen(EARLIER_16, reading.place);
-                }
-                16 => seen("reading, place of 16", reading.place),
+                10 => seen("reading, place of 10", place),
+                11 => seen("reading, place of 11", place),
+                12 => seen("reading, place of 12", place),
+                15 if front.count <= MOST_POINTS => seen(LATER_15, place),
+                15 => seen("reading, place of 15", place),
+                16 if front.tag == WIDE && front.count > WIDE_POINTS => seen(EARLIER_16, place),
+                16 => seen("reading, place of 16", place),
                 17 => {
-                    seen("reading, place of 17", reading.place);
+                    seen("reading, place of 17", place);
                     seen("reading, 17 in a form", front.tag);
                 }
                 18 => {
                     seen("reading, 18 behind a side", u32::from(front.count_at == 11));
                     seen("reading, 18 in a form", front.tag);
                 }
-                20 => seen("reading, place of 20", reading.place),
+                20 => seen("reading, place of 20", place),
                 _ => {}
             }
-            reading
-        });
+        }
         if self.random.one_in(MOVED) {
             self.move_in_many_ways(record);
         }
-        reading
+        pair
     }
 
     /// Moves a record to a form; answers what the move answered, and the output before and after.
     fn move_to(&mut self, form: u32, record: &[u8], room: usize) -> (Moved, [Vec<u8>; 2]) {
         let front = Front::of(record);
+        let checked = self.check(0, record);
         let mut memory = self.random.memory::<u8>(room);
         let (call, both): (_, [Move; 2]) = match form {
             WIDE => ("to_wide", [reference::to_wide, library::to_wide]),
@@ -201,6 +214,17 @@ impl Test {
             both,
             |outcome| outcome.0.number,
         );
+        match moved.number {
+            // a record that the move takes, or refuses for what the other form or the output takes
+            0 | 3 | 5 | 6 => assert_eq!(checked.number, 0, "a move of what a check refuses"),
+            // the form moved to, which a check takes
+            11 if moved.place as usize == front.count_at + 5 && front.tag == form => {}
+            _ => assert_eq!(
+                (moved.number, moved.place),
+                (checked.number, checked.place),
+                "the refusal of a move beside that of a check"
+            ),
+        }
         let mut seen = |what, number| *self.numbers.entry((what, number)).or_default() += 1;
         match moved.number {
             0 => {
@@ -323,8 +347,8 @@ impl Test {
         explained
     }
 
-    fn compare_overall(&mut self, first: Reading, second: Reading) -> Overall {
-        self.case::<fn(Reading, Reading) -> Overall, _>(
+    fn compare_overall(&mut self, first: Described, second: Described) -> Overall {
+        self.case::<fn(Described, Described) -> Overall, _>(
             "compare_overall",
             || format!("first {first:x?} second {second:x?}"),
             |compare| compare(first, second),
@@ -1193,6 +1217,7 @@ impl Test {
         }
         self.longest_open_record();
         self.longest_fields();
+        self.checks();
         self.sides();
         self.forms();
         self.moves();
@@ -1211,10 +1236,12 @@ impl Test {
         let sides: Vec<u32> = (0..=LAST_SIDE).collect();
         // With no rate expected, and with room for every count.
         let compared = &[10, 11, 12, 13, 15, 17, 18, 20];
-        let calls: [(_, &[u32]); 52] = [
+        let calls: [(_, &[u32]); 54] = [
             ("write, old form", &[0, 1, 2, 3, 4, 5, 6, 21]),
             ("write, wide form", &[0, 1, 2, 3, 4, 6, 21]),
-            ("read_strict", reading),
+            ("check", &[0, 10, 11, 12, 13, 14, 15, 17, 18, 20]),
+            ("fetch", reading),
+            (checks::BESIDE_16, &[0, 10, 11, 15, 17, 18]),
             ("read_open", reading),
             ("reading, side", &sides),
             ("reading, form", &[OLD, WIDE]),
@@ -1301,6 +1328,7 @@ fn main() {
         numbers: BTreeMap::new(),
     };
     test.document_cases();
+    test.check_cases();
     test.form_cases();
     test.move_cases();
     test.span_cases();

@@ -43,7 +43,7 @@ impl Test {
         let ratios = vec![255, 0, 0, 0, 0, 0, 0, 0, 7, 0, 0];
         let fields = Fields::new(48_000, side as u8, 3, form as u8, bits.bytes(), ratios);
         let record = fields.join();
-        let reading = self.read(0, &record, [3, 3]);
+        let described = self.read(0, &record, [3, 3]).described;
 
         let meant = meant(form, row, step);
         let third = 2 * i128::from(second) - i128::from(first) + i128::from(meant);
@@ -63,7 +63,7 @@ impl Test {
             }
             _ => (17, place, 0),
         };
-        let found = (reading.number, reading.place, reading.form);
+        let found = (described.number, described.place, described.form);
         assert_eq!(found, wanted, "step {step} in row {row} of form {form}");
     }
 
@@ -200,27 +200,32 @@ impl Test {
         ];
         for (record, refusal) in behind {
             for rooms in rooms {
-                let number_and_place = if count > MOST_POINTS {
-                    (15, count_at)
-                } else if rooms != [count, count] {
-                    (16, count_at)
-                } else if record.len() < at + 3 {
-                    (10, at)
-                } else if tag != POSITIONS && tag != WIDE_POSITIONS {
-                    (11, at)
-                } else if tag == WIDE_POSITIONS && count > WIDE_POINTS {
-                    (15, count_at)
-                } else if refusal != 0 {
-                    (refusal, at)
-                } else {
-                    (0, 0)
-                };
-                let form = if number_and_place == (0, 0) { tag } else { 0 };
-                let reading = self.read(0, record, rooms);
-                let found = (reading.number, reading.place as usize);
+                // Check, then fetch with these rooms.
+                let [checked, fetched] = [[count, count], rooms].map(|rooms| {
+                    if count > MOST_POINTS {
+                        (15, count_at)
+                    } else if rooms != [count, count] {
+                        (16, count_at)
+                    } else if record.len() < at + 3 {
+                        (10, at)
+                    } else if tag != POSITIONS && tag != WIDE_POSITIONS {
+                        (11, at)
+                    } else if tag == WIDE_POSITIONS && count > WIDE_POINTS {
+                        (15, count_at)
+                    } else if refusal != 0 {
+                        (refusal, at)
+                    } else {
+                        (0, 0)
+                    }
+                });
+                let form = if checked == (0, 0) { tag } else { 0 };
+                let pair = self.read(0, record, rooms);
                 let what = format!("count {count}, side {side}, tag {tag}, room {rooms:?}");
-                assert_eq!(found, number_and_place, "{what}");
-                assert_eq!(reading.form, u32::from(form), "{what}");
+                let found = (pair.described.number, pair.described.place as usize);
+                assert_eq!(found, checked, "{what}");
+                assert_eq!(pair.described.form, u32::from(form), "{what}");
+                let found = (pair.fetched.number, pair.fetched.place as usize);
+                assert_eq!(found, fetched, "{what}");
             }
             self.move_at_limit(record, count, tag, refusal);
         }
@@ -249,10 +254,10 @@ impl Test {
         fields.exchange_forms();
         let record = fields.join();
         let count = run.ratios.len();
-        let reading = self.read(0, &record, [count, count]);
+        let described = self.read(0, &record, [count, count]).described;
         if coded_alike(&run.positions) {
             let form = if run.form == WIDE { OLD } else { WIDE };
-            let found = (reading.number, reading.form, reading.used);
+            let found = (described.number, described.form, described.size);
             assert_eq!(found, (0, form, record.len() as u64), "{run:x?}");
         }
         self.read_in_many_ways(&record, run);
@@ -277,8 +282,8 @@ impl Test {
         for run in &runs {
             let (length, count) = (run.record().len(), run.ratios.len());
             let form = if run.form == WIDE { WIDE } else { OLD };
-            let reading = self.read(0, rest, [count, count]);
-            let found = (reading.number, reading.form, reading.used);
+            let described = self.read(0, rest, [count, count]).described;
+            let found = (described.number, described.form, described.size);
             assert_eq!(found, (0, form, length as u64), "{run:x?}");
             rest = &rest[length..];
         }

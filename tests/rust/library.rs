@@ -2,8 +2,8 @@
 //! Which library that is, is said when linking: see tests/shared.
 
 use crate::answers::{
-    Cursor, Difference, Explained, Kind, Live, Making, Moved, Overall, Reading, Span, Stepped,
-    Written,
+    Cursor, Described, Difference, Explained, Fetched, Kind, Live, Making, Moved, Overall, Reading,
+    Span, Stepped, Written,
 };
 
 unsafe extern "C" {
@@ -18,7 +18,9 @@ unsafe extern "C" {
         out: *mut u8,
         out_length: usize,
     ) -> Written;
-    fn farigolenc_read_strict(
+    fn farigolenc_check(expected: u32, record: *const u8, record_length: usize) -> u32;
+    fn farigolenc_describe(expected: u32, record: *const u8, record_length: usize) -> Described;
+    fn farigolenc_fetch(
         expected: u32,
         record: *const u8,
         record_length: usize,
@@ -26,7 +28,7 @@ unsafe extern "C" {
         positions_length: usize,
         ratios: *mut u64,
         ratios_length: usize,
-    ) -> Reading;
+    ) -> Fetched;
     fn farigolenc_read_open(
         expected: u32,
         record: *const u8,
@@ -60,7 +62,7 @@ unsafe extern "C" {
     fn farigolenc_step(body: *const u8, body_length: usize, cursor: Cursor) -> Stepped;
     fn farigolenc_kind(ratio: u64) -> Kind;
     fn farigolenc_explain(ratios: *const u64, ratios_length: usize, index: u64) -> Explained;
-    fn farigolenc_compare_overall(first: Reading, second: Reading) -> Overall;
+    fn farigolenc_compare_overall(first: Described, second: Described) -> Overall;
     fn farigolenc_compare_positions(
         first: *const u64,
         first_length: usize,
@@ -104,15 +106,20 @@ pub fn write(
     }
 }
 
-pub fn read_strict(
-    expected: u32,
-    record: &[u8],
-    positions: &mut [u64],
-    ratios: &mut [u64],
-) -> Reading {
+pub fn check(expected: u32, record: &[u8]) -> u32 {
+    // SAFETY: see above.
+    unsafe { farigolenc_check(expected, record.as_ptr(), record.len()) }
+}
+
+pub fn describe(expected: u32, record: &[u8]) -> Described {
+    // SAFETY: see above.
+    unsafe { farigolenc_describe(expected, record.as_ptr(), record.len()) }
+}
+
+pub fn fetch(expected: u32, record: &[u8], positions: &mut [u64], ratios: &mut [u64]) -> Fetched {
     // SAFETY: see above.
     unsafe {
-        farigolenc_read_strict(
+        farigolenc_fetch(
             expected,
             record.as_ptr(),
             record.len(),
@@ -189,7 +196,7 @@ pub fn explain(ratios: &[u64], index: u64) -> Explained {
     unsafe { farigolenc_explain(ratios.as_ptr(), ratios.len(), index) }
 }
 
-pub fn compare_overall(first: Reading, second: Reading) -> Overall {
+pub fn compare_overall(first: Described, second: Described) -> Overall {
     // SAFETY: nothing is lent.
     unsafe { farigolenc_compare_overall(first, second) }
 }

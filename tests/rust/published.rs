@@ -1,6 +1,6 @@
 //! Document 01's examples that are not proved as a table ("Bytes to compare", the rows without
-//! P), its record with and without a side and in both forms, the last two rows of the wide form,
-//! and the six doubles of source document 000, Table 2, run through the library.
+//! P), its record with and without a side and in both forms, checked and fetched, the last two rows
+//! of the wide form, and the six doubles of source document 000, Table 2, run through the library.
 
 #[allow(dead_code)]
 mod answers;
@@ -70,12 +70,23 @@ fn example(side: u32, form: u32) -> Result<Vec<u8>, (u32, u32)> {
     Ok(out[..answer.length as usize].to_vec())
 }
 
-/// The number, the side and the form that a record is read with, strictly and openly.
+/// The number, the side and the form of a record, by describe and by open reading.
 fn both_readings(record: &[u8]) -> [(u32, u32, u32); 2] {
-    [library::read_strict, library::read_open].map(|read| {
-        let answer = read(96_000, record, &mut [0; 3], &mut [0; 3]);
-        (answer.number, answer.side, answer.form)
-    })
+    let described = library::describe(96_000, record);
+    let opened = library::read_open(96_000, record, &mut [0; 3], &mut [0; 3]);
+    [
+        (described.number, described.side, described.form),
+        (opened.number, opened.side, opened.form),
+    ]
+}
+
+/// The one number that check answers of an input with this rate expected, and the number, place and
+/// count of a fetch with room for so many points.
+fn check_and_fetch(expected: u32, record: &[u8], room: usize) -> (u32, [u32; 3]) {
+    let (mut positions, mut ratios) = (vec![0; room], vec![0; room]);
+    let fetched = library::fetch(expected, record, &mut positions, &mut ratios);
+    let number = library::check(expected, record);
+    (number, [fetched.number, fetched.place, fetched.count])
 }
 
 /// Counts the examples, and says which differ.
@@ -151,6 +162,24 @@ fn main() {
             tally.same(&what, example(side, form), Ok(record));
         }
         tally.same("side 27", example(27, form), Err((21, 0)));
+    }
+
+    // Check answers one number: 65,536 times the refusal number plus the place, or the size of a
+    // sound record. Fetch alone is refused by 16.
+    let sound = EXAMPLE.len() as u32;
+    for (expected, length, room, answers) in [
+        (0, 46, 3, (sound, [0, 0, 3])),
+        (96_000, 46, 4, (sound, [0, 0, 3])),
+        (48_000, 46, 3, (65_536 * 14, [14, 0, 0])),
+        (0, 46, 2, (sound, [16, 7, 0])),
+        (0, 45, 3, (65_536 * 10 + 32, [10, 32, 0])),
+        (0, 45, 2, (65_536 * 10 + 32, [16, 7, 0])),
+        (0, 11, 2, (65_536 * 10 + 7, [10, 7, 0])),
+        (0, 0, 0, (65_536 * 10, [10, 0, 0])),
+    ] {
+        let what = format!("check and fetch of {length} bytes, {expected} expected");
+        let found = check_and_fetch(expected, &EXAMPLE[..length], room);
+        tally.same(&what, found, answers);
     }
 
     // A ratio that was last seen 127 places back, and one 128 back.

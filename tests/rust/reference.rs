@@ -1,11 +1,11 @@
 //! Document 01, and of document 02 the call explain (No. 1), the side of the disc (No. 2), the
-//! wide form (No. 3), the moves (No. 5), the rounding of a span (No. 6) and two records side by side
-//! (No. 7), written out plainly: every call with its whole answer and outputs. It is meant to be
-//! compared with the documents line by line, not to be fast.
+//! wide form (No. 3), the moves (No. 5), the rounding of a span (No. 6), two records side by side
+//! (No. 7), and check and fetch (No. 8), written out plainly: every call with its whole answer and
+//! outputs. It is meant to be compared with the documents line by line, not to be fast.
 
 use crate::answers::{
-    Cursor, Difference, Explained, Kind, Live, Making, Moved, Overall, Reading, Span, Stepped,
-    Written,
+    Cursor, Described, Difference, Explained, Fetched, Kind, Live, Making, Moved, Overall, Reading,
+    Span, Stepped, Written,
 };
 use crate::answers::{OLD, WIDE, WINDOW};
 
@@ -454,52 +454,84 @@ fn run(
     })
 }
 
+const BOTH_FORMS: [&Form; 2] = [&OLD_FORM, &WIDE_FORM];
+
+/// The run of a sound record, with room enough: no count that 15 lets by is larger.
+fn sound_run(expected: u32, record: &[u8]) -> Result<Run, Refusal> {
+    run(record, expected, MOST_POINTS, &BOTH_FORMS, strict_form)
+}
+
+/// The check: rate, side, count, form and size of a sound record.
+pub fn describe(expected: u32, record: &[u8]) -> Described {
+    match sound_run(expected, record) {
+        Ok(run) => Described {
+            number: 0,
+            place: 0,
+            rate: run.rate,
+            side: run.side,
+            count: run.positions.len() as u32,
+            form: u32::from(run.form.tag),
+            size: run.used as u64,
+        },
+        Err(Refusal { number, place }) => Described {
+            number,
+            place,
+            rate: 0,
+            side: 0,
+            count: 0,
+            form: 0,
+            size: 0,
+        },
+    }
+}
+
+/// The one number that the check answers to C: 65,536 times the refusal number plus the place, or
+/// the size of a sound record.
+pub fn one_number(checked: Described) -> u32 {
+    match checked.number {
+        0 => checked.size as u32,
+        number => 65_536 * number + checked.place,
+    }
+}
+
+/// Reads a run into outputs, of which the shorter says how much room there is; zeros on every
+/// refusal.
 fn read(
     expected: u32,
     record: &[u8],
     positions: &mut [u64],
     ratios: &mut [u64],
     ratio_form: FormReader,
-) -> Reading {
+) -> Result<Run, Refusal> {
     let room = positions.len().min(ratios.len());
-    match run(record, expected, room, &[&OLD_FORM, &WIDE_FORM], ratio_form) {
+    let read = run(record, expected, room, &BOTH_FORMS, ratio_form);
+    match &read {
         Ok(run) => {
             let count = run.positions.len();
             positions[..count].copy_from_slice(&run.positions);
             ratios[..count].copy_from_slice(&run.ratios);
-            Reading {
-                number: 0,
-                place: 0,
-                rate: run.rate,
-                side: run.side,
-                count: count as u32,
-                form: u32::from(run.form.tag),
-                used: run.used as u64,
-            }
         }
-        Err(Refusal { number, place }) => {
+        Err(_) => {
             positions.fill(0);
             ratios.fill(0);
-            Reading {
-                number,
-                place,
-                rate: 0,
-                side: 0,
-                count: 0,
-                form: 0,
-                used: 0,
-            }
         }
     }
+    read
 }
 
-pub fn read_strict(
-    expected: u32,
-    record: &[u8],
-    positions: &mut [u64],
-    ratios: &mut [u64],
-) -> Reading {
-    read(expected, record, positions, ratios, strict_form)
+pub fn fetch(expected: u32, record: &[u8], positions: &mut [u64], ratios: &mut [u64]) -> Fetched {
+    match read(expected, record, positions, ratios, strict_form) {
+        Ok(run) => Fetched {
+            number: 0,
+            place: 0,
+            count: run.positions.len() as u32,
+        },
+        Err(Refusal { number, place }) => Fetched {
+            number,
+            place,
+            count: 0,
+        },
+    }
 }
 
 pub fn read_open(
@@ -508,7 +540,26 @@ pub fn read_open(
     positions: &mut [u64],
     ratios: &mut [u64],
 ) -> Reading {
-    read(expected, record, positions, ratios, open_form)
+    match read(expected, record, positions, ratios, open_form) {
+        Ok(run) => Reading {
+            number: 0,
+            place: 0,
+            rate: run.rate,
+            side: run.side,
+            count: run.positions.len() as u32,
+            form: u32::from(run.form.tag),
+            used: run.used as u64,
+        },
+        Err(Refusal { number, place }) => Reading {
+            number,
+            place,
+            rate: 0,
+            side: 0,
+            count: 0,
+            form: 0,
+            used: 0,
+        },
+    }
 }
 
 // Moving
@@ -516,8 +567,8 @@ pub fn read_open(
 /// The record of a run in the form moved to and the bytes used of the one that it was read from, or
 /// the first refusal but 6.
 fn moved_record(bytes: &[u8], from: &Form, to: &Form) -> Result<(Vec<u8>, usize), Refusal> {
-    // No rate is expected, and there is room for every count. The tag of the form moved to is a
-    // wrong one.
+    // No rate is expected, and no output for points is lent. The tag of the form moved to is a wrong
+    // one.
     let run = run(bytes, 0, MOST_POINTS, &[from], strict_form)?;
     // Of the tests of writing a run that was read can break 3 toward wide and 5 toward old alone.
     let record = record(run.rate, run.side, to, &run.positions, &run.ratios)?;
@@ -861,13 +912,13 @@ fn ratios_at(index: u64, first: u64, second: u64) -> Difference {
     difference
 }
 
-/// What two readings differ in besides the points, or the refusal of the first, or of the second.
-pub fn compare_overall(first: Reading, second: Reading) -> Overall {
-    for (which, reading) in [(1, first), (2, second)] {
-        if reading.number != 0 {
+/// What two records differ in besides the points, or the refusal of the first, or of the second.
+pub fn compare_overall(first: Described, second: Described) -> Overall {
+    for (which, described) in [(1, first), (2, second)] {
+        if described.number != 0 {
             return Overall {
-                number: reading.number,
-                place: reading.place,
+                number: described.number,
+                place: described.place,
                 which,
                 ..Overall::default()
             };
@@ -906,10 +957,8 @@ pub fn compare_ratios(first: &[u64], second: &[u64], index: u64) -> Difference {
 /// All that differs between two records, in the order of document 02, or a refusal's number and
 /// place and the record that it is of.
 pub fn comparison(first: &[u8], second: &[u8]) -> Result<Vec<Difference>, [u32; 3]> {
-    let forms = [&OLD_FORM, &WIDE_FORM];
     let read = |which, record| {
-        let run = run(record, 0, MOST_POINTS, &forms, strict_form);
-        run.map_err(|refusal| [refusal.number, refusal.place, which])
+        sound_run(0, record).map_err(|refusal| [refusal.number, refusal.place, which])
     };
     let first = read(1, first)?;
     let second = read(2, second)?;

@@ -7,10 +7,10 @@ use native.Mathlib.Omega.{arith}
 use lib.ListN.{length, take}
 use lib.Seq.{take-all}
 use Rattle.lists.proofs.Below.{below-take}
-use Rattle.record_format.specs.Reading.{Answer}
 use Rattle.record_format.specs.Runs.{recordOf}
+use Rattle.record_format.specs.declared.CheckAnswer.{CheckAnswer}
 use Rattle.record_format.proofs.Sizes.{within}
-use Rattle.inputs.specs.Inputs.{inputLimit, readInput}
+use Rattle.inputs.specs.Inputs.{inputLimit, checkInput, runInput}
 use Rattle.inputs.proofs.Inputs.{record-uncut, reads-record, reads-no-other, begins-whole}
 use Rattle.differences.specs.declared.Property.the-variants.{Rate, Side, Count, Form}
 use Rattle.differences.specs.declared.Difference.{Difference}
@@ -89,13 +89,14 @@ prints-nothing s t u v = (
 pub prints-first : PrintsFirst
 prints-first s t b never =
     let n = reads-no-other s b never in
-    (n, ap comparisonText (compared-first (readInput s) (readInput t) n) ∙ text-refused (refusedComparison (readInput s .answer) 1) n)
+    (n, ap comparisonText (compared-first (checkInput s) (runInput s) (checkInput t) (runInput t) n) ∙ text-refused (refusedComparison (checkInput s) 1) n)
 
 pub prints-second : PrintsSecond
 prints-second r a x t b never =
     let n = reads-no-other t b never in
-    let ok = ap (λ (y : Answer). y .answer .number) (reads-record r a x) in
-    (n, ap comparisonText (compared-second (readInput (recordOf r ++ x)) (readInput t) ok n) ∙ text-refused (refusedComparison (readInput t .answer) 2) n)
+    let s = recordOf r ++ x in
+    let ok = ap (λ (y : CheckAnswer). y .number) (reads-record r a x .0) in
+    (n, ap comparisonText (compared-second (checkInput s) (runInput s) (checkInput t) (runInput t) ok n) ∙ text-refused (refusedComparison (checkInput t) 2) n)
 
 -- ---- bytes behind a record
 

@@ -12,11 +12,12 @@ use Rattle.limits.specs.Rates.{rates, isRate}
 use Rattle.refusals.specs.Tests.{firstOf}
 use Rattle.record_format.specs.Claims.{Accepted}
 use Rattle.record_format.specs.Examples.{listedRun, listedBytes}
-use Rattle.record_format.specs.Reading.{Answer, readWith}
+use Rattle.record_format.specs.Checking.{found}
 use Rattle.record_format.specs.Runs.{Run, recordOf}
+use Rattle.record_format.specs.declared.CheckAnswer.{CheckAnswer}
 use Rattle.record_format.specs.Writing.{accepts}
 use Rattle.record_format.proofs.Examples.{listed-record, listed-accepted}
-use Rattle.inputs.specs.Inputs.{readInput}
+use Rattle.inputs.specs.Inputs.{checkInput, runInput}
 use Rattle.inputs.proofs.Inputs.{reads-record}
 use Rattle.text.specs.Numbers.{trimmed, decimal, hex16}
 use Rattle.differences.specs.Differences.{positionAt, ratioAt, pointsTo, differences}
@@ -42,27 +43,29 @@ unfolding digitsOf trimmed decimal hex16 ofBits ofFields positionAt ratioAt poin
 texts = (refl, refl)
 
 -- of an empty file the head of the rate's field is not whole, whichever it is
-refused-empty : (w : ℕ) → refusedComparison (readInput [] .answer) w ≡ record { number = 10; place = 0; which = w; list = [] }
-unfolding readWith firstOf
+refused-empty : (w : ℕ) → refusedComparison (checkInput []) w ≡ record { number = 10; place = 0; which = w; list = [] }
+unfolding found firstOf
 refused-empty w = refl
 
-not-read : readInput [] .answer .number ≡ 0 → ⊥
+not-read : checkInput [] .number ≡ 0 → ⊥
 not-read e = let n = ap (λ (c : Comparison). c .number) (refused-empty 1) in omega (arith, n, e)
 
 lines : (refusedInLine 10 0 1 ≡ refusedFirst) × (refusedInLine 10 0 2 ≡ refusedSecond)
 unfolding digitsOf trimmed decimal refusedInLine
 lines = (refl, refl)
 
-line-empty : (w : ℕ) → comparisonText (refusedComparison (readInput [] .answer) w) ≡ refusedInLine 10 0 w
+line-empty : (w : ℕ) → comparisonText (refusedComparison (checkInput []) w) ≡ refusedInLine 10 0 w
 line-empty w = ap comparisonText (refused-empty w) ∙ text-refused (record { number = 10; place = 0; which = w; list = [] }) (λ e. omega (arith, e))
 
 first-empty : (t : List ℕ) → printed [] t ≡ refusedFirst
-first-empty t = ap comparisonText (compared-first (readInput []) (readInput t) not-read) ∙ line-empty 1 ∙ lines .0
+first-empty t = ap comparisonText (compared-first (checkInput []) (runInput []) (checkInput t) (runInput t) not-read) ∙ line-empty 1 ∙ lines .0
 
 second-empty : (r : Run) → Accepted r → printed (recordOf r) [] ≡ refusedSecond
 second-empty r a =
+    let s = recordOf r ++ [] in
     sym (ap (λ (l : List ℕ). printed l []) (append-nil (recordOf r)))
-    ∙ ap comparisonText (compared-second (readInput (recordOf r ++ [])) (readInput []) (ap (λ (x : Answer). x .answer .number) (reads-record r a [])) not-read)
+    ∙ ap comparisonText
+    (compared-second (checkInput s) (runInput s) (checkInput []) (runInput []) (ap (λ (x : CheckAnswer). x .number) (reads-record r a [] .0)) not-read)
     ∙ line-empty 2
     ∙ lines .1
 

@@ -5,8 +5,7 @@
 --   PrintsDifferences   of two files that begin with the records of accepted runs the program prints the text of the list of their differences, whatever follows
 --                       either record
 --   PrintsNothing       it prints nothing at all exactly when both files begin with the same record
---   PrintsFirst         of a first file that begins with no record it prints the line of the refusal of its strict reading, in record 1, whatever the second
---                       holds
+--   PrintsFirst         of a first file that begins with no record it prints the line of the refusal of its check, in record 1, whatever the second holds
 --   PrintsSecond        of a second one that begins with none, where the first begins with a record, the like, in record 2
 --   PrintsTrailing      bytes behind either record change nothing, also where the other file is refused
 use mathlib.Core.List.{List, [], _∷_, _++_}
@@ -15,7 +14,7 @@ use mathlib.Core.Path.{_≡_}
 use Prim.Native.Nat.{ℕ}
 use Rattle.record_format.specs.Claims.{Accepted, Beginning, Bytes}
 use Rattle.record_format.specs.Runs.{Run, recordOf}
-use Rattle.inputs.specs.Inputs.{readInput}
+use Rattle.inputs.specs.Inputs.{checkInput}
 use Rattle.differences.specs.declared.Difference.{Difference}
 use Rattle.differences.specs.Differences.{differences}
 use Rattle.compare.specs.Lines.{lineOf, differencesText, refusedInLine}
@@ -37,12 +36,12 @@ PrintsNothing = (s t : List ℕ) → Bytes s → Bytes t
 -- the first record first
 abbrev pub PrintsFirst : Type 0
 PrintsFirst = (s t : List ℕ) → Bytes s → ((r : Run) → Accepted r → Beginning (recordOf r) s → ⊥)
-    → let a = readInput s .answer in (a .number ≡ 0 → ⊥) × (printed s t ≡ refusedInLine (a .number) (a .place) 1)
+    → let a = checkInput s in (a .number ≡ 0 → ⊥) × (printed s t ≡ refusedInLine (a .number) (a .place) 1)
 
 -- and then the second
 abbrev pub PrintsSecond : Type 0
 PrintsSecond = (r : Run) → Accepted r → (x t : List ℕ) → Bytes t → ((q : Run) → Accepted q → Beginning (recordOf q) t → ⊥)
-    → let a = readInput t .answer in (a .number ≡ 0 → ⊥) × (printed (recordOf r ++ x) t ≡ refusedInLine (a .number) (a .place) 2)
+    → let a = checkInput t in (a .number ≡ 0 → ⊥) × (printed (recordOf r ++ x) t ≡ refusedInLine (a .number) (a .place) 2)
 
 -- demand 3, of the program
 abbrev pub PrintsTrailing : Type 0

@@ -1,5 +1,5 @@
-// The comparing program: reads the records in the files that its two arguments name, strictly and with no rate expected, and prints what differs
-// between them, a line for each difference and nothing for equal records; or the refusal, and which record it was.
+// The comparing program: reads the records in the files that its two arguments name, with no rate expected, and prints what differs between them,
+// a line for each difference and nothing for equal records; or the refusal, and which record it was.
 ghost use mathlib.Core.Path.{_≡_};
 ghost use Prim.Native.Nat.{_+_, _*_, _≤_, min};
 ghost use lib.ListN.{length, take};

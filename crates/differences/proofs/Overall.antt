@@ -4,12 +4,12 @@ use mathlib.Core.Path.{_≡_, refl, sym, ap, ap₂, _∙_}
 use Prim.Native.Nat.{ℕ}
 use borrow.Author.Tests.{eqb-true, eqb-false, eq-eqb, ne-eqb}
 use lib.Dec.{eqb}
-use Rattle.record_format.specs.declared.ReadAnswer.{ReadAnswer}
+use Rattle.record_format.specs.declared.CheckAnswer.{CheckAnswer}
 use Rattle.differences.specs.declared.Difference.{Difference}
 use Rattle.differences.specs.declared.Property.the-variants.{Rate, Side, Count, Form}
 use Rattle.differences.specs.declared.OverallDifferences.{OverallDifferences}
 use Rattle.differences.specs.Differences.{propertyDifference, moreDifference}
-use Rattle.differences.specs.Overall.{refusedOverall, overallRead, overallOf}
+use Rattle.differences.specs.Overall.{refusedOverall, overallSound, overallOf}
 
 -- an answer by two numbers, which has the first of them that is not 0: where it has 0, both are
 pub both-zero : {A : Type 0} (f : A → ℕ) (m n : ℕ) (x y z : A) → f y ≡ n → f z ≡ m
@@ -21,11 +21,11 @@ both-zero f m n x y z p q e = go (eqb m 0) refl (eqb n 0) refl
     go true w false v = absurd (eqb-false _ _ v (sym p ∙ sym (ap₂ (λ (t u : Bool). f (cond t (cond u x y) z)) w v) ∙ e))
     go false w u v = absurd (eqb-false _ _ w (sym q ∙ sym (ap (λ (t : Bool). f (cond t (cond (eqb n 0) x y) z)) w) ∙ e))
 
-module _ (a b : ReadAnswer) where
+module _ (a b : CheckAnswer) where
   pub overall-clear : overallOf a b .number ≡ 0 → (a .number ≡ 0) × (b .number ≡ 0)
   unfolding overallOf
   overall-clear e =
-      both-zero (λ (h : OverallDifferences). h .number) (a .number) (b .number) (overallRead a b) (refusedOverall (b .number) (b .place) 2)
+      both-zero (λ (h : OverallDifferences). h .number) (a .number) (b .number) (overallSound a b) (refusedOverall (b .number) (b .place) 2)
       (refusedOverall (a .number) (a .place) 1) refl refl e
 
   pub overall-first : (a .number ≡ 0 → ⊥) → refusedOverall (a .number) (a .place) 1 ≡ overallOf a b
@@ -36,7 +36,7 @@ module _ (a b : ReadAnswer) where
   unfolding overallOf
   overall-second ok n = rw (eq-eqb (a .number) 0 ok, ne-eqb (b .number) 0 n)
 
-  pub overall-both : a .number ≡ 0 → b .number ≡ 0 → overallRead a b ≡ overallOf a b
+  pub overall-both : a .number ≡ 0 → b .number ≡ 0 → overallSound a b ≡ overallOf a b
   unfolding overallOf
   overall-both ok fine = rw (eq-eqb (a .number) 0 ok, eq-eqb (b .number) 0 fine)
 

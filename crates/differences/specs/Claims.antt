@@ -18,23 +18,26 @@
 --   Compares          where they begin with the records of accepted runs the answer is their runs' differences, whatever follows either
 --   ComparesOnly      only such strings have an answer other than a refusal
 --   EmptyExactly      nothing is refused and the list is empty exactly when both begin with the same record
---   RefusesFirst, RefusesSecond   all else is refused as strict reading refuses it with any room for 4,096 points and no rate expected, the first record
---                     first, with which it was; never by 14, and never by 16
---   MakeUp, ByCalls   what the calls answer makes up the comparison, whatever room for 4,096 points the readings were lent: its refusal is that of
---                     `overallOf`, and its list the differences of that and those at each index
+--   RefusesFirst, RefusesSecond   all else is refused as a check refuses it with no rate expected, the first record first, with which it was; never by 14,
+--                     and never by 16
+--   runCalled a f     the run that a caller has: what a check answered, a, and of the outputs that a fetch left, f, the first `count` numbers
+--   MakeUp, ByCalls   what the calls answer makes up the comparison, whatever room for the counts that the checks answered the fetches were lent: its
+--                     refusal is that of `overallOf`, and its list the differences of that and those at each index
 --   ComparisonTrailing   whatever follows a record changes no answer, also where the other record is refused; ComparisonFollowed: nor does what follows
 --                     any whole fields. Both are parts of demand 3
 use mathlib.Core.List.{List, [], _∷_, _++_}
 use mathlib.Core.Logic.{_⊎_, _↔_}
 use mathlib.Core.Path.{_≡_}
 use Prim.Native.Nat.{ℕ, _+_, _*_, _≤_, _<_, min}
-use lib.ListN.{length, getD}
+use lib.ListN.{length, getD, take}
 use Rattle.lists.specs.Among.{Among}
 use Rattle.kind.specs.Kinds.{kindOf}
 use Rattle.record_format.specs.Claims.{Accepted, Beginning, Bytes}
-use Rattle.record_format.specs.Reading.{Answer, endAt, readStrict}
-use Rattle.record_format.specs.Runs.{Run, positionsTag, recordOf}
-use Rattle.record_format.specs.declared.ReadAnswer.{ReadAnswer}
+use Rattle.record_format.specs.Reading.{endAt}
+use Rattle.record_format.specs.Checking.{checked}
+use Rattle.record_format.specs.Fetching.{Fetched, fetched}
+use Rattle.record_format.specs.Runs.{Run, run, formOf, positionsTag, recordOf}
+use Rattle.record_format.specs.declared.CheckAnswer.{CheckAnswer}
 use Rattle.differences.specs.declared.Property.{Property}
 use Rattle.differences.specs.declared.Property.the-variants.{Rate, Side, Count, Form}
 use Rattle.differences.specs.declared.Difference.{Difference}
@@ -42,7 +45,7 @@ use Rattle.differences.specs.declared.Difference.the-variants.{Equal, In
 use Rattle.differences.specs.declared.OverallDifferences.{OverallDifferences}
 use Rattle.differences.specs.Differences.{positionAt, ratioAt, listed, pointsTo, differences}
 use Rattle.differences.specs.Overall.{overallOf}
-use Rattle.differences.specs.Comparisons.{Comparison, runOf, comparison}
+use Rattle.differences.specs.Comparisons.{Comparison, comparison}
 
 -- ---- what a difference says
 
@@ -120,7 +123,7 @@ Tells p x y d = (x ≡ y → d ≡ Equal) × ((x ≡ y → ⊥) → d ≡ InProp
 
 -- of any two answers, the first record's refusal first; of the points that only the longer run has their number
 abbrev pub OverallExactly : Type 0
-OverallExactly = (a b : ReadAnswer)
+OverallExactly = (a b : CheckAnswer)
     → let h = overallOf a b in
     ((a .number ≡ 0 → ⊥)
     → h ≡ record { number = a .number; place = a .place; which = 1; rate = Equal; side = Equal; count = Equal; form = Equal; more = Equal })
@@ -155,21 +158,23 @@ EmptyExactly = (s t : List ℕ) → Bytes s → Bytes t
 
 -- the first string begins with no record, whatever the second is
 abbrev pub RefusesFirst : Type 0
-RefusesFirst = (s t ts vs : List ℕ) → Bytes s → 4096 ≤ length ts → 4096 ≤ length vs
-    → ((r : Run) → Accepted r → Beginning (recordOf r) s → ⊥)
-    → let a = readStrict 0 s ts vs .answer in
+RefusesFirst = (s t : List ℕ) → Bytes s → ((r : Run) → Accepted r → Beginning (recordOf r) s → ⊥)
+    → let a = checked 0 s in
     (a .number ≡ 0 → ⊥) × (a .number ≡ 14 → ⊥) × (a .number ≡ 16 → ⊥) × (comparison s t ≡ record { number = a .number; place = a .place; which = 1; list = [] })
 
 -- the first begins with a record, and the second with none
 abbrev pub RefusesSecond : Type 0
-RefusesSecond = (r : Run) → Accepted r → (x t ts vs : List ℕ) → Bytes t → 4096 ≤ length ts → 4096 ≤ length vs
-    → ((q : Run) → Accepted q → Beginning (recordOf q) t → ⊥)
-    → let a = readStrict 0 t ts vs .answer in
+RefusesSecond = (r : Run) → Accepted r → (x t : List ℕ) → Bytes t → ((q : Run) → Accepted q → Beginning (recordOf q) t → ⊥)
+    → let a = checked 0 t in
     (a .number ≡ 0 → ⊥) × (a .number ≡ 14 → ⊥) × (a .number ≡ 16 → ⊥) × (comparison (recordOf r ++ x) t ≡ record { number = a .number; place = a .place; which = 2; list = [] })
 
--- the answers a and b of two readings, with the differences h that are of no index, make up the comparison c
-abbrev pub MakeUp : Answer → Answer → OverallDifferences → Comparison → Type 0
-MakeUp a b h c =
+-- by its parts
+abbrev pub runCalled : CheckAnswer → Fetched → Run
+runCalled a f = run (a .rate) (a .side) (formOf (a .form)) (take (a .count) (f .positions)) (take (a .count) (f .ratios))
+
+-- the differences h that are of no index, and the points of the runs r and q up to the smaller of the counts m and n, make up the comparison c
+abbrev pub MakeUp : OverallDifferences → Run → Run → ℕ → ℕ → Comparison → Type 0
+MakeUp h r q m n c =
     (h .number ≡ c .number) × (h .place ≡ c .place) × (h .which ≡ c .which)
     × ((h .number ≡ 0 → ⊥) → c .list ≡ [])
     × (h .number ≡ 0
@@ -178,15 +183,16 @@ MakeUp a b h c =
     ++ (listed (h .side)
     ++ (listed (h .count)
     ++ (listed (h .form)
-    ++ (pointsTo (runOf a) (runOf b) (min (a .answer .count) (b .answer .count))
+    ++ (pointsTo r q (min m n)
     ++ listed (h .more))))))
 
 -- of any two strings of bytes
 abbrev pub ByCalls : Type 0
 ByCalls = (s t ts vs us ws : List ℕ) → Bytes s → Bytes t
-    → 4096 ≤ length ts → 4096 ≤ length vs → 4096 ≤ length us → 4096 ≤ length ws
-    → let a = readStrict 0 s ts vs in
-    let b = readStrict 0 t us ws in MakeUp a b (overallOf (a .answer) (b .answer)) (comparison s t)
+    → let a = checked 0 s in
+    let b = checked 0 t in
+    a .count ≤ length ts → a .count ≤ length vs → b .count ≤ length us → b .count ≤ length ws
+    → MakeUp (overallOf a b) (runCalled a (fetched 0 s ts vs)) (runCalled b (fetched 0 t us ws)) (a .count) (b .count) (comparison s t)
 
 -- demand 3: bytes behind either record
 abbrev pub ComparisonTrailing : Type 0

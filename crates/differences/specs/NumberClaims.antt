@@ -9,7 +9,7 @@ use mathlib.Core.Path.{_≡_}
 use Prim.Native.Nat.{ℕ}
 use Rattle.kind.specs.declared.KindAnswer.{KindAnswer}
 use Rattle.kind.specs.Claims.{kindIs, floatZero}
-use Rattle.record_format.specs.declared.ReadAnswer.{ReadAnswer}
+use Rattle.record_format.specs.declared.CheckAnswer.{CheckAnswer}
 use Rattle.differences.specs.declared.Difference.{Difference}
 use Rattle.differences.specs.declared.DifferenceAnswer.{DifferenceAnswer}
 use Rattle.differences.specs.declared.OverallDifferences.{OverallDifferences}
@@ -43,7 +43,7 @@ OverallApart = (h k : OverallDifferences) → overallNumbers h ≡ overallNumber
 
 -- of any two answers
 abbrev pub RefusedAlone : Type 0
-RefusedAlone = (a b : ReadAnswer)
+RefusedAlone = (a b : CheckAnswer)
     → let numbers = overallNumbers (overallOf a b) in
     ((a .number ≡ 0 → ⊥) → numbers ≡ refusedNumbers (a .number) (a .place) 1)
     × (a .number ≡ 0 → (b .number ≡ 0 → ⊥) → numbers ≡ refusedNumbers (b .number) (b .place) 2)

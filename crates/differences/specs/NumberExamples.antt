@@ -1,7 +1,7 @@
 -- Document 02, No. 7: differences and their numbers, as one table, proved from the definitions by one statement.
 --   Example, example   a difference, and its numbers as they should be
 --   examples           the rows; examples-hold: each is as it is given
---   first, second, refusedAnswer   what strict reading answered of two records, and of one that was refused
+--   first, second, refusedAnswer   what a check answered of two records, and of one that was refused
 --   overall-hold       the numbers of two records that differ in every property and in their counts
 --   refused-hold       those of a refusal of the second record
 use mathlib.Core.Bool.{true, false}
@@ -11,7 +11,7 @@ use lib.Ieee.{fin, ofBits, ofFields}
 use lib.IntN.{pos, negsuc}
 use Rattle.kind.specs.Kinds.{kindOf}
 use Rattle.kind.specs.Claims.{kindIs, floatZero}
-use Rattle.record_format.specs.declared.ReadAnswer.{ReadAnswer}
+use Rattle.record_format.specs.declared.CheckAnswer.{CheckAnswer}
 use Rattle.differences.specs.declared.Property.the-variants.{Rate, Side, Count, Form}
 use Rattle.differences.specs.declared.Difference.{Difference}
 use Rattle.differences.specs.declared.Difference.the-variants.{Equal, InProperty, Position, Ratio, More}
@@ -52,17 +52,17 @@ pub examples-hold : map (λ e. differenceNumbers (e .difference)) examples ≡ m
 unfolding examples ofBits ofFields
 examples-hold = refl
 
--- what a reading answered: of a record
-abbrev first : ReadAnswer
-first = record { number = 0; place = 0; rate = 96000; side = 4; count = 3; form = 3; used = 50 }
+-- what a check answered: of a record
+abbrev first : CheckAnswer
+first = record { number = 0; place = 0; rate = 96000; side = 4; count = 3; form = 3; size = 50 }
 
 -- of another, which differs in all of it
-abbrev second : ReadAnswer
-second = record { number = 0; place = 0; rate = 88200; side = 0; count = 5; form = 5; used = 62 }
+abbrev second : CheckAnswer
+second = record { number = 0; place = 0; rate = 88200; side = 0; count = 5; form = 5; size = 62 }
 
 -- of one that was refused by 10 at 7
-abbrev refusedAnswer : ReadAnswer
-refusedAnswer = record { number = 10; place = 7; rate = 0; side = 0; count = 0; form = 0; used = 0 }
+abbrev refusedAnswer : CheckAnswer
+refusedAnswer = record { number = 10; place = 7; rate = 0; side = 0; count = 0; form = 0; size = 0 }
 
 -- each difference in its own place
 pub overall-hold : overallNumbers (overallOf first second)

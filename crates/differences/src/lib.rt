@@ -1,5 +1,5 @@
-// What differs between two records (document 02, No. 7), by what strict reading answered of each: all but the points in one call, and the points
-// one index at a time, so that no call needs room for the differences; and each difference in numbers.
+// What differs between two records (document 02, No. 7), by what a check answered of each and the points that a fetch left: all but the points in
+// one call, and the points one index at a time, so that no call needs room for the differences; and each difference in numbers.
 ghost use mathlib.Core.Path.{_≡_};
 ghost use Rattle.differences.specs.Differences.{valuesAt, propertyDifference, moreDifference, positionAt, ratioAt};
 ghost use Rattle.differences.specs.Overall.{refusedOverall, overallOf};
@@ -8,7 +8,7 @@ use kind::Kind;
 use kind::KindAnswer;
 use kind::kind_numbers;
 use kind::kind_of;
-use record_format::ReadAnswer;
+use record_format::CheckAnswer;
 
 // What a record has besides its points.
 pub enum Property {
@@ -118,9 +118,9 @@ fn more_difference(first: u32, second: u32) -> Difference
     Difference::More(first - second)
 }
 
-// The differences in the properties, by what strict reading answered of each record, and the points that only the longer run has. A record that
-// was refused is answered by its refusal, the first before the second.
-pub fn overall_of(first: ReadAnswer, second: ReadAnswer) -> OverallDifferences
+// The differences in the properties, by what a check answered of each record, and the points that only the longer run has. A record that was
+// refused is answered by its refusal, the first before the second.
+pub fn overall_of(first: CheckAnswer, second: CheckAnswer) -> OverallDifferences
     ensures { λ r. ⌜ r ≡ overallOf first second ⌝ }
 {
     let first_number = first.number;
@@ -163,7 +163,7 @@ fn values_at(first: &[u64], second: &[u64], index: u64) -> Values
 }
 
 // The difference between two runs' positions at an index; none at an index that not both have. Each slice is a run's positions and no more: of what a
-// reading was lent, the first `count` numbers.
+// fetch was lent, the first `count` numbers.
 pub fn position_at(first: &[u64], second: &[u64], index: u64) -> Difference
     ensures { λ r. ⌜ r ≡ positionAt (now (first .entry)) (now (second .entry)) index ⌝ }
 {

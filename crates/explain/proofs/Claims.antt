@@ -1,7 +1,7 @@
 -- What the program prints of a run's record, and of all other input.
 use mathlib.Core.List.{List, _++_}
 use mathlib.Core.Logic.{⊎-elim}
-use mathlib.Core.Path.{_≡_, refl, sym, ap, _∙_}
+use mathlib.Core.Path.{_≡_, refl, sym, ap, ap₂, _∙_}
 use Prim.Native.Nat.{ℕ, _+_, _-_, _≤_}
 use native.Mathlib.Omega.{arith}
 use borrow.Author.Tests.{ne-eqb}
@@ -9,11 +9,11 @@ use lib.ListN.{length, take}
 use Rattle.limits.specs.Points.{maxPoints}
 use Rattle.ratio_format.specs.RatioForms.{coded}
 use Rattle.record_format.specs.Claims.{Accepted}
-use Rattle.record_format.specs.Reading.{Answer, blank}
 use Rattle.record_format.specs.Runs.{Run, recordOf}
+use Rattle.record_format.specs.declared.CheckAnswer.{CheckAnswer}
 use Rattle.record_format.proofs.Writing.{accepted-fits, fitting-few}
-use Rattle.outputs.proofs.Outputs.{take-over}
-use Rattle.inputs.specs.Inputs.{inputLimit, readInput}
+use Rattle.text.specs.Lines.{refusedLine}
+use Rattle.inputs.specs.Inputs.{inputLimit, checkInput}
 use Rattle.inputs.proofs.Inputs.{record-uncut, reads-record, reads-no-other}
 use Rattle.explain.specs.Indexes.{givenIndex}
 use Rattle.explain.specs.Printed.{bodyIn, indexText, answerText, printed}
@@ -31,8 +31,8 @@ unfolding answerText
 record-text r a rest t =
     let f = accepted-fits r (a .passes) in
     let s = take inputLimit (recordOf r ++ rest) in
-    ap (λ (x : Answer). answerText s x t) (reads-record r a rest)
-    ∙ ap (λ (l : List ℕ). indexText (bodyIn s) l (givenIndex t)) (take-over (r .ratios) blank (length (r .positions)) (f .paired))
+    let h = reads-record r a rest in
+    ap₂ (λ (x : CheckAnswer) (q : Run). answerText s x q t) (h .0) (h .1)
     ∙ ap (λ (n : ℕ). indexText n (r .ratios) (givenIndex t)) (ap bodyIn (record-uncut r a rest) ∙ body-same r f (take (inputLimit - length (recordOf r)) rest))
 
 few : (r : Run) → Accepted r → length (r .ratios) ≤ maxPoints
@@ -44,7 +44,7 @@ prints-reason r a rest t i e h =
 
 pub prints-past : PrintsPast
 prints-past r a rest t other =
-    ⊎-elim
+    ⊎-elim {C = printed (recordOf r ++ rest) t ≡ refusedLine 22 0}
     (λ e. record-text r a rest t ∙ ap (indexText (bodyIn (recordOf r)) (r .ratios)) e)
     (λ p. record-text r a rest t ∙ ap (indexText (bodyIn (recordOf r)) (r .ratios)) (p .1) ∙ sym (point-past (bodyIn (recordOf r)) (r .ratios) (few r a) (p .0) (p .2)))
     other
@@ -53,4 +53,4 @@ pub prints-only : PrintsOnly
 unfolding answerText
 prints-only s t b never =
     let n = reads-no-other s b never in
-    (n, rw (ne-eqb (readInput s .answer .number) 0 n))
+    (n, rw (ne-eqb (checkInput s .number) 0 n))

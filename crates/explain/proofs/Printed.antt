@@ -12,19 +12,16 @@ use lib.ListN.{length, getD, take}
 use lib.Seq.{take-all}
 use Rattle.limits.specs.Points.{maxPoints}
 use Rattle.ratio_format.specs.Bodies.{codedRatios}
-use Rattle.record_format.specs.Claims.{ownAnswer}
-use Rattle.record_format.specs.Reading.{Answer, blank}
 use Rattle.record_format.specs.Runs.{Run, recordOf}
-use Rattle.record_format.specs.declared.ReadAnswer.{ReadAnswer}
+use Rattle.record_format.specs.declared.CheckAnswer.{CheckAnswer}
 use Rattle.record_format.proofs.Sizes.{within}
 use Rattle.record_format.proofs.Writing.{accepted-fits}
 use Rattle.text.specs.Lines.{refusedLine}
 use Rattle.reasons.specs.declared.Reason.{Reason}
 use Rattle.reasons.specs.Reasons.{explained}
 use Rattle.reasons.proofs.Reasons.{explained-past}
-use Rattle.outputs.proofs.Outputs.{take-over}
-use Rattle.inputs.specs.Inputs.{inputLimit}
-use Rattle.inputs.specs.Readings.{answerOf, Reading}
+use Rattle.inputs.specs.Inputs.{inputLimit, runInput}
+use Rattle.inputs.specs.Readings.{InputRead}
 use Rattle.inputs.proofs.Readings.{read-own}
 use Rattle.explain.specs.Indexes.{givenIndex, capped}
 use Rattle.explain.specs.Lines.{costLine, reasonLine}
@@ -59,11 +56,14 @@ module _ (b : ℕ) (vs : List ℕ) where
 
 -- ---- by what reading the input s left
 
-module _ {s : List ℕ} {r : ReadAnswer} {ts vs : List ℕ} (h : Reading s r ts vs) (t : List ℕ) where
+module _ {s : List ℕ} {r : CheckAnswer} {ts vs : List ℕ} (h : InputRead s r ts vs) (t : List ℕ) where
+  answered : answerText (take inputLimit s) r (runInput s) t ≡ printed s t
+  answered = ap (λ (a : CheckAnswer). answerText (take inputLimit s) a (runInput s) t) (h .answered)
+
   -- a refusal
   pub refused-text : (r .number ≡ 0 → ⊥) → refusedLine (r .number) (r .place) ≡ printed s t
   unfolding answerText
-  refused-text n = sym (ap (λ (a : Answer). answerText (take inputLimit s) a t) (sym (h .answered)) ∙ rw (ne-eqb (r .number) 0 n))
+  refused-text n = sym (rw (ne-eqb (r .number) 0 n)) ∙ answered
 
   module _ (ok : r .number ≡ 0) where
     -- the ratios of the run
@@ -71,24 +71,24 @@ module _ {s : List ℕ} {r : ReadAnswer} {ts vs : List ℕ} (h : Reading s r ts 
     own = take (r .count) vs
 
     -- the offset of their body, by the end of the record
-    pub body-start : (length (codedRatios own) ≤ r .used) × (r .used - length (codedRatios own) ≡ bodyIn s) × (r .used ≤ inputLimit)
+    pub body-start : (length (codedRatios own) ≤ r .size) × (r .size - length (codedRatios own) ≡ bodyIn s) × (r .size ≤ inputLimit)
     body-start =
         let o = read-own h ok in
         let run : Run = o .0 in
         let f = accepted-fits run (o .1 .passes) in
-        let e : answerOf r ts vs ≡ ownAnswer run blank blank = o .3 in
-        let used : r .used ≡ length (recordOf run) = ap (λ (a : Answer). a .answer .used) e in
-        let ratios : own ≡ run .ratios =
-        ap₂ (λ (n : ℕ) (l : List ℕ). take n l) (ap (λ (a : Answer). a .answer .count) e) (ap (λ (a : Answer). a .ratios) e)
-        ∙ take-over (run .ratios) blank (length (run .positions)) (f .paired) in
-        let size : length (codedRatios own) ≡ length (codedRatios (run .ratios)) = ap (λ (l : List ℕ). length (codedRatios l)) ratios in
+        let size : r .size ≡ length (recordOf run) = ap (λ (a : CheckAnswer). a .size) (o .3) in
+        let coded : length (codedRatios own) ≡ length (codedRatios (run .ratios)) =
+        ap (λ (l : List ℕ). length (codedRatios l)) (h .ratios ok ∙ ap (λ (q : Run). q .ratios) (o .4)) in
         let end : bodyIn s + length (codedRatios (run .ratios)) ≡ length (recordOf run) =
         subst (λ (l : List ℕ). bodyIn l + length (codedRatios (run .ratios)) ≡ length (recordOf run)) (sym (o .2 .1)) (body-end run f (o .2 .0)) in
         (omega arith, omega arith, omega (arith, within run (o .1) .1))
 
-    -- the text for the index
-    pub run-text : (b : ℕ) → b ≡ r .used - length (codedRatios own) → indexText b own (givenIndex t) ≡ printed s t
+    indexed : answerText (take inputLimit s) r (runInput s) t ≡ indexText (bodyIn (take inputLimit s)) (runInput s .ratios) (givenIndex t)
     unfolding answerText
+    indexed = rw (eq-eqb (r .number) 0 ok)
+
+    -- the text for the index
+    pub run-text : (b : ℕ) → b ≡ r .size - length (codedRatios own) → indexText b own (givenIndex t) ≡ printed s t
     run-text b e =
-        ap (λ (n : ℕ). indexText n own (givenIndex t)) (e ∙ body-start .1 ∙ ap bodyIn (sym (take-all inputLimit s (h .whole))))
-        ∙ sym (ap (λ (a : Answer). answerText (take inputLimit s) a t) (sym (h .answered)) ∙ rw (eq-eqb (r .number) 0 ok))
+        ap₂ (λ (n : ℕ) (l : List ℕ). indexText n l (givenIndex t)) (e ∙ body-start .1 ∙ ap bodyIn (sym (take-all inputLimit s (h .whole)))) (h .ratios ok)
+        ∙ sym indexed ∙ answered

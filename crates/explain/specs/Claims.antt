@@ -4,7 +4,7 @@
 --   PrintsReason    of input that begins with the record of an accepted run, and an index below its count, the program prints cost and
 --                   reason, whatever follows
 --   PrintsPast      of such input and any other text `refused 22 at 0`
---   PrintsOnly      of input that begins with no accepted run's record it prints the line of reading's refusal, whatever the index
+--   PrintsOnly      of input that begins with no accepted run's record it prints the line of the check's refusal, whatever the index
 use mathlib.Core.List.{List, _++_}
 use mathlib.Core.Option.{none, some}
 use mathlib.Core.Path.{_≡_}
@@ -19,7 +19,7 @@ use Rattle.record_format.specs.Claims.{Accepted, Beginning, Bytes}
 use Rattle.record_format.specs.Runs.{Run, recordOf}
 use Rattle.text.specs.Lines.{refusedLine}
 use Rattle.reasons.specs.Reasons.{windowAt, explained}
-use Rattle.inputs.specs.Inputs.{readInput}
+use Rattle.inputs.specs.Inputs.{checkInput}
 use Rattle.explain.specs.Indexes.{givenIndex}
 use Rattle.explain.specs.Lines.{costLine, reasonLine}
 use Rattle.explain.specs.Printed.{bodyIn, costOf, offsetOf, printed}
@@ -46,4 +46,4 @@ PrintsPast = (r : Run) → Accepted r → (rest t : List ℕ)
 -- of all else: the refusal of the bytes that the program reads
 abbrev pub PrintsOnly : Type 0
 PrintsOnly = (s t : List ℕ) → Bytes s → ((r : Run) → Accepted r → Beginning (recordOf r) s → ⊥)
-    → let a = readInput s .answer in (a .number ≡ 0 → ⊥) × (printed s t ≡ refusedLine (a .number) (a .place))
+    → let a = checkInput s in (a .number ≡ 0 → ⊥) × (printed s t ≡ refusedLine (a .number) (a .place))

@@ -8,7 +8,7 @@
 --   costText b vs i      the line of that, of an index below the count
 --   pointText b vs i     the text for an index: both lines, or the line of a refusal
 --   indexText b vs o     the same of an index that may be none
---   answerText s a t     the text for the answer a of reading the bytes s
+--   answerText s a q t   the text for the answer a of a check of the bytes s, by which q is the run
 --   printed s t          the program's whole output for the input s and the text t
 use mathlib.Core.Bool.{cond}
 use mathlib.Core.List.{List, [], _++_}
@@ -20,10 +20,12 @@ use Rattle.limits.specs.Points.{maxPoints}
 use Rattle.ratio_format.specs.Bodies.{codedRatios}
 use Rattle.ratio_format.specs.RatioForms.{coded}
 use Rattle.record_format.specs.Fields.{headSize}
-use Rattle.record_format.specs.Reading.{Answer, ratiosAt}
+use Rattle.record_format.specs.Reading.{ratiosAt}
+use Rattle.record_format.specs.Runs.{Run}
+use Rattle.record_format.specs.declared.CheckAnswer.{CheckAnswer}
 use Rattle.text.specs.Lines.{refusedLine}
 use Rattle.reasons.specs.Reasons.{windowAt, explained}
-use Rattle.inputs.specs.Inputs.{inputLimit, readInput}
+use Rattle.inputs.specs.Inputs.{inputLimit, checkInput, runInput}
 use Rattle.explain.specs.Indexes.{givenIndex}
 use Rattle.explain.specs.Lines.{costLine, reasonLine}
 
@@ -64,13 +66,10 @@ abbrev pub indexText : ℕ → List ℕ → Option ℕ → List ℕ
 indexText b vs none = refusedLine 22 0
 indexText b vs (some i) = pointText b vs i
 
--- reading's refusal first, whatever the index
-unfoldable pub answerText : List ℕ → Answer → List ℕ → List ℕ
-answerText s a t =
-    cond (eqb (a .answer .number) 0)
-    (indexText (bodyIn s) (take (a .answer .count) (a .ratios)) (givenIndex t))
-    (refusedLine (a .answer .number) (a .answer .place))
+-- the check's refusal first, whatever the index
+unfoldable pub answerText : List ℕ → CheckAnswer → Run → List ℕ → List ℕ
+answerText s a q t = cond (eqb (a .number) 0) (indexText (bodyIn s) (q .ratios) (givenIndex t)) (refusedLine (a .number) (a .place))
 
 -- the program's whole output
 abbrev pub printed : List ℕ → List ℕ → List ℕ
-printed s t = answerText (take inputLimit s) (readInput s) t
+printed s t = answerText (take inputLimit s) (checkInput s) (runInput s) t

@@ -1,5 +1,5 @@
-// The explaining program: reads the record in the file that its first argument names, strictly and with no rate expected, and prints what the
-// ratio whose index is the second argument costs, and why; or the refusal.
+// The explaining program: reads the record in the file that its first argument names, with no rate expected, and prints what the ratio whose index
+// is the second argument costs, and why; or the refusal.
 ghost use mathlib.Core.Path.{_≡_};
 ghost use mathlib.Core.Bool.{true};
 ghost use Prim.Native.Nat.{_+_, _*_, _≤_, _<_, min};
@@ -198,8 +198,8 @@ fn print(input: &[u8], index: &[u8], out: &mut [u8]) -> usize
         return text::put_refused(out, 0, number, answer.place);
     }
     let count = answer.count as usize;
-    let used = answer.used as usize;
-    let body = used - body_size(&ratios[..count]);
+    let size = answer.size as usize;
+    let body = size - body_size(&ratios[..count]);
     let i = index_in(index);
     put_index(out, &ratios[..count], i, body)
 }

@@ -8,7 +8,8 @@ ghost use Rattle.ratio_format.specs.Lives.{freshLive, addAnswer, addOutput, add
 ghost use Rattle.ratio_format.specs.Stepping.{made, madeCursor, stepAnswer, stepCursor};
 ghost use Rattle.record_format.specs.Runs.{run, formOf};
 ghost use Rattle.record_format.specs.Writing.{writeAnswer, writeOutput};
-ghost use Rattle.record_format.specs.Reading.{readStrict, readOpen};
+ghost use Rattle.record_format.specs.Checking.{checked, checkNumber};
+ghost use Rattle.record_format.specs.Fetching.{readOpen, fetched};
 ghost use Rattle.record_format.specs.Moves.{moveOf};
 ghost use Rattle.reasons.specs.Reasons.{explained};
 ghost use Rattle.reasons.specs.Numbers.{reasonNumbers};
@@ -26,6 +27,8 @@ use ratio_format::AddAnswer;
 use ratio_format::Cursor;
 use ratio_format::Live;
 use reasons::ExplainAnswer;
+use record_format::CheckAnswer;
+use record_format::FetchAnswer;
 use record_format::MoveAnswer;
 use record_format::ReadAnswer;
 use record_format::WIDE_TAG;
@@ -74,19 +77,35 @@ pub extern "C" fn farigolenc_write(
     record_codec::write(rate, side, form_of(form), positions, ratios, out)
 }
 
-// Strict reading of a record.
+// Checks a record, with no output, and answers one number: 65,536 times the refusal's number plus its place, or the size of a sound record.
 #[no_mangle]
-pub extern "C" fn farigolenc_read_strict(
+pub extern "C" fn farigolenc_check(expected: u32, input: &[u8]) -> u32
+    ensures { λ r. ⌜ r ≡ checkNumber (checked expected (now (input .entry))) ⌝ }
+{
+    record_codec::check_number(expected, input)
+}
+
+// The same check, answered in full: rate, side, count, form and size.
+#[no_mangle]
+pub extern "C" fn farigolenc_describe(expected: u32, input: &[u8]) -> CheckAnswer
+    ensures { λ r. ⌜ r ≡ checked expected (now (input .entry)) ⌝ }
+{
+    record_codec::check(expected, input)
+}
+
+// Fetches the points of a record into the outputs.
+#[no_mangle]
+pub extern "C" fn farigolenc_fetch(
     expected: u32,
     input: &[u8],
     positions: &mut [u64],
     ratios: &mut [u64],
-) -> ReadAnswer
-    ensures { λ r. ⌜ (r ≡ readStrict expected (now (input .entry)) (now (positions .entry)) (now (ratios .entry)) .answer)
-        × (now (positions .exit) ≡ readStrict expected (now (input .entry)) (now (positions .entry)) (now (ratios .entry)) .positions)
-        × (now (ratios .exit) ≡ readStrict expected (now (input .entry)) (now (positions .entry)) (now (ratios .entry)) .ratios) ⌝ }
+) -> FetchAnswer
+    ensures { λ r. ⌜ (r ≡ fetched expected (now (input .entry)) (now (positions .entry)) (now (ratios .entry)) .answer)
+        × (now (positions .exit) ≡ fetched expected (now (input .entry)) (now (positions .entry)) (now (ratios .entry)) .positions)
+        × (now (ratios .exit) ≡ fetched expected (now (input .entry)) (now (positions .entry)) (now (ratios .entry)) .ratios) ⌝ }
 {
-    record_codec::read_strict(expected, input, positions, ratios)
+    record_codec::fetch(expected, input, positions, ratios)
 }
 
 // Open reading of a record.
@@ -130,17 +149,20 @@ pub extern "C" fn farigolenc_explain(ratios: &[u64], index: u64) -> ExplainAnswe
     reasons::explain_numbers(ratios, index)
 }
 
-// The differences of two records that are of no index, by what strict reading, with no rate expected and room for every run, answered of each. Any
-// other answers are taken as they stand.
+// The differences of two records that are of no index, by what a check of each, with no rate expected, answered in full. Any other answers are taken as
+// they stand.
 #[no_mangle]
-pub extern "C" fn farigolenc_compare_overall(first: ReadAnswer, second: ReadAnswer) -> OverallAnswer
+pub extern "C" fn farigolenc_compare_overall(
+    first: CheckAnswer,
+    second: CheckAnswer,
+) -> OverallAnswer
     ensures { λ r. ⌜ r ≡ overallNumbers (overallOf first second) ⌝ }
 {
     differences::overall_numbers(differences::overall_of(first, second))
 }
 
 // The difference between two runs' positions at an index; none at an index that not both have. Each slice is a run's positions and no more: of what a
-// reading was lent, the first `count` numbers.
+// fetch was lent, the first `count` numbers.
 #[no_mangle]
 pub extern "C" fn farigolenc_compare_positions(
     first: &[u64],

@@ -1,6 +1,5 @@
 -- Document 01, "Bytes to compare", and document 02, No. 2 and No. 3: the listing, as a statement about runs; proved in proofs/Claims, and PrintsListed
 -- in proofs/Claims/Examples.
---   listingOf r   the listing of the run r: its rate, its side unless that is 0, its count, its span, and each point
 --   PrintsRun     of input that begins with the record of an accepted run the program prints that run's listing, whatever follows
 --   PrintsListed  of document 01's 46 bytes it prints the output that document 01 gives in full, of the same run on side 4 that output with
 --                 `side 4` after the rate, of a run in the wide form the like, and of no input the line `refused 10 at 0`
@@ -11,16 +10,10 @@ use Prim.Native.Nat.{ℕ}
 use Rattle.record_format.specs.Claims.{Accepted, Beginning, Bytes}
 use Rattle.record_format.specs.Examples.{listedBytes, sidedBytes, pausedBytes}
 use Rattle.record_format.specs.Runs.{Run, recordOf}
-use Rattle.span.specs.Spans.{spanned}
 use Rattle.text.specs.Lines.{refusedLine}
-use Rattle.inputs.specs.Inputs.{readInput}
-use Rattle.listing.specs.Lines.{listing}
+use Rattle.inputs.specs.Inputs.{checkInput}
 use Rattle.listing.specs.Examples.{listedText, sidedText, pausedText, refusedText}
-use Rattle.listing.specs.Printed.{printed}
-
--- of a run
-abbrev pub listingOf : Run → List ℕ
-listingOf r = listing (r .rate) (r .side) (spanned (r .rate) (r .positions) .milliseconds) (r .positions) (r .ratios)
+use Rattle.listing.specs.Printed.{listingOf, printed}
 
 -- of its record
 abbrev pub PrintsRun : Type 0
@@ -29,7 +22,7 @@ PrintsRun = (r : Run) → Accepted r → (rest : List ℕ) → printed (recordOf
 -- of all else: the refusal of the bytes that the program reads
 abbrev pub PrintsOnly : Type 0
 PrintsOnly = (s : List ℕ) → Bytes s → ((r : Run) → Accepted r → Beginning (recordOf r) s → ⊥)
-    → let a = readInput s .answer in (a .number ≡ 0 → ⊥) × (printed s ≡ refusedLine (a .number) (a .place))
+    → let a = checkInput s in (a .number ≡ 0 → ⊥) × (printed s ≡ refusedLine (a .number) (a .place))
 
 -- document 01's example, the same on a side, a run in the wide form, and no input
 abbrev pub PrintsListed : Type 0

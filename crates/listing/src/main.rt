@@ -1,4 +1,4 @@
-// The listing program: reads a record from standard input, strictly and with no rate expected, and prints its run, or its refusal.
+// The listing program: reads a record from standard input, with no rate expected, and prints its run, or its refusal.
 ghost use mathlib.Core.Path.{_≡_};
 ghost use Prim.Native.Nat.{_+_, _*_, _≤_};
 ghost use lib.ListN.{length};

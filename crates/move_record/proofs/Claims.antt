@@ -1,18 +1,18 @@
 -- What the program does with the record of a run, with all else, and where it is called otherwise, proved of the definitions.
 use mathlib.Core.Bool.{Bool, true}
 use mathlib.Core.Path.{_≡_, refl, sym, ap, ap₂, _∙_}
-use mathlib.Core.List.{List, [], _++_, append-assoc}
+use mathlib.Core.List.{List, [], _++_}
 use Prim.Native.Nat.{ℕ, _-_, _≤_}
 use native.Mathlib.Omega.{arith}
 use borrow.Author.Tests.{ne-eqb}
-use lib.ListN.{length, take, drop, length-replicate, take-append-drop}
+use lib.ListN.{length, take, drop, length-replicate}
 use lib.Seq.{take-at}
 use Rattle.lists.proofs.Below.{below-take}
 use Rattle.refusals.specs.declared.Refusal.{Refusal}
 use Rattle.refusals.proofs.Tests.{firstOf-end}
 use Rattle.position_format.specs.declared.Form.{Form}
-use Rattle.record_format.specs.Claims.{Accepted, Beginning}
-use Rattle.record_format.specs.Moves.{Move, otherForm, inForm, moveOf}
+use Rattle.record_format.specs.Claims.{Accepted}
+use Rattle.record_format.specs.Moves.{otherForm, inForm, moveOf}
 use Rattle.record_format.specs.MoveClaims.{movedTo}
 use Rattle.record_format.specs.Runs.{Run, recordOf}
 use Rattle.record_format.specs.Sizes.{maxRecord}
@@ -21,7 +21,7 @@ use Rattle.record_format.proofs.Moves.{fits-target}
 use Rattle.record_format.proofs.Sizes.{within}
 use Rattle.record_format.proofs.Writing.{accepted-fits}
 use Rattle.inputs.specs.Inputs.{inputLimit}
-use Rattle.inputs.proofs.Inputs.{record-uncut}
+use Rattle.inputs.proofs.Inputs.{record-uncut, begins-whole}
 use Rattle.move_record.specs.declared.Word.{Word}
 use Rattle.move_record.specs.Words.{wordOf, argumentCount, isForm}
 use Rattle.move_record.specs.Printed.{blankRecord, moveInput, standardOutput, Response, moveResponse, responseTo, response}
@@ -57,17 +57,12 @@ moves-file n many f r a e b rest =
     ∙ ap moveResponse (moved f r a e b rest)
     ∙ ap₂ (λ (file line : List ℕ). answered true file line) (take-at q (drop (length q) blankRecord) (length q) refl) (sym (line-moved _ refl))
 
--- what the bytes that are read begin with the whole file begins with
-from-cut : (r : Run) (s : List ℕ) → Beginning (recordOf r) (take inputLimit s) → Beginning (recordOf r) s
-from-cut r s b =
-    (b .0 ++ drop inputLimit s, sym (take-append-drop inputLimit s) ∙ ap (λ (x : List ℕ). x ++ drop inputLimit s) (b .1) ∙ append-assoc (recordOf r) (b .0) (drop inputLimit s))
-
 pub refuses-file : RefusesFile
 refuses-file n many f s bytes never =
     let l = take inputLimit s in
     let a = moveOf f l blankRecord .answer in
     let low = below-take 256 inputLimit s bytes in
-    let no : (a .number ≡ 0 → ⊥) = λ e. (let m = moves-only f l blankRecord low e in never (m .0) (m .1) (m .2) (m .4) (from-cut (m .0) s (m .3))) in (
+    let no : (a .number ≡ 0 → ⊥) = λ e. (let m = moves-only f l blankRecord low e in never (m .0) (m .1) (m .2) (m .4) (begins-whole (recordOf (m .0)) s (m .3))) in (
       no,
       λ e. (let m = short-only f l blankRecord low e in let room = record-has-room (inForm f (m .0)) (m .4) in let short = m .5 in omega arith),
       asked n many f s

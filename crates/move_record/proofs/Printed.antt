@@ -11,7 +11,8 @@ use Rattle.outputs.specs.Outputs.{zeros, over}
 use Rattle.refusals.specs.Tests.{firstOf}
 use Rattle.position_format.specs.declared.Form.{Form}
 use Rattle.record_format.specs.declared.MoveAnswer.{MoveAnswer}
-use Rattle.record_format.specs.Moves.{Move, inForm, runIn, moveTests, moveOf}
+use Rattle.record_format.specs.Checking.{runIn}
+use Rattle.record_format.specs.Moves.{Move, inForm, moveTests, moveOf}
 use Rattle.record_format.specs.Runs.{recordOf}
 use Rattle.record_format.specs.Sizes.{maxRecord}
 use Rattle.record_format.proofs.MoveClaims.{moved-within}

@@ -8,18 +8,20 @@ use native.Mathlib.Omega.{arith}
 use lib.IntN.{ℤ}
 use lib.ListN.{length, getD}
 use Rattle.bits.specs.Digits.{bitsOf}
-use Rattle.limits.specs.Points.{maxPosition, firstHigh}
+use Rattle.limits.specs.Points.{maxPosition, tooHigh, firstHigh}
 use Rattle.limits.proofs.Points.{high-none}
 use Rattle.position_format.specs.declared.Form.{Form}
 use Rattle.position_format.specs.declared.Form.the-variants.{Old, Wide}
 use Rattle.position_format.specs.Rows.{Row, rows, wideRows, inTable, residue, codeIn, noRow, rowOf}
-use Rattle.position_format.specs.Steps.{stepHere}
+use Rattle.position_format.specs.Steps.{steps, outside, firstOutside, stepHere}
 use Rattle.position_format.specs.Positions.{validPositions}
 use Rattle.position_format.specs.Tables.{tableOf}
+use Rattle.lists.proofs.Lists.{first-le}
+use Rattle.position_format.proofs.Steps.{length-steps}
 use Rattle.position_format.proofs.Rows.{residue-lt}
 use Rattle.position_format.proofs.Rows.Codes.{code-row}
 use Rattle.position_format.proofs.Points.{valid-here}
-use Rattle.position_format.proofs.Positions.Valid.{valid-parts}
+use Rattle.position_format.proofs.Positions.Valid.{valid-parts, valid-of}
 use Rattle.position_format.proofs.Tables.WideRows.{every-step}
 use Rattle.position_codec.specs.declared.table.Code.{Code}
 use Rattle.position_codec.specs.Codes.{Coded, CodableStep, CodablePositions}
@@ -67,6 +69,15 @@ valid-codable Wide ts v = valid-range wideRows ts v
 pub codable-range : (f : Form) (ts : List ℕ) → CodablePositions f ts → length ts ≤ firstHigh ts
 codable-range Old ts v = valid-range rows ts v
 codable-range Wide ts low = low
+
+-- no step of such positions is outside the table, and where none is, positions in range are such
+pub codable-inside : (f : Form) (ts : List ℕ) → CodablePositions f ts → length ts ≤ firstOutside (tableOf f) ts
+codable-inside f ts c = omega (arith, valid-parts (tableOf f) ts (codable-valid f ts c) .1, length-steps ts)
+
+pub inside-codable : (f : Form) (ts : List ℕ) → length ts ≤ firstHigh ts → length ts ≤ firstOutside (tableOf f) ts → CodablePositions f ts
+inside-codable f ts low inside =
+    valid-codable f ts
+    (valid-of (tableOf f) ts (omega (arith, first-le tooHigh ts)) (omega (arith, length-steps ts, first-le (outside (tableOf f)) (steps ts))))
 
 -- each of their steps can be coded
 pub codable-here : (f : Form) (ts : List ℕ) (i : ℕ) → 2 ≤ i → i < length ts → CodablePositions f ts → CodableStep f (stepHere ts i)

@@ -6,16 +6,21 @@
 --   StepFound rs ds r          the step whose code the bits ds begin with, and how many bits that has, or that there is none
 --   PositionFound a b z r      the position after a and b whose step is z, or that there is none in range
 --   PointFound rs i a b ds r   the position that stands at the front of ds at point i, and how many bits it takes, or that there is none
-use mathlib.Core.Bool.{true, false}
+--   kept o i t                 the output o with the position t at index i, if it has room there
+--   FilledPart l b o p         the list l was put at the front of o, as far as that has room, and o is now p; or there is no such list
+use mathlib.Core.Bool.{Bool, true, false, cond}
 use mathlib.Core.List.{List}
+use mathlib.Core.Option.{Option, none, some}
 use mathlib.Core.Path.{_≡_}
 use Prim.Native.Nat.{ℕ, _*_, _^_, _≤_, _<_}
 use lib.IntN.{ℤ}
-use lib.ListN.{length, getD, take, drop}
+use lib.Dec.{ltb}
+use lib.ListN.{length, getD, set, take, drop}
 use Rattle.lists.specs.Compare.{begins}
 use Rattle.bits.specs.Digits.{bitsOf}
 use Rattle.bits.specs.Packing.{bits, ahead}
 use Rattle.limits.specs.Points.{maxPosition}
+use Rattle.outputs.specs.Outputs.{over}
 use Rattle.position_format.specs.Rows.{Row, inTable, reading, code, codeLength, noRow, rowOf}
 use Rattle.position_format.specs.Steps.{stepOf}
 use Rattle.position_format.specs.Points.{nextBits, Stands}
@@ -60,3 +65,12 @@ PositionFound a b z NoPosition = (t : ℕ) → t ≤ maxPosition → stepOf a b 
 abbrev pub PointFound : List Row → ℕ → ℕ → ℕ → List ℕ → GotPoint → Type 0
 PointFound rs i a b ds (Point t n) = Stands rs i a b ds t × (n ≡ length (nextBits rs i a b t))
 PointFound rs i a b ds NoPoint = (t : ℕ) → Stands rs i a b ds t → ⊥
+
+-- an output after the position t at index i
+abbrev pub kept : List ℕ → ℕ → ℕ → List ℕ
+kept o i t = cond (ltb i (length o)) (set o i t) o
+
+-- the list as far as the output has room
+abbrev pub FilledPart : Option (List ℕ) → Bool → List ℕ → List ℕ → Type 0
+FilledPart none b o p = b ≡ false
+FilledPart (some l) b o p = (b ≡ true) × (p ≡ over (take (length o) l) o)

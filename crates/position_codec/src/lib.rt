@@ -4,7 +4,11 @@
 mod table; // the tables of steps, and all that goes by their rows
 mod write; // positions written
 mod read; // positions read
+mod recode; // positions of one form coded in the other
 
+pub use read::check_positions;
 pub use read::get_positions;
+pub use recode::Recoded;
+pub use recode::recode_positions;
 pub use write::first_outside;
 pub use write::put_positions;

@@ -1,9 +1,11 @@
 // Positions read: point by point, each in the one form that it is written in, and then the fill.
+ghost use mathlib.Core.Bool.{not};
 ghost use mathlib.Core.List.{List};
 ghost use mathlib.Core.Path.{_≡_};
 ghost use Prim.Native.Nat.{ℕ, _+_, _-_, _*_, _/_, _%_, _^_, _≤_, _<_};
 ghost use lib.ListN.{length, take, drop, replicate};
 ghost use Rattle.lists.specs.Compare.{same};
+ghost use Rattle.lists.specs.Optional.{missing};
 ghost use Rattle.bits.specs.Digits.{numberOf};
 ghost use Rattle.bits.specs.Packing.{bits, fillOf};
 ghost use Rattle.limits.specs.Points.{maxPoints};
@@ -11,7 +13,7 @@ ghost use Rattle.outputs.specs.Outputs.{Filled};
 ghost use Rattle.position_format.specs.Rows.{Row};
 ghost use Rattle.position_format.specs.Tables.{tableOf};
 ghost use Rattle.position_format.specs.Positions.{readPositions};
-ghost use Rattle.position_codec.specs.Found.{InBody, Ahead, StepFound, PositionFound, PointFound};
+ghost use Rattle.position_codec.specs.Found.{InBody, Ahead, StepFound, PositionFound, PointFound, kept, FilledPart};
 use crate::table::GotStep;
 use crate::table::lead_of;
 use crate::table::short_step;
@@ -37,7 +39,7 @@ pub enum GotPoint {
 }
 
 // The last `width` of the first n bits of the word w.
-fn field_ahead(w: u64, n: usize, width: usize) -> u64
+pub(crate) fn field_ahead(w: u64, n: usize, width: usize) -> u64
     requires { ⌜ (0 < n) × (n ≤ 57) × (width ≤ n) ⌝ }
     ensures { λ r. ⌜ r ≡ w / 2 ^ (64 - n) % 2 ^ width ⌝ }
 {
@@ -143,11 +145,20 @@ fn is_fill(body: &[u8], at: usize) -> bool
     bits::get_bits(body, at, left) == 0
 }
 
-// The positions that the body is the coding of, in a form, are put at the front of the output, whose rest stays; or the body is no coding of so
-// many.
-pub fn get_positions(form: Form, body: &[u8], count: usize, out: &mut [u64]) -> bool
-    requires { ⌜ (count ≤ length (now out)) × (count ≤ maxPoints) ⌝ }
-    ensures { λ r. ⌜ Filled (readPositions (tableOf form) count (now (body .entry))) r (now (out .entry)) (now (out .exit)) ⌝ }
+// A position goes to index i of the output, if that has room there.
+fn keep(out: &mut [u64], i: usize, t: u64)
+    ensures { λ _. ⌜ now (out .exit) ≡ kept (now (out .entry)) i t ⌝ }
+{
+    if i < out.len() {
+        out[i] = t;
+    }
+}
+
+// Whether the body is the coding of so many positions in a form; they are put at the front of the output as far as that has room, and its rest
+// stays.
+fn walk_positions(form: Form, body: &[u8], count: usize, out: &mut [u64]) -> bool
+    requires { ⌜ count ≤ maxPoints ⌝ }
+    ensures { λ r. ⌜ FilledPart (readPositions (tableOf form) count (now (body .entry))) r (now (out .entry)) (now (out .exit)) ⌝ }
 {
     if MAX_BYTES < body.len() {
         return false;
@@ -160,11 +171,29 @@ pub fn get_positions(form: Form, body: &[u8], count: usize, out: &mut [u64]) -> 
         let GotPoint::Point(t, n) = get_point(form, body, at, i, a, b) else {
             return false;
         };
-        out[i] = t;
+        keep(out, i, t);
         a = b;
         b = t;
         at += n;
         i += 1;
     }
     is_fill(body, at)
+}
+
+// The positions that the body is the coding of, in a form, are put at the front of the output, whose rest stays; or the body is no coding of so
+// many.
+pub fn get_positions(form: Form, body: &[u8], count: usize, out: &mut [u64]) -> bool
+    requires { ⌜ (count ≤ length (now out)) × (count ≤ maxPoints) ⌝ }
+    ensures { λ r. ⌜ Filled (readPositions (tableOf form) count (now (body .entry))) r (now (out .entry)) (now (out .exit)) ⌝ }
+{
+    walk_positions(form, body, count, out)
+}
+
+// Whether the body is the coding of so many positions in a form: the same reading into no output, which keeps the last two positions only.
+pub fn check_positions(form: Form, body: &[u8], count: usize) -> bool
+    requires { ⌜ count ≤ maxPoints ⌝ }
+    ensures { λ r. ⌜ r ≡ not (missing (readPositions (tableOf form) count (now (body .entry)))) ⌝ }
+{
+    let mut none: [u64; 0] = [0; 0];
+    walk_positions(form, body, count, &mut none)
 }

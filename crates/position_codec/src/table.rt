@@ -137,7 +137,7 @@ fn modulo(z: i64, k: usize) -> u64
 }
 
 // The prefixes of the rows of a form's table.
-fn prefixes_of(form: Form) -> Prefixes
+pub(crate) fn prefixes_of(form: Form) -> Prefixes
     ensures { λ r. ⌜ ((i : ℕ) → i < length (tableOf form) → PrefixIs (getD (tableOf form) i noRow) (byteOf (r .values) i) (byteOf (r .lens) i)) ⌝ }
 {
     match form {

@@ -1,3 +1,4 @@
 pub mod Marks
 pub mod Taking
 pub mod Indexes
+pub mod Sliding

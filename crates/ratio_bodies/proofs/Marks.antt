@@ -14,10 +14,10 @@ use Rattle.ratio_format.specs.declared.Read.the-variants.{Ratio}
 use Rattle.ratio_format.specs.Windows.{windowSize, windowOf}
 use Rattle.ratio_format.specs.Choice.{find}
 use Rattle.ratio_format.specs.RatioForms.{coded}
-use Rattle.ratio_format.specs.Open.{openOne}
+use Rattle.ratio_format.specs.Open.{openOne, strictOne}
 use Rattle.ratio_format.proofs.Windows.{window-few}
 use Rattle.ratio_format.proofs.Choice.{find-first}
-use Rattle.ratio_codec.proofs.read.References.{named-begins, named-one, named-absent}
+use Rattle.ratio_codec.proofs.read.References.{named-begins, named-good, named-one, named-absent}
 use Rattle.ratio_format.proofs.Windows.Before.{window-inside, window-has, window-at, find-newest}
 use Rattle.ratio_search.specs.BytePlanes.{slots}
 use Rattle.ratio_bodies.specs.Marks.{slotOf, Last, Again, Marks}
@@ -65,6 +65,11 @@ module _ (ms l : List ℕ) (i v : ℕ) (marks : Marks ms l i) (h : i ≤ length 
         go : (t : Bool) → eqb m 0 ≡ t → t ≡ eqb (find v w) p
         go true f = sym (eq-eqb (find v w) p (smallest (eqb-true m 0 f)))
         go false f = sym (ne-eqb (find v w) p (other (eqb-false m 0 f)))
+
+    -- a reference to it, whose mark is 0, is read strictly
+    pub mark-accepts : (s : List ℕ) → 1 ≤ length s → getD s 0 0 ≡ p → m ≡ 0 → Ratio v 1 ≡ strictOne w s
+    mark-accepts s n is z =
+        named-good w v s (n, omega arith, ap (λ (q : ℕ). getD w q 0) is ∙ e) (window-few windowSize (take i l) .0) (smallest z ∙ sym is)
 
   -- one ratio more, v at the index i, with the marks ns: what each mark of an older ratio must be
   abbrev Kept : List ℕ → ℕ → Type 0
@@ -151,7 +156,7 @@ module _ (ms l : List ℕ) (i v : ℕ) (marks : Marks ms l i) (h : i ≤ length 
             λ z d. clash k x y z d q (ltb k j) refl,
           )
 
-      marks-named : Marks ns (set l i v) (i + 1)
+      pub marks-named : Marks ns (set l i v) (i + 1)
       marks-named =
           marks-step ns room (length-set (set ms at 1) (i % slots) 0 ∙ length-set ms at 1 ∙ marks .0)
           (getD-set-same (set ms at 1) (i % slots) 0 0 (omega (arith, length-set ms at 1, marks .0)))

@@ -1,10 +1,9 @@
-// One ratio of a list read by the open rule: where the longest form fits, by one test of room and one load for the middle of an xor form.
+// One ratio of a list read by the open rule: where the longest form fits, by one test of room and one load for an exception or the middle of an xor form.
 ghost use mathlib.Core.Path.{_≡_};
 ghost use Prim.Native.Nat.{_+_, _≤_};
 ghost use lib.ListN.{length, take, drop};
 ghost use Rattle.ratio_format.specs.Windows.{windowSize, windowOf};
 ghost use Rattle.ratio_format.specs.Open.{openXor, openOne};
-use bits::get_bytes;
 use bits::get_first;
 use ratio_codec::EXCEPTION;
 use ratio_codec::XOR;
@@ -48,7 +47,7 @@ fn open_ahead(ratios: &[u64], i: usize, body: &[u8], at: usize) -> Read
 {
     let b = body[at] as usize;
     if b == EXCEPTION {
-        return Read::Ratio(get_bytes(body, at + 1, 8), 9);
+        return Read::Ratio(get_first(body, at + 1, 8), 9);
     }
     let p = b % XOR;
     if i <= p {
@@ -71,22 +70,6 @@ pub(crate) fn open_from(ratios: &[u64], i: usize, body: &[u8], at: usize) -> Rea
 {
     if at + LONGEST <= body.len() {
         return open_ahead(ratios, i, body, at);
-    }
-    open_nth(ratios, i, body, at)
-}
-
-// The same with a shorter way for references, for a caller to which only they are cheap.
-pub(crate) fn open_near(ratios: &[u64], i: usize, body: &[u8], at: usize) -> Read
-    requires { ⌜ (i ≤ length (now ratios)) × (at ≤ length (now body)) ⌝ }
-    ensures { λ r. ⌜ r ≡ openOne (windowOf windowSize (take i (now (ratios .entry)))) (drop at (now (body .entry))) ⌝ }
-{
-    if at < body.len() {
-        let b = body[at] as usize;
-        if b < Window::SIZE {
-            if b < i {
-                return Read::Ratio(ratios[i - 1 - b], 1);
-            }
-        }
     }
     open_nth(ratios, i, body, at)
 }

@@ -11,10 +11,14 @@
 // which needs no planes.
 //
 // Marks (strict.rt): in strict reading a mark says of each ratio of the window whether a later one is equal. A reference is the one that is
-// written where the mark of its ratio is not set. Of any other form the head must be that of the form which the writer chooses.
+// written where the mark of its ratio is not set. Of any other form the head must be that of the form which the writer chooses. References
+// that follow one another are read in a loop of their own.
 //
-// Ahead (ahead.rt): where ten bytes are left, the most that a form has, open reading needs one test of room for a ratio, and takes the
-// middle of an xor form by one load of eight bytes.
+// Stretches (stretch.rt, through.rt): one loop reads ratios strictly, into an output or, where none is wanted, into an array of fixed size that
+// is used again.
+//
+// Ahead (ahead.rt): where ten bytes are left, the most that a form has, reading needs one test of room for a ratio, and takes an exception or
+// the middle of an xor form by one load of eight bytes.
 ghost use mathlib.Core.Path.{_≡_};
 ghost use mathlib.Core.List.{[], _∷_};
 ghost use Prim.Native.Nat.{_-_, _≤_, _<_};
@@ -27,16 +31,17 @@ ghost use Rattle.ratio_format.specs.Windows.{windowSize, windowOf};
 ghost use Rattle.ratio_format.specs.RatioForms.{coded};
 ghost use Rattle.ratio_format.specs.Bodies.{codedRatios, openTaken, strictTaken};
 ghost use Rattle.ratio_search.specs.BytePlanes.{Planes};
-ghost use Rattle.ratio_bodies.specs.Taking.{TakenInto};
+ghost use Rattle.ratio_bodies.specs.Taking.{tookOf, TakenInto};
 
 mod ahead;
 mod choice;
 mod index;
 mod repeats;
+mod stretch;
 mod strict;
+mod through;
 
 use ahead::open_from;
-use ahead::open_near;
 use choice::choose_nth;
 use choice::refresh;
 use index::KEYS;
@@ -47,10 +52,12 @@ use ratio_codec::write::put_ratio_form;
 use ratio_codec::write::put_reference;
 use ratio_format::Read;
 use ratio_search::CELLS;
-use ratio_search::SLOTS;
 use repeats::put_repeats;
-use strict::accepts;
-use strict::mark;
+use through::ROOM;
+use through::read_through;
+
+// With at most so many ratios wanted a small array does.
+const SHORT: usize = 64;
 
 // Ratio i is coded at the front of the output, against the ratios before it; `place` is its place in the window, if the index knows one.
 fn put_nth(planes: &[u8; CELLS], ratios: &[u64], i: usize, place: usize, out: &mut [u8]) -> Wrote
@@ -116,29 +123,38 @@ pub fn get_strict(body: &[u8], count: usize, out: &mut [u64]) -> Took
     requires { ⌜ count ≤ length (now out) ⌝ }
     ensures { λ r. ⌜ TakenInto (strictTaken count (now (body .entry))) r (now (out .entry)) (now (out .exit)) ⌝ }
 {
-    let mut planes = [0; CELLS];
-    let mut again = [0; SLOTS];
-    let mut done: usize = 0;
-    let mut at: usize = 0;
-    let mut i: usize = 0;
-    while i < count {
-        let r = open_near(out, i, body, at);
-        let Read::Ratio(v, n) = r else {
-            return Took { count: i, used: at };
-        };
-        done = refresh(&mut planes, out, done, i, n == 1);
-        if !accepts(&planes, &again, out, i, v, n, body, at) {
-            return Took { count: i, used: at };
-        }
-        mark(&mut again, i, n, body, at);
-        out[i] = v;
-        at += n;
-        i += 1;
-    }
-    Took { count: i, used: at }
+    read_through(body, count, out)
 }
 
-// The same by the open rule, up to the first bytes that it does not read.
+// What `count_strict` answers of many ratios: they are read through an array that is used again.
+fn count_long(body: &[u8], count: usize) -> Took
+    ensures { λ r. ⌜ r ≡ tookOf (strictTaken count (now (body .entry))) ⌝ }
+{
+    let mut ratios = [0; ROOM];
+    read_through(body, count, &mut ratios)
+}
+
+// What it answers of few: a small array is sooner cleared.
+fn count_short(body: &[u8], count: usize) -> Took
+    requires { ⌜ count ≤ 64 ⌝ }
+    ensures { λ r. ⌜ r ≡ tookOf (strictTaken count (now (body .entry))) ⌝ }
+{
+    let mut ratios = [0; SHORT];
+    get_strict(body, count, &mut ratios)
+}
+
+// How many ratios strict reading takes from the front of the body, at most `count`, and how many bytes they use: with no output, in memory of a
+// fixed size.
+pub fn count_strict(body: &[u8], count: usize) -> Took
+    ensures { λ r. ⌜ r ≡ tookOf (strictTaken count (now (body .entry))) ⌝ }
+{
+    if count <= SHORT {
+        return count_short(body, count);
+    }
+    count_long(body, count)
+}
+
+// Ratios are read into the output by the open rule, up to the first bytes that it does not read.
 pub fn get_open(body: &[u8], count: usize, out: &mut [u64]) -> Took
     requires { ⌜ count ≤ length (now out) ⌝ }
     ensures { λ r. ⌜ TakenInto (openTaken count (now (body .entry))) r (now (out .entry)) (now (out .exit)) ⌝ }

@@ -1,15 +1,18 @@
-// Whether bytes that were read as a ratio are those that are written for it. Marks say which ratios of the window occur again later in it.
+// Whether bytes that were read as a ratio are those that are written for it, and references read strictly. Marks say which ratios of the window
+// occur again later in it.
 ghost use mathlib.Core.Path.{_≡_};
-ghost use Prim.Native.Nat.{_-_, _%_, _≤_, _<_};
+ghost use Prim.Native.Nat.{_+_, _-_, _%_, _≤_, _<_};
 ghost use lib.ListN.{length, take, drop, getD, set};
 ghost use Rattle.lists.specs.Compare.{begins};
 ghost use Rattle.ratio_format.specs.Windows.{windowSize, windowOf};
 ghost use Rattle.ratio_format.specs.RatioForms.{coded};
-ghost use Rattle.ratio_format.specs.Open.{openOne};
+ghost use Rattle.ratio_format.specs.Open.{openOne, strictOne};
 ghost use Rattle.ratio_format.specs.declared.Read.the-variants.{Ratio};
 ghost use Rattle.ratio_search.specs.BytePlanes.{slots, Planes};
 ghost use Rattle.ratio_bodies.specs.Marks.{Marks, slotOf};
+ghost use Rattle.ratio_bodies.specs.Taking.{Taking};
 use super::choice::choose_nth;
+use super::index::NONE;
 use ratio_codec::read::has_head;
 use ratio_search::CELLS;
 use ratio_search::SLOTS;
@@ -61,4 +64,53 @@ pub(crate) fn mark(again: &mut [u8; SLOTS], i: usize, n: usize, body: &[u8], at:
         return;
     }
     again[i % SLOTS] = 0;
+}
+
+// The place that the byte at the offset `at` names, where strict reading takes that byte as ratio i; NONE otherwise.
+fn reference_at(again: &[u8; SLOTS], i: usize, body: &[u8], at: usize) -> usize
+    ensures { λ r. ⌜ (r < windowSize → (at < length (now (body .entry))) × (getD (now (body .entry)) at 0 ≡ r) × (r < i)
+        × (getD (now (again .entry)) (slotOf i r) 0 ≡ 0)) ⌝ }
+{
+    if body.len() <= at {
+        return NONE;
+    }
+    let place = body[at] as usize;
+    if NONE <= place {
+        return NONE;
+    }
+    if i <= place {
+        return NONE;
+    }
+    let slot = slot_of(i, body, at);
+    if again[slot] != 0 {
+        return NONE;
+    }
+    place
+}
+
+// References are read strictly from the offset `at` on, as ratio i and those after it, up to the index `to` or up to the first byte that strict
+// reading takes as no reference. The answer is how many they are. This loop has few variables, so that all of them stay in registers.
+pub(crate) fn get_references(
+    again: &mut [u8; SLOTS],
+    ratios: &mut [u64],
+    i: usize,
+    to: usize,
+    body: &[u8],
+    at: usize,
+) -> usize
+    requires { ⌜ (i ≤ to) × (to ≤ length (now ratios)) × (at ≤ length (now body)) × Marks (now again) (now ratios) i ⌝ }
+    ensures { λ r. ⌜ Taking strictOne to (now (body .entry)) (now (ratios .entry)) i at (now (ratios .exit)) (at + r) (i + r)
+        × Marks (now (again .exit)) (now (ratios .exit)) (i + r) ⌝ }
+{
+    let mut k: usize = 0;
+    while i + k < to {
+        let place = reference_at(again, i + k, body, at + k);
+        if NONE <= place {
+            return k;
+        }
+        mark(again, i + k, 1, body, at + k);
+        ratios[i + k] = ratios[i + k - 1 - place];
+        k += 1;
+    }
+    k
 }

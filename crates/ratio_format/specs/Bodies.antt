@@ -8,6 +8,7 @@
 --   strictRatios n s       the n ratios that the bytes s are the coding of, or nothing
 --   Taken                  what reading takes from the front of bytes: the ratios, and how many bytes they used
 --   noneTaken, andTaken    no ratio; a ratio and its bytes before what the rest gives; onTaken: what follows a ratio, or none
+--   afterTaken vs k t      the ratios vs, of k bytes, before what t has
 --   takenFrom r size w n s the ratios that the rule r reads one by one from the bytes s, at most n, up to the first that it does not read
 --   openTaken n s          by the open rule, from a fresh window of our size
 --   strictTaken n s        strictly
@@ -79,6 +80,10 @@ noneTaken = record { ratios = []; used = 0 }
 -- the ratio v of k bytes, and the rest
 abbrev pub andTaken : ℕ → ℕ → Taken → Taken
 andTaken v k t = record { ratios = v ∷ t .ratios; used = k + t .used }
+
+-- the ratios vs of k bytes, and the rest
+abbrev pub afterTaken : List ℕ → ℕ → Taken → Taken
+afterTaken vs k t = record { ratios = vs ++ t .ratios; used = k + t .used }
 
 -- what follows a ratio that was read; none is taken where none was
 abbrev pub onTaken : Read → (ℕ → ℕ → Taken) → Taken

@@ -58,7 +58,7 @@ fn old_steps(positions: &[u64]) -> Refusal
 }
 
 // The same in a form: the wide one has a code for every step.
-pub(crate) fn check_steps(form: Form, positions: &[u64]) -> Refusal
+fn check_steps(form: Form, positions: &[u64]) -> Refusal
     requires { ⌜ (length (now positions) ≤ firstHigh (now positions)) × (length (now positions) ≤ maxPoints) ⌝ }
     ensures { λ r. ⌜ r ≡ firstOf (outsideTests form (now (positions .entry))) ⌝ }
 {

@@ -3,24 +3,20 @@ pub mod Trailing
 pub mod Returned
 pub mod Admitted
 use mathlib.Core.Path.{_≡_, refl, sym, ap, ap₂, _∙_}
-use mathlib.Core.Bool.{Bool, true, false, not, cond, false≢true}
+use mathlib.Core.Bool.{Bool, true, not, false≢true}
 use mathlib.Core.List.{List, [], _∷_, _++_, append-nil, append-assoc}
-use mathlib.Core.Logic.{_⊎_, inl}
 use mathlib.Core.Option.{Option}
 use Prim.Native.Nat.{ℕ, zero, suc, _≤_, _<_}
 use native.Mathlib.Omega.{arith}
-use borrow.Author.Tests.{le-ltb}
-use lib.Dec.{eqb, lit<, lit≤}
+use lib.Dec.{eqb, lit<}
 use lib.ListN.{length, drop}
 use Rattle.lists.specs.Below.{Below}
-use Rattle.lists.proofs.Lists.{every}
 use Rattle.lists.specs.Optional.{listOf}
+use Rattle.lists.proofs.Lists.{every}
 use Rattle.bits.specs.Digits.{bytesOf, numberOf}
 use Rattle.bits.proofs.Digits.{number-digits-lt}
 use Rattle.limits.proofs.Rates.{rate-high}
-use Rattle.refusals.specs.Tests.{Test, firstOf}
-use Rattle.refusals.proofs.Tests.{firstOf-skip, firstOf-clear}
-use Rattle.outputs.specs.Outputs.{over}
+use Rattle.refusals.specs.Tests.{firstOf}
 use Rattle.position_format.specs.declared.Form.{Form}
 use Rattle.position_format.specs.declared.Form.the-variants.{Old, Wide}
 use Rattle.position_format.specs.Positions.{codedPositions, readPositions}
@@ -30,26 +26,25 @@ use Rattle.position_format.proofs.Tables.{table-good}
 use Rattle.ratio_format.specs.Windows.{windowSize}
 use Rattle.ratio_format.specs.Bodies.{codedRatios, openRatios, strictRatios}
 use Rattle.ratio_format.proofs.Bodies.{nine-bytes}
-use Rattle.ratio_format.proofs.Bodies.ReadFrom.{open-coded}
 use Rattle.ratio_format.proofs.Open.Shortest.{shortest}
 use Rattle.ratio_format.proofs.Bodies.Strict.{strict-coded}
 use Rattle.record_format.specs.Fields.{Field, fieldBytes, laid}
 use Rattle.record_format.specs.Runs.{Run, formOf, ratiosTag, rateSize, countSize, sideFields, positionsField, ratiosField, frontFields, fieldsOf, recordOf}
 use Rattle.record_format.specs.Writing.{runTests, accepts}
-use Rattle.record_format.specs.Reading.{Answer, refusalAnswer, recordAnswer, answerBy, readTests, readWith, readStrict, readOpen, blank, formIn}
+use Rattle.record_format.specs.Reading.{endAt}
+use Rattle.record_format.specs.Checking.{found, checkNumber}
+use Rattle.record_format.specs.Fetching.{readWith, asFetched}
 use Rattle.record_format.specs.Moves.{Move, moveOf}
-use Rattle.record_format.specs.Claims.{Accepted, AllAccepted, joined, ownTests, ownAnswer, runAnswer, ReadsBack, ReadsOnly, AcceptsExactly, OpenAgrees, Writes, ReadsWhole, ReadsFront, PrefixFree, ListsApart, TrailingBytes, Shortest, NineEach, countPlace, positionsPlace, FieldPlaces}
+use Rattle.record_format.specs.Claims.{Accepted, AllAccepted, joined, Writes, PrefixFree, ListsApart, TrailingBytes, Shortest, NineEach, countPlace, positionsPlace, FieldPlaces}
 use Rattle.record_format.proofs.Fields.{fieldIn, closed, closed-append, laid-same}
-use Rattle.record_format.proofs.Reading.{room-enough, answer-clear, answer-good, other-rate-not, other-rate-none}
 use Rattle.record_format.proofs.Runs.{same-run, form-of, rateIndex, countIndex, positionsIndex, ratiosIndex, fields-small}
-use Rattle.record_format.proofs.Reading.Rooms.{roomy}
 use Rattle.record_format.proofs.Reading.Sides.{sides-same}
-use Rattle.record_format.proofs.Claims.Returned.{read-record}
-use Rattle.record_format.proofs.Claims.Admitted.{front-stands, accepted-begins}
+use Rattle.record_format.proofs.Claims.Returned.{at-end}
+use Rattle.record_format.proofs.Claims.Trailing.{followed}
 use Rattle.record_format.proofs.Moves.{own-move, own-form}
-use Rattle.record_format.proofs.Writing.{Fitting, accepted-fits, fitting-accepted, fitting-few, accepts-clear, clear-accepts, run-refused, run-no-room, run-written}
+use Rattle.record_format.proofs.Writing.{Fitting, accepted-fits, fitting-few, accepts-clear, clear-accepts, run-refused, run-no-room, run-written}
 
--- ---- demand 1, and writing
+-- ---- writing
 
 pub writes : Writes
 unfolding accepts
@@ -62,117 +57,12 @@ writes r o = (
   λ e room. let h = run-written r o (accepts-clear r e) room in (sym (h .0), sym (h .1)),
 )
 
--- a refused reading is the answer of its refusal
-pub refused-reading : (tests : List Test) (a : Answer) (ts vs : List ℕ) → (answerBy tests a ts vs .answer .number ≡ 0 → ⊥) → a .answer .number ≡ 0
-    → answerBy tests a ts vs ≡ refusalAnswer (firstOf tests) ts vs
-refused-reading tests a ts vs d z = go (eqb (firstOf tests .number) 0) refl
-  where
-    go : (b : Bool) → eqb (firstOf tests .number) 0 ≡ b → answerBy tests a ts vs ≡ refusalAnswer (firstOf tests) ts vs
-    go true e = absurd (d (rw e z))
-    go false e = rw e
-
-pub reads-whole : ReadsWhole
-unfolding readWith
-reads-whole k e s ts vs d =
-    let tests = readTests k e s (length ts) (length vs) in
-    let q = refused-reading tests (recordAnswer k s ts vs) ts vs d refl in
-    rw q (refl, refl, refl)
-
--- ---- demand 2
-
-pub reads-back : ReadsBack
-unfolding Below
-reads-back r a e rest ts vs =
-    let f = accepted-fits r (a .passes) in
-    (read-record r f rest strictRatios (strict-coded (r .ratios) (a .words)) e ts vs, read-record r f rest openRatios (open-coded windowSize (lit≤ tt) [] (r .ratios) (lit≤ tt) tt (a .words)) e ts vs)
-
--- an answer with number 0 is the run's own
-own-of : (r : Run) (e : ℕ) (ts vs : List ℕ) → runAnswer r e ts vs .answer .number ≡ 0 → runAnswer r e ts vs ≡ ownAnswer r ts vs
-own-of r e ts vs h =
-    let z = answer-clear (ownTests r e (length ts) (length vs)) (ownAnswer r ts vs) ts vs h in
-    rw z
-
--- and a reading with number 0 comes of no refusal
-reading-clear : (k : ℕ → List ℕ → Option (List ℕ)) (e : ℕ) (s ts vs : List ℕ) → readWith k e s ts vs .answer .number ≡ 0
-    → firstOf (readTests k e s (length ts) (length vs)) .number ≡ 0
-unfolding readWith
-reading-clear k e s ts vs h = answer-clear (readTests k e s (length ts) (length vs)) (recordAnswer k s ts vs) ts vs h
-
 pub field-places : FieldPlaces
 field-places = ((refl, refl), go)
   where
     go : (d : ℕ) → 0 < d → (countPlace d ≡ 11) × (positionsPlace d ≡ 16)
     go zero h = absurd (omega arith)
     go (suc d) h = (refl, refl)
-
-pub reads-only : ReadsOnly
-reads-only e s ts vs bytes h =
-    let b = accepted-begins e s ts vs bytes h in
-    let r = b .own in
-    let a : Accepted r = record { words = b .ratios; passes = fitting-accepted r (b .fits) } in
-    let q : readStrict e s ts vs ≡ runAnswer r e ts vs = ap (λ (l : List ℕ). readStrict e l ts vs) (b .splits) ∙ reads-back r a e (b .rest) ts vs .0 in
-    (r, a, (b .rest, b .splits), q ∙ own-of r e ts vs (sym (ap (λ (x : Answer). x .answer .number) q) ∙ h))
-
-module _ (r : Run) (e : ℕ) (ts vs : List ℕ) where
-  -- the tests of a run's record refuse nothing exactly where no other rate is expected and there is room
-  own-clear : (e ≡ 0) ⊎ (e ≡ r .rate) → length (r .positions) ≤ length ts → length (r .positions) ≤ length vs → runAnswer r e ts vs ≡ ownAnswer r ts vs
-  own-clear o m n =
-      answer-good (ownAnswer r ts vs) ts vs (ownTests r e (length ts) (length vs))
-      (firstOf-skip _ _ (other-rate-not e (r .rate) o)
-      ∙ firstOf-skip _ _ (ap₂ (λ (a b : Bool). cond a true b) (le-ltb _ _ m) (le-ltb _ _ n)))
-
-  own-only : runAnswer r e ts vs .answer .number ≡ 0 → ((e ≡ 0) ⊎ (e ≡ r .rate)) × (length (r .positions) ≤ length ts) × (length (r .positions) ≤ length vs)
-  own-only h =
-      let a = firstOf-clear _ _ (lit< tt) (answer-clear (ownTests r e (length ts) (length vs)) (ownAnswer r ts vs) ts vs h) in
-      let b = firstOf-clear _ _ (lit< tt) (a .1) in
-      let c = room-enough (length ts) (length vs) (length (r .positions)) (b .0) in
-      (other-rate-none e (r .rate) (a .0), c .0, c .1)
-
--- with room, and no other rate expected, the answer is the run's own
-pub with-room : (r : Run) (ts vs : List ℕ) → length (r .positions) ≤ length ts → length (r .positions) ≤ length vs → runAnswer r 0 ts vs ≡ ownAnswer r ts vs
-with-room r ts vs m n = own-clear r 0 ts vs (inl refl) m n
-
--- so with room for every run
-pub reads-blank : (r : Run) → Accepted r → (rest : List ℕ) → readStrict 0 (recordOf r ++ rest) blank blank ≡ ownAnswer r blank blank
-reads-blank r a rest =
-    let few = fitting-few r (accepted-fits r (a .passes)) in
-    reads-back r a 0 rest blank blank .0 ∙ with-room r blank blank (roomy (length (r .positions)) few) (roomy (length (r .positions)) few)
-
-pub accepts-exactly : AcceptsExactly
-accepts-exactly e s ts vs bytes = (
-  λ h.
-      let o = reads-only e s ts vs bytes h in
-      let r = o .0 in
-      let q : readStrict e s ts vs ≡ runAnswer r e ts vs = ap (λ (l : List ℕ). readStrict e l ts vs) (o .2 .1) ∙ reads-back r (o .1) e (o .2 .0) ts vs .0 in
-      let k = own-only r e ts vs (sym (ap (λ (x : Answer). x .answer .number) q) ∙ h) in
-      (r, o .1, o .2, k .0, k .1, k .2),
-  λ b.
-      let r : Run = b .0 in
-      let q : readStrict e s ts vs ≡ ownAnswer r ts vs =
-      ap (λ (l : List ℕ). readStrict e l ts vs) (b .2 .1)
-      ∙ reads-back r (b .1) e (b .2 .0) ts vs .0
-      ∙ own-clear r e ts vs (b .3) (b .4) (b .5) in
-      ap (λ (x : Answer). x .answer .number) q,
-)
-
-pub open-agrees : OpenAgrees
-open-agrees e s ts vs bytes h =
-    let o = reads-only e s ts vs bytes h in
-    let b = reads-back (o .0) (o .1) e (o .2 .0) ts vs in
-    ap (λ (l : List ℕ). readOpen e l ts vs) (o .2 .1) ∙ b .1 ∙ sym (b .0) ∙ ap (λ (l : List ℕ). readStrict e l ts vs) (sym (o .2 .1))
-
--- an answer with number 0 is the record's
-record-of : (k : ℕ → List ℕ → Option (List ℕ)) (e : ℕ) (s ts vs : List ℕ) → firstOf (readTests k e s (length ts) (length vs)) .number ≡ 0
-    → readWith k e s ts vs ≡ recordAnswer k s ts vs
-unfolding readWith
-record-of k e s ts vs z = rw z
-
-pub reads-front : ReadsFront
-reads-front k e s ts vs bytes h =
-    let clear = reading-clear k e s ts vs h in
-    let f = front-stands k e s (length ts) (length vs) bytes clear in
-    rw (record-of k e s ts vs clear)
-    (formIn s, f .points, refl, f .many, ap (λ (o : Option (List ℕ)). over (listOf o) ts) (f .read), f .listed, f .sided, f .few, f .valid, (f .rest, f .splits))
 
 -- ---- demand 3
 
@@ -270,12 +160,23 @@ moved-own r a f o = by-form f (r .form) refl
     by-form Wide Old e = (_, λ rest. own-move Wide r fit (a .words) rest e o)
     by-form Wide Wide e = (_, λ rest. own-form Wide r fit rest e o)
 
+-- every reading of the record alone and with what follows
+module _ (r : Run) (a : Accepted r) (e : ℕ) (rest ts vs : List ℕ) where
+  framed : endAt (recordOf r) ≤ length (recordOf r)
+  framed =
+      let alone = append-nil (recordOf r) in
+      omega (arith, sym (ap endAt alone) ∙ at-end r (accepted-fits r (a .passes)) [])
+
+  reads-same : (k : ℕ → List ℕ → Option (List ℕ)) → (found k e (recordOf r ++ rest) ≡ found k e (recordOf r)) × (readWith k e (recordOf r ++ rest) ts vs ≡ readWith k e (recordOf r) ts vs)
+  reads-same k = let h = followed k e (recordOf r) rest framed in (h .0, h .2 ts vs)
+
 pub trailing-bytes : TrailingBytes
 trailing-bytes r a e rest ts vs =
-    let x = reads-back r a e rest ts vs in
-    let y = reads-back r a e [] ts vs in (
-      x .0 ∙ sym (y .0) ∙ ap (λ (l : List ℕ). readStrict e l ts vs) (append-nil (recordOf r)),
-      x .1 ∙ sym (y .1) ∙ ap (λ (l : List ℕ). readOpen e l ts vs) (append-nil (recordOf r)),
+    let strict = reads-same r a e rest ts vs strictRatios in (
+      strict .0,
+      ap checkNumber (strict .0),
+      ap asFetched (strict .1),
+      reads-same r a e rest ts vs openRatios .1,
       λ f o. let m = moved-own r a f o in m .1 rest ∙ sym (m .1 []) ∙ ap (λ (l : List ℕ). moveOf f l o) (append-nil (recordOf r)),
     )
 

@@ -1,5 +1,5 @@
 -- Records without a side in the old form are those of document 01.
-use mathlib.Core.Path.{_≡_, refl, sym, ap, _∙_}
+use mathlib.Core.Path.{_≡_, refl, ap, subst, _∙_}
 use mathlib.Core.Bool.{Bool, true, cond}
 use mathlib.Core.List.{List, _++_}
 use Prim.Native.Nat.{ℕ}
@@ -11,11 +11,15 @@ use Rattle.limits.specs.Rates.{isRate}
 use Rattle.refusals.specs.Tests.{refusal, firstOf}
 use Rattle.refusals.proofs.Tests.{firstOf-clear}
 use Rattle.record_format.specs.Runs.{run, recordOf}
-use Rattle.record_format.specs.Reading.{readStrict, readOpen}
 use Rattle.record_format.specs.Claims.{Accepted}
+use Rattle.record_format.specs.CheckClaims.{ChecksBack}
+use Rattle.record_format.specs.FetchClaims.{FetchesBack}
+use Rattle.record_format.specs.OpenReading.{OpensBack}
 use Rattle.record_format.specs.FourFields.{fourTests, SameRecord, RefusesBySide, ReadsAsZero}
 use Rattle.record_format.proofs.Writing.{refuses-by-form, clear-accepts}
-use Rattle.record_format.proofs.Claims.{reads-back}
+use Rattle.record_format.proofs.CheckClaims.{checks-record}
+use Rattle.record_format.proofs.FetchClaims.{fetches-record}
+use Rattle.record_format.proofs.OpenReading.{opens-record}
 
 pub same-record : SameRecord
 unfolding recordOf
@@ -31,8 +35,8 @@ listed-clear r ts vs clear = not-false _ (firstOf-clear _ _ (lit< tt) clear .0)
 pub reads-as-zero : ReadsAsZero
 reads-as-zero r ts vs words clear e rest ps qs =
     let own = run r 0 Old ts vs in
-    let a : Accepted own = record { words = words; passes = clear-accepts own (ap (λ (f : Refusal). f .number) (refuses-by-side r 0 ts vs) ∙ ap (λ (b : Bool). cond b (firstOf (fourTests r ts vs)) (refusal 1 0) .number) (listed-clear r ts vs clear) ∙ clear) } in
-    let h = reads-back own a e rest ps qs in (
-      ap (λ (l : List ℕ). readStrict e (l ++ rest) ps qs) (sym (same-record r ts vs)) ∙ h .0,
-      ap (λ (l : List ℕ). readOpen e (l ++ rest) ps qs) (sym (same-record r ts vs)) ∙ h .1,
+    let a : Accepted own = record { words = words; passes = clear-accepts own (ap (λ (f : Refusal). f .number) (refuses-by-side r 0 ts vs) ∙ ap (λ (b : Bool). cond b (firstOf (fourTests r ts vs)) (refusal 1 0) .number) (listed-clear r ts vs clear) ∙ clear) } in (
+      subst (λ (l : List ℕ). ChecksBack own e (l ++ rest)) (same-record r ts vs) (checks-record own a e rest),
+      subst (λ (l : List ℕ). FetchesBack own e (l ++ rest) ps qs) (same-record r ts vs) (fetches-record own a e rest ps qs),
+      subst (λ (l : List ℕ). OpensBack own e (l ++ rest) ps qs) (same-record r ts vs) (opens-record own a e rest ps qs),
     )

@@ -1,17 +1,16 @@
 -- What moves do, proved of the definitions.
 use mathlib.Core.Path.{_≡_, refl, sym, ap, _∙_, subst}
-use mathlib.Core.Bool.{Bool, true, false, cond}
+use mathlib.Core.Bool.{Bool, true, false, cond, false≢true}
 use mathlib.Core.List.{List, [], _∷_, _++_, append-nil}
 use mathlib.Core.Logic.{_⊎_, inl, inr}
 use Prim.Native.Nat.{ℕ, zero, suc, _+_, _-_, _≤_, _<_}
 use native.Mathlib.Nat.{add-zero}
 use native.Mathlib.Omega.{arith}
 use borrow.Author.Tests.{eqb-true, le-ltb, lt-ltb, leb-true, leb-false, ltb-false}
-use lib.Dec.{ltb, leb, eqb, lit<, eqb·suc-zero}
+use lib.Dec.{ltb, leb, eqb, lit<}
 use lib.ListN.{length, getD, take, drop, length-drop}
 use lib.Seq.{take-at, getD-drop}
 use Rattle.lists.proofs.Compare.{both-true}
-use Rattle.limits.specs.Points.{maxPoints}
 use Rattle.refusals.specs.declared.Refusal.{Refusal}
 use Rattle.refusals.specs.Tests.{Test, test, refusal, firstOf}
 use Rattle.refusals.proofs.Tests.{firstOf-here, firstOf-skip, firstOf-end, firstOf-clear, firstOf-append-clear}
@@ -23,16 +22,22 @@ use Rattle.position_format.proofs.Points.{outside-here, outside-later}
 use Rattle.ratio_format.specs.Bodies.{strictRatios}
 use Rattle.record_format.specs.Fields.{headSize, tagAt}
 use Rattle.record_format.specs.Runs.{Run, positionsTag, recordOf}
-use Rattle.record_format.specs.Reading.{Answer, recordAnswer, readTests, readStrict, readWith, positionsAt, rateIn, sideIn, countIn, frontTests}
-use Rattle.record_format.specs.Moves.{Move, otherForm, inForm, runIn, sourceTests, targetTests, moveTests, moveOf}
-use Rattle.record_format.specs.Claims.{Accepted, Bytes, Beginning, ownTests, runAnswer}
-use Rattle.record_format.specs.MoveClaims.{notMoved, movedTo, ByRoom, ToWide, StepHeld, ToOld, FormThere, StrictFirst, MovesOnly, MovesBack, ReadsAlike, MovesWhole}
-use Rattle.record_format.proofs.Reading.{front-numbered}
+use Rattle.record_format.specs.Reading.{positionsAt, rateIn, sideIn, countIn, otherRate, frontTests, recordTests}
+use Rattle.record_format.specs.Checking.{runIn, checked}
+use Rattle.record_format.specs.Fetching.{lacksRoom, fetched}
+use Rattle.record_format.specs.Moves.{Move, otherForm, inForm, sourceTests, targetTests, moveTests, moveOf}
+use Rattle.record_format.specs.Claims.{Accepted, Bytes, Beginning}
+use Rattle.record_format.specs.CheckClaims.{Expects}
+use Rattle.record_format.specs.MoveClaims.{notMoved, movedTo, ByRoom, ToWide, StepHeld, ToOld, FormThere, CheckFirst, MovesOnly, MovesBack, ReadsAlike, MovesWhole}
+use Rattle.record_format.proofs.Reading.{front-numbered, other-rate-not, other-rate-none}
+use Rattle.record_format.proofs.Checking.{found-number, found-whole}
+use Rattle.record_format.proofs.Fetching.{room-enough, room-lacks}
 use Rattle.record_format.proofs.Reading.Sound.{FrontSound, front-clear}
 use Rattle.record_format.proofs.Claims.Admitted.{front-splits, clear-begins}
 use Rattle.record_format.proofs.Reading.Sides.{side-follows}
-use Rattle.record_format.proofs.Moves.{other-other, headOf, source-form, source-strict, target-numbered, runMoveTests, source-refused, move-done, move-clear, move-short, moved-fits, fits-target, ownMove, own-run, own-move, own-target, own-room, own-done, own-form}
-use Rattle.record_format.proofs.Claims.{refused-reading, reads-back}
+use Rattle.record_format.proofs.Moves.{other-other, headOf, source-form, source-check, target-numbered, runMoveTests, source-refused, move-done, move-clear, move-short, moved-fits, fits-target, ownMove, own-run, own-move, own-target, own-room, own-done, own-form}
+use Rattle.record_format.proofs.CheckClaims.{checks-record}
+use Rattle.record_format.proofs.FetchClaims.{fetches-record}
 use Rattle.record_format.proofs.Writing.{Fitting, accepted-fits, fitting-accepted}
 
 -- ---- the record of a run in the other form
@@ -108,7 +113,7 @@ to-old r a e rest o =
           (there Old r a e rest o clear, by-room Old r a e rest o clear),
     )
 
--- ---- everything else that strict reading refuses
+-- ---- everything else that a check refuses
 
 -- a front that is not refused, and past it the head of the form f
 form-there : (f : Form) (s : List ℕ) → Bytes s → FrontSound s → headOf f s ≡ true → FormThere f s
@@ -128,13 +133,12 @@ form-there f s bytes h e =
       getD-drop (positionsAt s) s 0 0 ∙ ap (λ (n : ℕ). getD s n 0) (add-zero (positionsAt s)) ∙ eqb-true _ _ (p .1),
     )
 
-pub strict-first : StrictFirst
-unfolding readWith
-strict-first f s o ts vs bytes m n none d =
-    let tests = readTests strictRatios 0 s (length ts) (length vs) in
-    let e : firstOf (sourceTests f s) ≡ firstOf tests = source-strict f s (length ts) (length vs) m n (λ clear. other clear (headOf f s) refl) in
-    let q = refused-reading tests (recordAnswer strictRatios s ts vs) ts vs d refl in
-    rw q (sym (source-refused f s o (firstOf tests) (sym e) (λ z. d (ap (λ (a : Answer). a .answer .number) q ∙ z))))
+pub check-first : CheckFirst
+check-first f s o bytes none d =
+    let first = firstOf (recordTests strictRatios 0 s) in
+    let e : firstOf (sourceTests f s) ≡ first = source-check f s (λ clear. other clear (headOf f s) refl) in
+    let n = found-number strictRatios 0 s in
+    rw (found-whole strictRatios 0 s d) (sym (source-refused f s o first (sym e) (λ z. d (n ∙ z))))
   where
     other : firstOf (frontTests 0 s) .number ≡ 0 → (b : Bool) → headOf f s ≡ b → headOf f s ≡ false
     other clear true e = absurd (none (form-there f s bytes (front-clear 0 s [] (ap (λ (l : List Test). firstOf l .number) (append-nil (frontTests 0 s)) ∙ clear) .0) e))
@@ -168,8 +172,8 @@ pub moves-only : MovesOnly
 moves-only f s o bytes h =
     let clear = move-clear f s o h .0 in
     let front = firstOf-append-clear (frontTests 0 s) _ (front-numbered 0 s) clear .0 in
-    let read = sym (ap (λ (g : Refusal). g .number) (source-strict f s maxPoints maxPoints (omega arith) (omega arith) (λ z. other clear z (headOf f s) refl))) ∙ clear in
-    let b = clear-begins 0 s maxPoints maxPoints bytes read in
+    let read = sym (ap (λ (g : Refusal). g .number) (source-check f s (λ z. other clear z (headOf f s) refl))) ∙ clear in
+    let b = clear-begins 0 s bytes read in
     let r = b .own in
     let a : Accepted r = record { words = b .ratios; passes = fitting-accepted r (b .fits) } in
     let m = moved-run f r a (b .rest) o (ap (λ (l : List ℕ). moveOf f l o .answer .number) (sym (b .splits)) ∙ h) in
@@ -196,34 +200,46 @@ moves-back f s o bytes h rest p =
 
 -- ---- both records read alike
 
+-- the record in the bytes s, which was moved to the form f by m, and the record that was written, both with the rate e expected
+abbrev Alike : Form → ℕ → List ℕ → Move → Type 0
+Alike f e s m =
+    let a = checked e s in
+    (checked e (m .output)
+    ≡ cond (eqb (a .number) 0)
+    (record { number = 0; place = 0; rate = a .rate; side = a .side; count = a .count; form = positionsTag f; size = m .answer .length })
+    a)
+    × ((ts vs : List ℕ) → fetched e (m .output) ts vs ≡ fetched e s ts vs)
+
+module _ (f : Form) (e : ℕ) (r : Run) (a : Accepted r) (b : Accepted (inForm f r)) (x o : List ℕ) where
+  abbrev target : Run
+  target = inForm f r
+
+  abbrev y : List ℕ
+  y = drop (length (recordOf target)) o
+
+  fetched-alike : (ts vs : List ℕ) → Expects e (r .rate) → (c : Bool) → lacksRoom (length ts) (length vs) (length (r .positions)) ≡ c
+      → fetched e (recordOf target ++ y) ts vs ≡ fetched e (recordOf r ++ x) ts vs
+  fetched-alike ts vs k true h =
+      let l = room-lacks (length ts) (length vs) (length (r .positions)) h in
+      fetches-record target b e y ts vs .1 k l ∙ sym (fetches-record r a e x ts vs .1 k l)
+  fetched-alike ts vs k false h =
+      let l = room-enough (length ts) (length vs) (length (r .positions)) h in
+      fetches-record target b e y ts vs .2 k (l .0) (l .1) ∙ sym (fetches-record r a e x ts vs .2 k (l .0) (l .1))
+
+  own-alike : (c : Bool) → otherRate e (r .rate) ≡ c → Alike f e (recordOf r ++ x) (movedTo r target o)
+  own-alike true q =
+      let d : (Expects e (r .rate) → ⊥) = λ z. false≢true (sym (other-rate-not e (r .rate) z) ∙ q) in
+      (rw (checks-record r a e x .0 d) (checks-record target b e y .0 d), λ ts vs. fetches-record target b e y ts vs .0 d ∙ sym (fetches-record r a e x ts vs .0 d))
+  own-alike false q =
+      let k = other-rate-none e (r .rate) q in
+      (rw (checks-record r a e x .1 k) (checks-record target b e y .1 k), λ ts vs. fetched-alike ts vs k (lacksRoom (length ts) (length vs) (length (r .positions))) refl)
+
 pub reads-alike : ReadsAlike
-reads-alike f s o bytes h e ts vs =
+reads-alike f s o bytes h e =
     let w = moves-only f s o bytes h in
     let r : Run = w .0 in
-    let q = inForm f r in
-    let source : readStrict e s ts vs ≡ runAnswer r e ts vs = ap (λ (l : List ℕ). readStrict e l ts vs) (w .3 .1) ∙ reads-back r (w .1) e (w .3 .0) ts vs .0 in
-    let target : readStrict e (recordOf q ++ drop (length (recordOf q)) o) ts vs ≡ runAnswer q e ts vs = reads-back q (w .4) e _ ts vs .0 in
-    rw (w .6) (rw (source) (target ∙ alike r (firstOf (ownTests r e (length ts) (length vs)) .number) refl))
-  where
-    alike : (r : Run) (n : ℕ) → firstOf (ownTests r e (length ts) (length vs)) .number ≡ n
-        → runAnswer (inForm f r) e ts vs
-        ≡ cond (eqb (runAnswer r e ts vs .answer .number) 0)
-        (record {
-          answer = record {
-            number = 0;
-            place = 0;
-            rate = runAnswer r e ts vs .answer .rate;
-            side = runAnswer r e ts vs .answer .side;
-            count = runAnswer r e ts vs .answer .count;
-            form = positionsTag f;
-            used = length (recordOf (inForm f r));
-          };
-          positions = runAnswer r e ts vs .positions;
-          ratios = runAnswer r e ts vs .ratios;
-        })
-        (runAnswer r e ts vs)
-    alike r zero q = rw q
-    alike r (suc n) q = rw (q, eqb·suc-zero n, eqb·suc-zero n)
+    let own = own-alike f e r (w .1) (w .4) (w .3 .0) o (otherRate e (r .rate)) refl in
+    subst (Alike f e s) (sym (w .6)) (subst (λ (l : List ℕ). Alike f e l (movedTo r (inForm f r) o)) (sym (w .3 .1)) own)
 
 -- ---- refusals
 

@@ -1,8 +1,9 @@
--- Laws of moves: the tests of a record that is to be moved by those of strict reading, the answer by the test at which a mover stops, and the move of a run's
+-- Laws of moves: the tests of a record that is to be moved by those of a check, the answer by the test at which a mover stops, and the move of a run's
 -- record.
 use mathlib.Core.Path.{_≡_, refl, sym, ap, ap₂, _∙_, subst}
 use mathlib.Core.Bool.{Bool, true, false, not, cond}
 use mathlib.Core.List.{List, [], _∷_, _++_, append-nil, append-assoc}
+use mathlib.Core.Logic.{inl}
 use Prim.Native.Nat.{ℕ, zero, suc, _+_, _-_, _^_, _≤_, _<_}
 use native.Mathlib.Omega.{arith}
 use borrow.Author.Tests.{eqb-true, eq-eqb, ne-eqb, leb-true, leb-false, le-leb, le-ltb, lt-ltb, ltb-false}
@@ -14,7 +15,7 @@ use Rattle.lists.specs.Compare.{both}
 use Rattle.lists.proofs.Compare.{both-true}
 use Rattle.lists.specs.Lists.{member}
 use Rattle.lists.specs.Optional.{missing}
-use Rattle.limits.specs.Points.{maxPoints, firstHigh}
+use Rattle.limits.specs.Points.{firstHigh}
 use Rattle.refusals.specs.declared.Refusal.{Refusal}
 use Rattle.refusals.specs.Tests.{Test, test, refusal, firstOf, refused}
 use Rattle.refusals.proofs.Tests.{numbered, firstOf-here, firstOf-skip, firstOf-end, firstOf-clear, firstOf-append-none, firstOf-append-some, firstOf-append-cong, firstOf-append-clear, numbered-append, never, firstOf-never, never-append}
@@ -29,15 +30,15 @@ use Rattle.ratio_format.specs.Bodies.{strictRatios}
 use Rattle.ratio_format.proofs.Bodies.Strict.{strict-coded}
 use Rattle.record_format.specs.Fields.{Field, headSize, fieldBytes, laid, tagAt, bodyTests}
 use Rattle.record_format.specs.Runs.{Run, positionsTag, positionsTags, countSize, positionsField, ratiosField, frontFields, recordOf}
-use Rattle.record_format.specs.Reading.{positionsAt, ratiosAt, endAt, countIn, positionsIn, frontTests, manyTests, positionsTestsBy, positionsTests, ratiosTests, readTests}
-use Rattle.record_format.specs.Moves.{otherForm, inForm, runIn, sourceTests, targetTests, moveTests, Move, refusedMove, recordMove, moveOf}
+use Rattle.record_format.specs.Reading.{positionsAt, ratiosAt, endAt, countIn, positionsIn, frontTests, manyTests, positionsTestsBy, positionsTests, ratiosTests, recordTests}
+use Rattle.record_format.specs.Checking.{runIn}
+use Rattle.record_format.specs.Moves.{otherForm, inForm, sourceTests, targetTests, moveTests, Move, refusedMove, recordMove, moveOf}
 use Rattle.record_format.specs.Claims.{positionsPlace}
 use Rattle.record_format.specs.MoveClaims.{notMoved, movedTo, FormFirst}
 use Rattle.record_format.proofs.Fields.{length-laid, laid-append, laid-one}
 use Rattle.record_format.proofs.Reading.Fronts.{count-at, positions-at, front-pass, input, front-all, input-length, tag-there}
-use Rattle.record_format.proofs.Reading.Rooms.{roomy-tests}
 use Rattle.record_format.proofs.Reading.{front-numbered, front-never-six}
-use Rattle.record_format.proofs.Claims.Returned.{positions-stand, ratios-stand, at-end, count-read, run-is, only-own}
+use Rattle.record_format.proofs.Claims.Returned.{positions-stand, ratios-stand, at-end, count-read, run-is, all-clear}
 use Rattle.record_format.proofs.Claims.Admitted.{clear-begins}
 use Rattle.record_format.proofs.Writing.{Fitting, fitting-few, steps-valid, valid-steps}
 
@@ -113,11 +114,9 @@ module _ (f : Form) (s : List ℕ) where
     pub source-points : headOf f s ≡ false → firstOf (sourceTests f s) ≡ firstOf (positionsTests s ++ later)
     source-points e = past-front ∙ other-positions e
 
-  -- where the form is not the one moved to the tests are those of the record, as they are for strict reading with room
-  pub source-strict : (m n : ℕ) → maxPoints ≤ m → maxPoints ≤ n → (firstOf (frontTests 0 s) .number ≡ 0 → headOf f s ≡ false)
-      → firstOf (sourceTests f s) ≡ firstOf (readTests strictRatios 0 s m n)
-  source-strict m n a b other =
-      firstOf-append-cong (frontTests 0 s) _ _ (front-numbered 0 s) (λ clear. other-positions (other clear)) ∙ sym (roomy-tests strictRatios 0 s m n a b)
+  -- all else is refused as a check refuses it
+  pub source-check : (firstOf (frontTests 0 s) .number ≡ 0 → headOf f s ≡ false) → firstOf (sourceTests f s) ≡ firstOf (recordTests strictRatios 0 s)
+  source-check other = firstOf-append-cong (frontTests 0 s) _ _ (front-numbered 0 s) (λ clear. other-positions (other clear))
 
 -- ---- the whole answer
 
@@ -260,10 +259,7 @@ module _ (f : Form) (r : Run) (fit : Fitting r) (words : Below (2 ^ 64) (r .rati
   -- the tests of the record pass
   pub own-source : firstOf (sourceTests f s) ≡ firstOf []
   own-source =
-      source-strict f s maxPoints maxPoints (omega arith) (omega arith) (λ _. other-head)
-      ∙ only-own r fit rest strictRatios (strict-coded (r .ratios) words) 0 maxPoints maxPoints
-      ∙ firstOf-skip _ _ refl
-      ∙ firstOf-skip _ _ (ap₂ (λ (a b : Bool). cond a true b) (le-ltb _ _ (fitting-few r fit)) (le-ltb _ _ (fitting-few r fit)))
+      source-check f s (λ _. other-head) ∙ all-clear r fit rest strictRatios (strict-coded (r .ratios) words) 0 (inl refl)
 
   pub own-run : runIn s ≡ r
   own-run = run-is r fit rest strictRatios (strict-coded (r .ratios) words)
@@ -387,5 +383,5 @@ module _ (r : Run) (fit : Fitting r) (words : Below (2 ^ 64) (r .ratios)) (rest 
 
 pub source-sound : (f : Form) (s : List ℕ) → Below 256 s → headOf f s ≡ false → firstOf (sourceTests f s) .number ≡ 0 → SourceSound s
 source-sound f s bytes other clear =
-    let b = clear-begins 0 s maxPoints maxPoints bytes (sym (ap (λ (g : Refusal). g .number) (source-strict f s maxPoints maxPoints (omega arith) (omega arith) (λ _. other))) ∙ clear) in
+    let b = clear-begins 0 s bytes (sym (ap (λ (g : Refusal). g .number) (source-check f s (λ _. other))) ∙ clear) in
     subst SourceSound (sym (b .splits)) (record-sound (b .own) (b .fits) (b .ratios) (b .rest))

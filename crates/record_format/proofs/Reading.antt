@@ -1,18 +1,17 @@
--- Laws of reading: the tests of a field by how it turns out, and the answer by the tests that are left to make.
+-- Laws of the tests of reading: those of a field by how it turns out, and those of the front.
 pub mod Shifted
-pub mod Rooms
 pub mod Fronts
 pub mod Sides
 pub mod Sound
 use mathlib.Core.Path.{_≡_, refl, sym, ap, ap₂, _∙_, subst}
-use mathlib.Core.Bool.{Bool, true, false, not, cond, false≢true}
+use mathlib.Core.Bool.{Bool, true, false, not, cond}
 use mathlib.Core.List.{List, [], _∷_, _++_, append-assoc}
 use mathlib.Core.Logic.{_⊎_, inl, inr}
 use mathlib.Core.Option.{Option, none, some}
-use Prim.Native.Nat.{ℕ, zero, suc, _+_, _≤_, _<_}
+use Prim.Native.Nat.{ℕ, _+_, _≤_, _<_}
 use native.Mathlib.Omega.{arith}
 use borrow.Author.Tests.{eqb-true, eq-eqb, ne-eqb, ltb-false, le-ltb, lt-ltb, not-false}
-use lib.Dec.{ltb, eqb, lit<, eqb·suc-zero}
+use lib.Dec.{ltb, eqb, lit<}
 use lib.ListN.{length, drop}
 use Rattle.lists.specs.Below.{Below}
 use Rattle.lists.specs.Compare.{both}
@@ -22,13 +21,12 @@ use Rattle.bits.specs.Digits.{bytesOf, digitsOf, numberOf}
 use Rattle.bits.proofs.Digits.{digits-number}
 use Rattle.limits.specs.Points.{maxPoints}
 use Rattle.limits.specs.Sides.{isSide}
-use Rattle.refusals.specs.declared.Refusal.{Refusal}
-use Rattle.refusals.specs.Tests.{Test, test, refusal, firstOf, refused}
-use Rattle.refusals.proofs.Tests.{numbered, never, firstOf-here, firstOf-skip, firstOf-clear, firstOf-end}
+use Rattle.refusals.specs.Tests.{Test, test, refusal, firstOf}
+use Rattle.refusals.proofs.Tests.{numbered, never, firstOf-here, firstOf-skip, firstOf-clear}
 use Rattle.position_format.specs.declared.Form.the-variants.{Wide}
 use Rattle.position_format.specs.Tables.{pointsOf}
 use Rattle.record_format.specs.Fields.{Field, fieldOf, headSize, fieldBytes, tagAt, lengthAt, bodyAt, nextAt, lengthTests, fieldTests}
-use Rattle.record_format.specs.Reading.{Answer, refusalAnswer, recordAnswer, answerBy, readWith, sideAt, hasSide, countAt, positionsAt, sideIn, countIn, formIn, positionsIn, otherRate, lacksRoom, rateTests, sideTests, countTests, frontTests, roomTests, positionsTests, ratiosTests, readTests}
+use Rattle.record_format.specs.Reading.{sideAt, hasSide, countAt, positionsAt, sideIn, countIn, formIn, positionsIn, otherRate, rateTests, sideTests, countTests, frontTests, positionsTests, ratiosTests, recordTests}
 use Rattle.record_format.specs.Runs.{sideTag, positionsTag, positionsTags, formOf, sideSize}
 use Rattle.record_format.proofs.Fields.{FieldStands, length-body, field-here, below-body}
 
@@ -144,14 +142,6 @@ pub missing-some : (o : Option (List ℕ)) → missing o ≡ false → (l : List
 missing-some none e = absurd (let z : _≡_ {A = ℕ} 0 1 = cc in omega arith)
 missing-some (some l) e = (l, refl)
 
--- both outputs have room
-pub room-enough : (m n c : ℕ) → lacksRoom m n c ≡ false → (c ≤ m) × (c ≤ n)
-room-enough m n c e = go (ltb m c) refl e
-  where
-    go : (b : Bool) → ltb m c ≡ b → cond b true (ltb n c) ≡ false → (c ≤ m) × (c ≤ n)
-    go true q k = absurd (false≢true (sym k))
-    go false q k = (ltb-false m c q, ltb-false n c k)
-
 -- ---- the tests of the positions' field
 
 -- where there are not too many points for the form they are those of any field of coded numbers
@@ -174,15 +164,15 @@ many-tag t c few many = go (eqb t (positionsTag Wide)) refl
     go true q = rw (eqb-true t (positionsTag Wide) q)
     go false q = absurd (let n : maxPoints < c = rw q at many in omega arith)
 
--- ---- the tests of reading
+-- ---- the tests of a record
 
 -- field after field: the front's, and then any others
 pub front-flat : (e : ℕ) (s : List ℕ) (ts : List Test) → frontTests e s ++ ts ≡ rateTests e s ++ (sideTests s ++ (countTests s ++ ts))
 front-flat e s ts = ap (λ (l : List Test). rateTests e s ++ l) (append-assoc (sideTests s) (countTests s) ts)
 
-pub tests-flat : (k : ℕ → List ℕ → Option (List ℕ)) (e : ℕ) (s : List ℕ) (m n : ℕ)
-    → readTests k e s m n ≡ rateTests e s ++ (sideTests s ++ (countTests s ++ (roomTests s m n ++ (positionsTests s ++ ratiosTests k s))))
-tests-flat k e s m n = front-flat e s (roomTests s m n ++ (positionsTests s ++ ratiosTests k s))
+pub tests-flat : (k : ℕ → List ℕ → Option (List ℕ)) (e : ℕ) (s : List ℕ)
+    → recordTests k e s ≡ rateTests e s ++ (sideTests s ++ (countTests s ++ (positionsTests s ++ ratiosTests k s)))
+tests-flat k e s = front-flat e s (positionsTests s ++ ratiosTests k s)
 
 -- no test of the side, nor of the front, has the number of a success
 
@@ -210,38 +200,6 @@ front-never-six e s = go (hasSide s)
     go : (b : Bool) → never 6 (rateTests e s ++ (side-of s b ++ countTests s)) ≡ true
     go true = refl
     go false = refl
-
--- ---- the answer by the tests
-
--- an answer with number 0 comes of no refusal
-pub answer-clear : (tests : List Test) (a : Answer) (ts vs : List ℕ) → answerBy tests a ts vs .answer .number ≡ 0 → firstOf tests .number ≡ 0
-answer-clear tests a ts vs e = go (firstOf tests .number) refl e
-  where
-    go : (n : ℕ) → firstOf tests .number ≡ n → cond (not (eqb n 0)) (refusalAnswer (firstOf tests) ts vs) a .answer .number ≡ 0 → firstOf tests .number ≡ 0
-    go zero q e = q
-    go (suc n) q e = rw (eqb·suc-zero n) at e
-
--- the number of an answer is that of the first test that applies
-pub answer-number : (tests : List Test) (a : Answer) (ts vs : List ℕ) → a .answer .number ≡ 0 → answerBy tests a ts vs .answer .number ≡ firstOf tests .number
-answer-number tests a ts vs z = go (eqb (firstOf tests .number) 0) refl
-  where
-    go : (b : Bool) → eqb (firstOf tests .number) 0 ≡ b → answerBy tests a ts vs .answer .number ≡ firstOf tests .number
-    go true q = rw q (z ∙ sym (eqb-true (firstOf tests .number) 0 q))
-    go false q = rw q
-
-module _ (a : Answer) (ts vs : List ℕ) where
-  -- a refusal is the whole answer
-  pub answer-refused : (tests : List Test) (f : Refusal) → f ≡ firstOf tests → (f .number ≡ 0 → ⊥) → answerBy tests a ts vs ≡ refusalAnswer f ts vs
-  answer-refused tests f e d = ap (λ (g : Refusal). cond (refused g) (refusalAnswer g ts vs) a) (sym e) ∙ rw (ne-eqb (f .number) 0 d)
-
-  pub answer-good : (tests : List Test) → firstOf tests ≡ firstOf [] → answerBy tests a ts vs ≡ a
-  answer-good tests e = ap (λ (g : Refusal). cond (refused g) (refusalAnswer g ts vs) a) (e ∙ firstOf-end)
-
--- a reading that is refused
-pub read-refused : (k : ℕ → List ℕ → Option (List ℕ)) (e : ℕ) (s ts vs : List ℕ) (n p : ℕ) → (n ≡ 0 → ⊥) → firstOf (readTests k e s (length ts) (length vs)) ≡ refusal n p
-    → readWith k e s ts vs ≡ refusalAnswer (refusal n p) ts vs
-unfolding readWith
-read-refused k e s ts vs n p d q = answer-refused (recordAnswer k s ts vs) ts vs (readTests k e s (length ts) (length vs)) (refusal n p) (sym q) d
 
 -- ---- the rate that is expected
 

@@ -1,6 +1,8 @@
 -- The demands on records as statements about the definitions, in the terms of document 01, "What demand 3 compares", for runs that carry a
--- side, 0 for none, and the form that they are written in (document 02, No. 2 and No. 3), and of the moves of No. 5. Followed and MoveFollowed are proved in
--- proofs/Claims/Trailing, each other in proofs/Claims; the calls are tied to them by their contracts.
+-- side, 0 for none, and the form that they are written in (document 02, No. 2 and No. 3). Those of the check (CheckClaims, FrontClaims,
+-- PointClaims), of fetch (FetchClaims), of open reading (OpenReading), of the moves (MoveClaims) and of what is written (WritingClaims, FourFields, Sizes)
+-- stand by themselves. Each is proved in proofs/Claims, and Followed and MoveFollowed in
+-- proofs/Claims/Trailing; the calls are tied to them by their contracts.
 --   Accepted r          r is a run that the writer accepts, in the standard term valid: its ratios have 64 bits, and no test of writing but 6
 --                       applies. AllAccepted rs: every run of a list is
 --   Bytes s             s is a string of bytes
@@ -9,40 +11,30 @@
 --   countPlace d        the offset of the count's field past a front with the side d, 7 or 11: what countAt finds there; positionsPlace d: that of
 --                       the positions', 12 or 16
 --   FieldPlaces         these offsets, in numbers
---   ownTests r e m n    the tests that can apply to the record of r; ownAnswer r ts vs: the answer where none does
---   runAnswer r e ts vs what reading the record of r answers
 --   WritesRun, Writes   writing gives exactly the record, where the run is accepted and there is room for it, and else the refusal, and zeros
---   ReadsWhole          what a reading refuses leaves zeros beside its number and place, and in both outputs
---   ReadsBack           both readings give back the run of a record, or 14 or 16
---   ReadsOnly           what strict reading accepts is a run's record, and the answer is that run
---   AcceptsExactly      when strict reading accepts
---   ReadsFront          what any reading of the ratios accepts begins with the fields of the rate, the side, the count and the positions that it
---                       answers, the last in the form whose tag it answers
---   OpenAgrees          what strict reading accepts open reading answers alike
 --   PrefixFree          no record begins another, in the same form or in the other: in the standard term, records are a prefix code
 --   ListsApart          joined records, in which forms may mix, tell their lists: a uniquely decodable code
---   TrailingBytes       whatever follows a record changes no reading and no move; Followed, MoveFollowed: nor does what follows any whole fields
+--   TrailingBytes       whatever follows a record changes neither what a check answers, in full (to C describe) or as its number to C, nor a fetch, an open reading or a
+--                       move; Followed, MoveFollowed: nor does what follows any whole fields
 --   Shortest, NineEach  no string of the same ratios is shorter than ours, which takes at most nine bytes a ratio
--- Demand 3, whole, is their conjunction with what later calls add: farigolenc/specs/Demand3.
-use mathlib.Core.Bool.{true, false, cond}
+-- Demands 2 and 3, whole, are conjunctions: farigolenc/specs/Demand2 and Demand3.
+use mathlib.Core.Bool.{true, false}
 use mathlib.Core.List.{List, [], _∷_, _++_}
-use mathlib.Core.Logic.{_⊎_, _↔_}
+use mathlib.Core.Logic.{_↔_}
 use mathlib.Core.Option.{Option, some}
 use mathlib.Core.Path.{_≡_}
 use Prim.Native.Nat.{ℕ, _+_, _*_, _≤_, _<_, _^_}
 use lib.ListN.{length, drop, replicate}
 use Rattle.lists.specs.Below.{Below}
-use Rattle.limits.specs.Rates.{isRate}
-use Rattle.limits.specs.Sides.{maxSide}
-use Rattle.refusals.specs.Tests.{Test, test, firstOf, refused}
+use Rattle.refusals.specs.Tests.{firstOf}
 use Rattle.position_format.specs.declared.Form.{Form}
-use Rattle.position_format.specs.Tables.{tableOf, pointsOf}
-use Rattle.position_format.specs.Positions.{validPositions}
 use Rattle.ratio_format.specs.Bodies.{codedRatios, openRatios}
-use Rattle.record_format.specs.Fields.{headSize, laid}
-use Rattle.record_format.specs.Runs.{Run, positionsTag, rateSize, countSize, sideLength, positionsField, frontFields, recordOf}
+use Rattle.record_format.specs.Fields.{headSize}
+use Rattle.record_format.specs.Runs.{Run, rateSize, countSize, sideLength, recordOf}
 use Rattle.record_format.specs.Writing.{runTests, accepts, writeAnswer, writeOutput}
-use Rattle.record_format.specs.Reading.{Answer, refusalAnswer, endAt, otherRate, lacksRoom, rateAt, readWith, readStrict, readOpen}
+use Rattle.record_format.specs.Reading.{endAt}
+use Rattle.record_format.specs.Checking.{runBy, found, checked, checkNumber}
+use Rattle.record_format.specs.Fetching.{readWith, readOpen, fetched}
 use Rattle.record_format.specs.Moves.{moveOf}
 
 -- an accepted run
@@ -80,27 +72,6 @@ positionsPlace d = countPlace d + (headSize + countSize)
 abbrev pub FieldPlaces : Type 0
 FieldPlaces = ((countPlace 0 ≡ 7) × (positionsPlace 0 ≡ 12)) × ((d : ℕ) → 0 < d → (countPlace d ≡ 11) × (positionsPlace d ≡ 16))
 
--- the tests that can apply to the record of an accepted run
-abbrev pub ownTests : Run → ℕ → ℕ → ℕ → List Test
-ownTests r e m n =
-    test (otherRate e (r .rate)) 14 rateAt
-    ∷ test (lacksRoom m n (length (r .positions))) 16 (countPlace (r .side))
-    ∷ []
-
--- a success: the run, its count, its form's tag and its record's length, each position and each ratio
-abbrev pub ownAnswer : Run → List ℕ → List ℕ → Answer
-ownAnswer r ts vs = record {
-  answer = record { number = 0; place = 0; rate = r .rate; side = r .side; count = length (r .positions); form = positionsTag (r .form); used = length (recordOf r) };
-  positions = r .positions ++ drop (length (r .positions)) ts;
-  ratios = r .ratios ++ drop (length (r .ratios)) vs;
-}
-
--- the answer to the record of a run
-abbrev pub runAnswer : Run → ℕ → List ℕ → List ℕ → Answer
-runAnswer r e ts vs =
-    let f = firstOf (ownTests r e (length ts) (length vs)) in
-    cond (refused f) (refusalAnswer f ts vs) (ownAnswer r ts vs)
-
 -- demands 1 and 2: a run that is not accepted is refused by the first of its tests, and one without room by 6, with zeros; a success writes the record at
 -- the front of the output and nothing else
 abbrev pub WritesRun : Run → List ℕ → Type 0
@@ -115,46 +86,6 @@ WritesRun r o =
 abbrev pub Writes : Type 0
 Writes = (r : Run) (o : List ℕ) → WritesRun r o
 
--- demand 1, in both readings
-abbrev pub ReadsWhole : Type 0
-ReadsWhole = (k : ℕ → List ℕ → Option (List ℕ)) (e : ℕ) (s ts vs : List ℕ) → let a = readWith k e s ts vs in (a .answer .number ≡ 0 → ⊥)
-    → (a .answer ≡ record { number = a .answer .number; place = a .answer .place; rate = 0; side = 0; count = 0; form = 0; used = 0 })
-    × (a .positions ≡ replicate (length ts) 0)
-    × (a .ratios ≡ replicate (length vs) 0)
-
--- demand 2: whatever follows a run's record, both readings give back that run, or 14 or 16
-abbrev pub ReadsBack : Type 0
-ReadsBack = (r : Run) → Accepted r → (e : ℕ) (rest ts vs : List ℕ)
-    → (readStrict e (recordOf r ++ rest) ts vs ≡ runAnswer r e ts vs) × (readOpen e (recordOf r ++ rest) ts vs ≡ runAnswer r e ts vs)
-
--- demand 2: what strict reading accepts begins with a run's record, and the answer is that run
-abbrev pub ReadsOnly : Type 0
-ReadsOnly = (e : ℕ) (s ts vs : List ℕ) → Bytes s → readStrict e s ts vs .answer .number ≡ 0
-    → (r : Run) × Accepted r × Beginning (recordOf r) s × (readStrict e s ts vs ≡ ownAnswer r ts vs)
-
--- demand 2: accepted exactly when the input begins with some run's record, its rate is the expected one or none is expected, and its count
--- is within both rooms
-abbrev pub AcceptsExactly : Type 0
-AcceptsExactly = (e : ℕ) (s ts vs : List ℕ) → Bytes s
-    → (readStrict e s ts vs .answer .number ≡ 0)
-    ↔ ((r : Run) × Accepted r × Beginning (recordOf r) s
-    × ((e ≡ 0) ⊎ (e ≡ r .rate)) × (length (r .positions) ≤ length ts) × (length (r .positions) ≤ length vs))
-
--- demand 2: the open rule accepts all that strict reading accepts, and answers the same
-abbrev pub OpenAgrees : Type 0
-OpenAgrees = (e : ℕ) (s ts vs : List ℕ) → Bytes s → readStrict e s ts vs .answer .number ≡ 0 → readOpen e s ts vs ≡ readStrict e s ts vs
-
--- demand 2, in both readings: what is accepted begins with the fields of the rate, of the side unless it is 0, of the count and of the positions
--- that are answered, these in the form whose tag is answered, and each is in its range. So a side that is stored is answered, a stored 0 is not
--- accepted, and side 0 is answered where no side's field stands
-abbrev pub ReadsFront : Type 0
-ReadsFront = (k : ℕ → List ℕ → Option (List ℕ)) (e : ℕ) (s ts vs : List ℕ) → Bytes s → readWith k e s ts vs .answer .number ≡ 0
-    → let a = readWith k e s ts vs in
-    (f : Form) × (ps : List ℕ)
-    × (a .answer .form ≡ positionsTag f) × (a .answer .count ≡ length ps) × (a .positions ≡ ps ++ drop (length ps) ts)
-    × (isRate (a .answer .rate) ≡ true) × (a .answer .side ≤ maxSide) × (length ps ≤ pointsOf f) × (validPositions (tableOf f) ps ≡ true)
-    × Beginning (laid (frontFields (a .answer .rate) (a .answer .side) (length ps) ++ (positionsField f ps ∷ []))) s
-
 -- demand 3: of two runs that differ, in rate, side, form, positions or ratios, neither record is a beginning of the other
 abbrev pub PrefixFree : Type 0
 PrefixFree = (r q : Run) → Accepted r → Accepted q → (r ≡ q → ⊥)
@@ -164,18 +95,21 @@ PrefixFree = (r q : Run) → Accepted r → Accepted q → (r ≡ q → ⊥)
 abbrev pub ListsApart : Type 0
 ListsApart = (rs qs : List Run) → AllAccepted rs → AllAccepted qs → (joined rs ≡ joined qs) ↔ (rs ≡ qs)
 
--- demand 3: whatever bytes follow a record, both readings and both moves answer as for the record alone
+-- demand 3: whatever bytes follow a record, each call that takes one answers as for the record alone: the check, in full (to C describe) and by its number to C, fetch,
+-- open reading and both moves
 abbrev pub TrailingBytes : Type 0
 TrailingBytes = (r : Run) → Accepted r → (e : ℕ) (rest ts vs : List ℕ)
-    → (readStrict e (recordOf r ++ rest) ts vs ≡ readStrict e (recordOf r) ts vs)
+    → (checked e (recordOf r ++ rest) ≡ checked e (recordOf r))
+    × (checkNumber (checked e (recordOf r ++ rest)) ≡ checkNumber (checked e (recordOf r)))
+    × (fetched e (recordOf r ++ rest) ts vs ≡ fetched e (recordOf r) ts vs)
     × (readOpen e (recordOf r ++ rest) ts vs ≡ readOpen e (recordOf r) ts vs)
     × ((f : Form) (o : List ℕ) → moveOf f (recordOf r ++ rest) o ≡ moveOf f (recordOf r) o)
 
 -- the same of any bytes that have as many whole fields as a record, four or, where the second has a side's tag, five; also of such as only open
--- reading accepts, or neither
+-- reading accepts, or none: by every reading of the ratios' field, without outputs and with them
 abbrev pub Followed : Type 0
-Followed = (k : ℕ → List ℕ → Option (List ℕ)) (e : ℕ) (s rest ts vs : List ℕ) → endAt s ≤ length s
-    → readWith k e (s ++ rest) ts vs ≡ readWith k e s ts vs
+Followed = (k : ℕ → List ℕ → Option (List ℕ)) (e : ℕ) (s rest : List ℕ) → endAt s ≤ length s
+    → (found k e (s ++ rest) ≡ found k e s) × (runBy k (s ++ rest) ≡ runBy k s) × ((ts vs : List ℕ) → readWith k e (s ++ rest) ts vs ≡ readWith k e s ts vs)
 
 -- and of moves
 abbrev pub MoveFollowed : Type 0

@@ -5,7 +5,8 @@
 --   SameRecord           the record of the run on side 0, in the old form, is these four fields, laid end to end
 --   RefusesBySide        a run in the old form with any side is refused as document 01 says of it without one, but that 21 stands after 1; so on
 --                        side 0 it is accepted exactly when it was, and refused by 6 when it was, since its record is the same
---   ReadsAsZero          whatever follows it, both readings give back that run with side 0 and the old form's tag, or 14 or 16
+--   ReadsAsZero          whatever follows it, a check gives back that run's numbers with side 0 and the old form's tag, or 14, and fetch and open reading
+--                        its points, or 14 or 16
 -- Each is proved in proofs/FourFields.
 use mathlib.Core.Bool.{not, cond}
 use mathlib.Core.List.{List, [], _∷_, _++_}
@@ -26,8 +27,9 @@ use Rattle.ratio_format.specs.Bodies.{codedRatios}
 use Rattle.record_format.specs.Fields.{Field, fieldOf, laid}
 use Rattle.record_format.specs.Runs.{run, recordOf}
 use Rattle.record_format.specs.Writing.{runTests}
-use Rattle.record_format.specs.Reading.{readStrict, readOpen}
-use Rattle.record_format.specs.Claims.{runAnswer}
+use Rattle.record_format.specs.CheckClaims.{ChecksBack}
+use Rattle.record_format.specs.FetchClaims.{FetchesBack}
+use Rattle.record_format.specs.OpenReading.{OpensBack}
 
 -- tag 1 the rate, 2 the count, 3 the coded positions, 4 the coded ratios
 abbrev pub fourFields : ℕ → List ℕ → List ℕ → List Field
@@ -60,5 +62,5 @@ RefusesBySide = (r d : ℕ) (ts vs : List ℕ)
 -- and the same run back, on side 0
 abbrev pub ReadsAsZero : Type 0
 ReadsAsZero = (r : ℕ) (ts vs : List ℕ) → Below (2 ^ 64) vs → firstOf (fourTests r ts vs) .number ≡ 0 → (e : ℕ) (rest ps qs : List ℕ)
-    → (readStrict e (laid (fourFields r ts vs) ++ rest) ps qs ≡ runAnswer (run r 0 Old ts vs) e ps qs)
-    × (readOpen e (laid (fourFields r ts vs) ++ rest) ps qs ≡ runAnswer (run r 0 Old ts vs) e ps qs)
+    → let own = run r 0 Old ts vs in
+    let s = laid (fourFields r ts vs) ++ rest in ChecksBack own e s × FetchesBack own e s ps qs × OpensBack own e s ps qs

@@ -1,5 +1,5 @@
 -- Document 02, No. 5: what moves do, as statements. FormFirst is proved in proofs/Moves, each other in proofs/MoveClaims; that bytes behind a record change
--- no move is a part of demand 3 (TrailingBytes and MoveFollowed, in Claims). Together with ReadsOnly, FormFirst, StrictFirst, ToWide and ToOld say the
+-- no move is a part of demand 3 (TrailingBytes and MoveFollowed, in Claims). Together with ChecksOnly, FormFirst, CheckFirst, ToWide and ToOld say the
 -- answer to every string of bytes.
 --   notMoved n p o    the answer of the refusal n at the place p
 --   movedTo r q o     that of a success: the record of the run r was read, and that of the run q written
@@ -11,11 +11,12 @@
 --   FormThere f s     the bytes s begin with the fields of a rate, a side unless it is 0 and a count of at most 4,096, and past them stands a whole head with
 --                     the tag of the form f
 --   FormFirst         such bytes are refused by 11 at the positions' field, whatever follows the head
---   StrictFirst       everything else that strict reading refuses, with room and no rate expected, the move refuses alike, by number and place
+--   CheckFirst        everything else that a check refuses, with no rate expected, the move refuses alike, by number and place
 --   MovesOnly         bytes that are moved begin with the record of an accepted run in the other form, and the answer is that run's
 --   MovesBack         the standard term is a round trip: a record that was moved is moved back to the bytes that it was, and refused by 6 alone, exactly where
 --                     there is no room for them
---   ReadsAlike        both records read alike: the same rate, side, count, positions and ratios, or the same refusal; form and bytes used are each its own
+--   ReadsAlike        both records read alike: a check finds the same rate, side and count, or the same refusal, and form and size are each its own; a fetch
+--                     gives the same count and points, or the same refusal
 --   MovesWhole        what a move refuses leaves zeros beside its number and place, and in the output
 use mathlib.Core.Bool.{true, cond}
 use mathlib.Core.List.{List, _++_}
@@ -30,10 +31,11 @@ use Rattle.position_format.specs.Rows.{rows, inTable}
 use Rattle.position_format.specs.Steps.{stepHere}
 use Rattle.record_format.specs.Fields.{tagAt}
 use Rattle.record_format.specs.Runs.{Run, positionsTag, recordOf}
-use Rattle.record_format.specs.Reading.{readStrict}
+use Rattle.record_format.specs.Checking.{checked}
+use Rattle.record_format.specs.Fetching.{fetched}
 use Rattle.record_format.specs.Moves.{Move, otherForm, inForm, moveOf}
 use Rattle.record_format.specs.Claims.{Accepted, Bytes, Beginning, positionsPlace}
-use Rattle.record_format.specs.WideClaims.{frontBytes}
+use Rattle.record_format.specs.PointClaims.{frontBytes}
 
 -- with zeros beside it, and the output 0 from end to end
 abbrev pub notMoved : ℕ → ℕ → List ℕ → Move
@@ -79,9 +81,9 @@ FormFirst = (f : Form) (r d n : ℕ) (rest o : List ℕ) → isRate r ≡ true �
     → moveOf f (frontBytes r d n ++ rest) o ≡ notMoved 11 (positionsPlace d) o
 
 -- before 3, 5 and 6
-abbrev pub StrictFirst : Type 0
-StrictFirst = (f : Form) (s o ts vs : List ℕ) → Bytes s → 4096 ≤ length ts → 4096 ≤ length vs → (FormThere f s → ⊥)
-    → let a = readStrict 0 s ts vs .answer in
+abbrev pub CheckFirst : Type 0
+CheckFirst = (f : Form) (s o : List ℕ) → Bytes s → (FormThere f s → ⊥)
+    → let a = checked 0 s in
     (a .number ≡ 0 → ⊥) → moveOf f s o ≡ notMoved (a .number) (a .place) o
 
 -- an accepted run in the other form, which is accepted in the form moved to as well
@@ -103,27 +105,16 @@ MovesBack = (f : Form) (s o : List ℕ) → Bytes s → moveOf f s o .answer .nu
       output = take (m .answer .used) s ++ drop (m .answer .used) p;
     })
 
--- what is written, read with any rate expected and any outputs
+-- what is written, checked and fetched with any rate expected and any outputs
 abbrev pub ReadsAlike : Type 0
-ReadsAlike = (f : Form) (s o : List ℕ) → Bytes s → moveOf f s o .answer .number ≡ 0 → (e : ℕ) (ts vs : List ℕ)
+ReadsAlike = (f : Form) (s o : List ℕ) → Bytes s → moveOf f s o .answer .number ≡ 0 → (e : ℕ)
     → let m = moveOf f s o in
-    let a = readStrict e s ts vs in
-    readStrict e (m .output) ts vs
-    ≡ cond (eqb (a .answer .number) 0)
-    (record {
-      answer = record {
-        number = 0;
-        place = 0;
-        rate = a .answer .rate;
-        side = a .answer .side;
-        count = a .answer .count;
-        form = positionsTag f;
-        used = m .answer .length;
-      };
-      positions = a .positions;
-      ratios = a .ratios;
-    })
-    a
+    let a = checked e s in
+    (checked e (m .output)
+    ≡ cond (eqb (a .number) 0)
+    (record { number = 0; place = 0; rate = a .rate; side = a .side; count = a .count; form = positionsTag f; size = m .answer .length })
+    a)
+    × ((ts vs : List ℕ) → fetched e (m .output) ts vs ≡ fetched e s ts vs)
 
 -- demand 1, of every move
 abbrev pub MovesWhole : Type 0

@@ -92,7 +92,7 @@ oddRun f = run 44100 26 f (0 ∷ 3 ∷ 9 ∷ 5 ∷ []) (0 ∷ 0x8000000000000000
 
 -- moves: the listing's run, on a side too and followed by bytes; steps that the wide form makes longer, with just enough room, and back; no points; ratios that
 -- are not-a-numbers; the last steps that the old table holds. Refusals: 6, with a room that is one short; 11 for the form moved to, before a cut body, ratios that are
--- no coding and too many points, but not for a cut head; 10, 11, 12, 13, 15, 17, 18 and 20 as in strict reading; 5 at the first such step
+-- no coding and too many points, but not for a cut head; 10, 11, 12, 13, 15, 17, 18 and 20 as in a check; 5 at the first such step
 pub moveRows : List MoveExample
 moveRows =
     moves Wide listedBytes 48 46 (take 12 listedBytes ++ (0x05 ∷ drop 13 listedBytes))

@@ -2,9 +2,8 @@
 -- positions and the ratios.
 --   otherForm f        the form that is not f
 --   inForm f r         the run r in the form f, and nothing else of it changed
---   runIn s            the run that strict reading finds in the bytes s; where it refuses them, a run that no answer shows
---   sourceTests f s    the tests of a record that is to be moved to the form f: those of strict reading in their order, with no rate expected and without
---                      16, but that at the positions' field the other form's tag alone is good
+--   sourceTests f s    the tests of a record that is to be moved to the form f: those of a check in their order, with no rate expected, but that
+--                      at the positions' field the other form's tag alone is good
 --   targetTests f ts   those of its positions in the form f: 3 toward wide, 5 toward old
 --   moveTests f s o    all tests of a move, with 6, which asks for room for the record that is written
 --   Move               what a move returns, and the output afterwards
@@ -16,7 +15,6 @@ use mathlib.Core.List.{List, [], _∷_, _++_}
 use Prim.Native.Nat.{ℕ}
 use lib.Dec.{ltb}
 use lib.ListN.{length}
-use Rattle.lists.specs.Optional.{listOf}
 use Rattle.refusals.specs.declared.Refusal.{Refusal}
 use Rattle.refusals.specs.Tests.{Test, test, firstOf, refused}
 use Rattle.outputs.specs.Outputs.{zeros, over}
@@ -27,7 +25,8 @@ use Rattle.ratio_format.specs.Bodies.{strictRatios}
 use Rattle.record_format.specs.declared.MoveAnswer.{MoveAnswer}
 use Rattle.record_format.specs.Runs.{Run, run, positionsTag, recordOf}
 use Rattle.record_format.specs.Writing.{outsideTests}
-use Rattle.record_format.specs.Reading.{rateIn, sideIn, formIn, positionsIn, ratiosIn, endAt, recordTestsBy}
+use Rattle.record_format.specs.Reading.{endAt, recordTestsBy}
+use Rattle.record_format.specs.Checking.{runIn}
 
 -- ---- forms
 
@@ -40,13 +39,9 @@ otherForm Wide = Old
 abbrev pub inForm : Form → Run → Run
 inForm f r = run (r .rate) (r .side) f (r .positions) (r .ratios)
 
--- what the fields hold, read strictly
-abbrev pub runIn : List ℕ → Run
-runIn s = run (rateIn s) (sideIn s) (formIn s) (listOf (positionsIn s)) (listOf (ratiosIn strictRatios s))
-
 -- ---- the tests
 
--- strict reading's, with 11 at the positions' tag when it is the form moved to
+-- a check's, with 11 at the positions' tag when it is the form moved to
 abbrev pub sourceTests : Form → List ℕ → List Test
 sourceTests f s = recordTestsBy (positionsTag (otherForm f) ∷ []) strictRatios 0 s
 

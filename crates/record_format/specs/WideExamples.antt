@@ -3,7 +3,7 @@
 --   escaped x                       the code of the row of 64 bits with the bits of x
 --   BodyExample, body, bodies       what is read from such a body by the wide table; bodies-hold: each is as it is given
 --   front n, sided n                the fields of the rate 96000 and the count n, without a side and on side 4
---   roomFor m s a                   both readings of s with room for m points give a
+--   roomFor m s a                   check, fetch and open reading of s with room for m points give a
 --   reads, reads-hold               the rows, and that each is as it is given; open-points: what open reading leaves in the outputs
 --   writes, writes-hold             likewise of writing
 use mathlib.Core.Path.{_≡_, refl}
@@ -27,14 +27,16 @@ use Rattle.ratio_format.specs.Choice.{find, best, ratioForm}
 use Rattle.ratio_format.specs.RatioForms.{written, coded}
 use Rattle.ratio_format.specs.Open.{openOne}
 use Rattle.ratio_format.specs.Bodies.{codedFrom, openFrom, strictRatios}
-use Rattle.record_format.specs.declared.ReadAnswer.{ReadAnswer}
+use Rattle.record_format.specs.declared.CheckAnswer.{CheckAnswer}
 use Rattle.record_format.specs.Fields.{fieldBytes, laid, tagAt, lengthAt, bodyAt, nextAt}
 use Rattle.record_format.specs.Examples.{pausedBytes}
 use Rattle.record_format.specs.Runs.{run, recordOf}
 use Rattle.record_format.specs.Writing.{writeRefusal, writeAnswer}
-use Rattle.record_format.specs.SideClaims.{refusedRead}
-use Rattle.record_format.specs.AnswerExamples.{givenRate, givenSide, givenCount, twoOpen, read, ReadExample, alike, openOnly, ReadsSo, WriteExample, wrote, WritesSo}
-use Rattle.record_format.specs.Reading.{countAt, sideIn, readWith, readOpen}
+use Rattle.record_format.specs.CheckClaims.{refusedFound}
+use Rattle.record_format.specs.AnswerExamples.{givenRate, givenSide, givenCount, twoOpen, sound, ReadExample, alike, openOnly, noRoom, ReadsSo, WriteExample, wrote, WritesSo}
+use Rattle.record_format.specs.Reading.{countAt, sideIn}
+use Rattle.record_format.specs.Checking.{found}
+use Rattle.record_format.specs.Fetching.{readWith, readOpen}
 
 -- ---- steps
 
@@ -94,41 +96,46 @@ front n = givenRate ++ givenCount n
 abbrev sided : ℕ → List ℕ
 sided n = givenRate ++ (givenSide 4 ++ givenCount n)
 
--- without a rate expected, both readings answer alike
-abbrev roomFor : ℕ → List ℕ → ReadAnswer → ReadExample
+-- without a rate expected, all answer alike
+abbrev roomFor : ℕ → List ℕ → CheckAnswer → ReadExample
 roomFor m s a = alike 0 m s a
 
 -- 3,501 points: nothing behind the count, a cut head, another tag, each form's tag; the room first; 4,096 wide points, 4,097, and 3,500; no points with a
--- byte too many, and in each form; tag 5 in the place of the ratios'; a run with a pause; an open form
+-- byte too many, and in each form; tag 5 in the place of the ratios'; a run with a pause; no room beside each number that a
+-- check then gives, 0, 10, 11, 15, 17 and 18; an open form
 pub reads : List ReadExample
 reads =
-    roomFor 4096 (front 3501) (refusedRead 10 12)
-    ∷ roomFor 4096 (front 3501 ++ (0x05 ∷ 0x00 ∷ [])) (refusedRead 10 12)
-    ∷ roomFor 4096 (front 3501 ++ (0x09 ∷ 0x00 ∷ 0x00 ∷ [])) (refusedRead 11 12)
-    ∷ roomFor 4096 (front 3501 ++ (0x05 ∷ 0x00 ∷ 0x00 ∷ [])) (refusedRead 15 7)
-    ∷ roomFor 4096 (front 3501 ++ (0x05 ∷ 0xFF ∷ 0xFF ∷ [])) (refusedRead 15 7)
-    ∷ roomFor 4096 (sided 3501 ++ (0x05 ∷ 0xFF ∷ 0xFF ∷ [])) (refusedRead 15 11)
-    ∷ roomFor 4096 (front 3501 ++ (0x03 ∷ 0xFF ∷ 0xFF ∷ [])) (refusedRead 10 12)
-    ∷ roomFor 4096 (front 4096 ++ (0x05 ∷ 0x00 ∷ 0x00 ∷ [])) (refusedRead 15 7)
-    ∷ roomFor 3500 (front 3501 ++ (0x05 ∷ 0x00 ∷ 0x00 ∷ [])) (refusedRead 16 7)
-    ∷ roomFor 3500 (sided 3501 ++ (0x05 ∷ 0x00 ∷ 0x00 ∷ [])) (refusedRead 16 11)
-    ∷ roomFor 4096 (front 4097) (refusedRead 15 7)
-    ∷ roomFor 4096 (front 3500 ++ (0x05 ∷ 0xFF ∷ 0xFF ∷ [])) (refusedRead 10 12)
-    ∷ roomFor 4096 (front 0 ++ (0x05 ∷ 0x00 ∷ 0x01 ∷ 0x00 ∷ [])) (refusedRead 17 12)
-    ∷ roomFor 4096 (front 0 ++ (0x05 ∷ 0x00 ∷ 0x00 ∷ 0x04 ∷ 0x00 ∷ 0x00 ∷ [])) (read 0 0 5 18)
-    ∷ roomFor 4096 (sided 0 ++ (0x05 ∷ 0x00 ∷ 0x00 ∷ 0x04 ∷ 0x00 ∷ 0x00 ∷ [])) (read 4 0 5 22)
-    ∷ roomFor 4096 (front 0 ++ (0x03 ∷ 0x00 ∷ 0x00 ∷ 0x04 ∷ 0x00 ∷ 0x00 ∷ [])) (read 0 0 3 18)
-    ∷ roomFor 4096 (front 0 ++ (0x05 ∷ 0x00 ∷ 0x00 ∷ 0x05 ∷ 0x00 ∷ 0x00 ∷ [])) (refusedRead 11 15)
-    ∷ roomFor 3 pausedBytes (read 0 3 5 54)
-    ∷ roomFor 2 pausedBytes (refusedRead 16 7)
-    ∷ openOnly 4096 (front 2 ++ twoOpen 5) (refusedRead 18 31) (read 0 2 5 52)
-    ∷ openOnly 4096 (sided 2 ++ twoOpen 5) (refusedRead 18 35) (read 4 2 5 56)
+    roomFor 4096 (front 3501) (refusedFound 10 12)
+    ∷ roomFor 4096 (front 3501 ++ (0x05 ∷ 0x00 ∷ [])) (refusedFound 10 12)
+    ∷ roomFor 4096 (front 3501 ++ (0x09 ∷ 0x00 ∷ 0x00 ∷ [])) (refusedFound 11 12)
+    ∷ roomFor 4096 (front 3501 ++ (0x05 ∷ 0x00 ∷ 0x00 ∷ [])) (refusedFound 15 7)
+    ∷ roomFor 4096 (front 3501 ++ (0x05 ∷ 0xFF ∷ 0xFF ∷ [])) (refusedFound 15 7)
+    ∷ roomFor 4096 (sided 3501 ++ (0x05 ∷ 0xFF ∷ 0xFF ∷ [])) (refusedFound 15 11)
+    ∷ roomFor 4096 (front 3501 ++ (0x03 ∷ 0xFF ∷ 0xFF ∷ [])) (refusedFound 10 12)
+    ∷ roomFor 4096 (front 4096 ++ (0x05 ∷ 0x00 ∷ 0x00 ∷ [])) (refusedFound 15 7)
+    ∷ noRoom 3500 (front 3501 ++ (0x05 ∷ 0x00 ∷ 0x00 ∷ [])) 7 (refusedFound 15 7)
+    ∷ noRoom 3500 (sided 3501 ++ (0x05 ∷ 0x00 ∷ 0x00 ∷ [])) 11 (refusedFound 15 11)
+    ∷ roomFor 4096 (front 4097) (refusedFound 15 7)
+    ∷ roomFor 4096 (front 3500 ++ (0x05 ∷ 0xFF ∷ 0xFF ∷ [])) (refusedFound 10 12)
+    ∷ roomFor 4096 (front 0 ++ (0x05 ∷ 0x00 ∷ 0x01 ∷ 0x00 ∷ [])) (refusedFound 17 12)
+    ∷ roomFor 4096 (front 0 ++ (0x05 ∷ 0x00 ∷ 0x00 ∷ 0x04 ∷ 0x00 ∷ 0x00 ∷ [])) (sound 0 0 5 18)
+    ∷ roomFor 4096 (sided 0 ++ (0x05 ∷ 0x00 ∷ 0x00 ∷ 0x04 ∷ 0x00 ∷ 0x00 ∷ [])) (sound 4 0 5 22)
+    ∷ roomFor 4096 (front 0 ++ (0x03 ∷ 0x00 ∷ 0x00 ∷ 0x04 ∷ 0x00 ∷ 0x00 ∷ [])) (sound 0 0 3 18)
+    ∷ roomFor 4096 (front 0 ++ (0x05 ∷ 0x00 ∷ 0x00 ∷ 0x05 ∷ 0x00 ∷ 0x00 ∷ [])) (refusedFound 11 15)
+    ∷ roomFor 3 pausedBytes (sound 0 3 5 54)
+    ∷ noRoom 2 pausedBytes 7 (sound 0 3 5 54)
+    ∷ noRoom 1 (front 2) 7 (refusedFound 10 12)
+    ∷ noRoom 1 (front 2 ++ (0x09 ∷ 0x00 ∷ 0x00 ∷ [])) 7 (refusedFound 11 12)
+    ∷ noRoom 1 (front 2 ++ (0x05 ∷ 0x00 ∷ 0x00 ∷ [])) 7 (refusedFound 17 12)
+    ∷ noRoom 1 (front 2 ++ twoOpen 5) 7 (refusedFound 18 31)
+    ∷ openOnly 4096 (front 2 ++ twoOpen 5) (refusedFound 18 31) (sound 0 2 5 52)
+    ∷ openOnly 4096 (sided 2 ++ twoOpen 5) (refusedFound 18 35) (sound 4 2 5 56)
     ∷ []
 
 -- each answer, computed from the definitions, is the one that is given
 pub reads-hold : ReadsSo reads
-unfolding reads member firstIndex begins same digitsOf numberOf bits eights pack rates isRate isSide firstOf rows wideRows inTable code stepsFrom steps stepBits positionBits codedPositions validPositions stepAt decodedSteps decodedBits decoded readPositions zerosAt leadZeros trailZeros sumOf find best ratioForm written coded codedFrom openOne openFrom strictRatios tagAt lengthAt bodyAt nextAt countAt sideIn readWith
-reads-hold = (refl, refl)
+unfolding reads member firstIndex begins same digitsOf numberOf bits eights pack rates isRate isSide firstOf rows wideRows inTable code stepsFrom steps stepBits positionBits codedPositions validPositions stepAt decodedSteps decodedBits decoded readPositions zerosAt leadZeros trailZeros sumOf find best ratioForm written coded codedFrom openOne openFrom strictRatios tagAt lengthAt bodyAt nextAt countAt sideIn readWith found
+reads-hold = (refl, refl, refl)
 
 -- the points at the front of both outputs, which keep the rest
 pub open-points :

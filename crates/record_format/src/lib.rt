@@ -8,7 +8,28 @@ pub struct WriteAnswer {
     pub length: u64,
 }
 
-// The answer of reading: number and place of the refusal, or 0 and 0 with the rate, the side (0 for none), the count of points, the tag of
+// The answer of a check: number and place of the refusal, or 0 and 0 with the rate, the side (0 for none), the count of points, the tag of their form
+// (3 or 5) and the record's size.
+#[repr(C)]
+pub struct CheckAnswer {
+    pub number: u32,
+    pub place: u32,
+    pub rate: u32,
+    pub side: u32,
+    pub count: u32,
+    pub form: u32,
+    pub size: u64,
+}
+
+// The answer of a fetch: number and place of the refusal, or 0 and 0 with the count of points.
+#[repr(C)]
+pub struct FetchAnswer {
+    pub number: u32,
+    pub place: u32,
+    pub count: u32,
+}
+
+// The answer of open reading: number and place of the refusal, or 0 and 0 with the rate, the side (0 for none), the count of points, the tag of
 // their form (3 or 5) and the bytes used.
 #[repr(C)]
 pub struct ReadAnswer {

@@ -1,2 +1,3 @@
 -- Laws of how the functions of `putting` go.
 pub mod Writings
+pub mod Recodings

@@ -13,19 +13,21 @@
 --   FrontRead e s f     the same, or its refusal
 --   tagOf, codedBy      of a coding: its field's tag, and the body of numbers
 --   Codable c ns        the numbers ns can be coded so
---   ratiosBy openly     the ratios of a body, openly or strictly
---   RatiosDue ..        the ratios' field stands at the offset p, and the output o has room for the count c
---   CodedRead ..        a field of coded numbers, which the reading k takes: its refusal, or the offset past it, and its numbers at the front of the
---                       output
---   PointsRead ..       positions and ratios: their refusal, or where they stand, and both at the front of the outputs
+--   ratiosBy r          the ratios of a body, strictly or by the open rule
+--   FoundInto ..        whether there is a list of c numbers, and where the output has room for them they stand at its front
+--   RoomToRead ..       the output has the room that the reading needs: strictly none, by the open rule for the count c
+--   RatiosDue ..        the ratios' field stands at the offset p, and the count is c
+--   CodedRead ..        a field of coded numbers, which the reading k takes: its refusal, or the offset past it, and where the output has room for the
+--                       count c its numbers stand at its front
+--   PointsRead ..       positions and ratios: their refusal, or where they stand, and each at the front of its output, where that has room
 use mathlib.Core.Path.{_≡_}
-use mathlib.Core.Bool.{Bool, true, false}
+use mathlib.Core.Bool.{Bool, true, false, not}
 use mathlib.Core.List.{List, _++_}
 use mathlib.Core.Option.{Option, none, some}
 use Prim.Native.Nat.{ℕ, _+_, _*_, _^_, _≤_, _<_}
 use lib.Dec.{eqb}
 use lib.ListN.{length}
-use Rattle.lists.specs.Optional.{listOf}
+use Rattle.lists.specs.Optional.{missing, listOf}
 use Rattle.bits.specs.Digits.{numberOf}
 use Rattle.limits.specs.Points.{maxPoints}
 use Rattle.outputs.specs.Outputs.{over}
@@ -37,7 +39,8 @@ use Rattle.position_format.specs.Tables.{tableOf}
 use Rattle.ratio_format.specs.Bodies.{codedRatios, openRatios, strictRatios}
 use Rattle.record_format.specs.Fields.{headSize, maxBody, bodyAt, nextAt}
 use Rattle.record_format.specs.Runs.{positionsTag, ratiosTag, sideSize}
-use Rattle.record_format.specs.Reading.{sideAt, countAt, positionsAt, ratiosAt, endAt, rateIn, sideIn, countIn, formIn, positionsIn, ratiosIn, sideTests, frontTests, positionsTests, ratiosTests}
+use Rattle.record_format.specs.Reading.{sideAt, countAt, positionsAt, ratiosAt, endAt, rateIn, sideIn, countIn, formIn, sideTests, frontTests, positionsTests, ratiosTests}
+use Rattle.record_format.specs.Checking.{runBy}
 use Rattle.record_parts.specs.declared.field.FieldBody.{FieldBody}
 use Rattle.record_parts.specs.declared.field.Length.{Length}
 use Rattle.record_parts.specs.declared.field.Length.the-variants.{Any, Exactly}
@@ -45,6 +48,8 @@ use Rattle.record_parts.specs.declared.front.Number.{Number}
 use Rattle.record_parts.specs.declared.front.Front.{Front}
 use Rattle.record_parts.specs.declared.coding.Coding.{Coding}
 use Rattle.record_parts.specs.declared.coding.Part.{Part}
+use Rattle.record_parts.specs.declared.coding.Reading.{Reading}
+use Rattle.record_parts.specs.declared.coding.Reading.the-variants.{Strict, Open}
 use Rattle.record_parts.specs.declared.points.Points.{Points}
 use Rattle.record_parts.specs.declared.coding.Coding.the-variants.{Positions, Ratios}
 
@@ -140,26 +145,34 @@ abbrev pub Codable : Coding → List ℕ → Type 0
 Codable (Positions f) ns = CodablePositions f ns × (length ns ≤ maxPoints)
 Codable Ratios ns = length ns ≤ maxPoints
 
--- ratios by the open rule, or strictly
-abbrev pub ratiosBy : Bool → ℕ → List ℕ → Option (List ℕ)
-ratiosBy true = openRatios
-ratiosBy false = strictRatios
+-- ratios strictly, or by the open rule
+abbrev pub ratiosBy : Reading → ℕ → List ℕ → Option (List ℕ)
+ratiosBy Strict = strictRatios
+ratiosBy Open = openRatios
+
+-- a list that was read, or not, into the output o, which is now q
+abbrev pub FoundInto : Option (List ℕ) → ℕ → Bool → List ℕ → List ℕ → Type 0
+FoundInto x c b o q = (b ≡ not (missing x)) × (missing x ≡ false → c ≤ length o → q ≡ over (listOf x) o)
+
+-- the open rule looks back in the output
+abbrev pub RoomToRead : Reading → ℕ → List ℕ → Type 0
+RoomToRead Strict c o = Unit {0}
+RoomToRead Open c o = c ≤ length o
 
 -- where ratios are to be read, and how many
-pub record RatiosDue (s : List ℕ) (p c : ℕ) (o : List ℕ) : Type 0 where
+pub record RatiosDue (s : List ℕ) (p c : ℕ) : Type 0 where
   pub here : p ≡ ratiosAt s
   pub inside : p ≤ length s
   pub near : p ≤ maxPlace
   pub counted : c ≡ countIn s
   pub few : c ≤ maxPoints
-  pub room : c ≤ length o
 
 -- what reading it leaves in the output o, which is now q
-pub record CodedRead (tests : List Test) (k : List ℕ → Option (List ℕ)) (s : List ℕ) (p : ℕ) (f : Part) (o q : List ℕ) : Type 0 where
+pub record CodedRead (tests : List Test) (k : List ℕ → Option (List ℕ)) (c : ℕ) (s : List ℕ) (p : ℕ) (f : Part) (o q : List ℕ) : Type 0 where
   pub part : PartRead tests s p (f .refusal) (f .end)
-  pub filled : f .refusal .number ≡ 0 → q ≡ over (listOf (k (bodyAt s p))) o
+  pub filled : f .refusal .number ≡ 0 → c ≤ length o → q ≡ over (listOf (k (bodyAt s p))) o
 
--- positions and ratios past a front, the ratios by the reading k: their refusal, or where they stand, and both at the front of the outputs ts and vs,
+-- positions and ratios past a front, the ratios by the reading k: their refusal, or where they stand, and each at the front of its output, ts and vs,
 -- which are now ps and qs
 pub record PointsRead (k : ℕ → List ℕ → Option (List ℕ)) (s ts vs : List ℕ) (f : Points) (ps qs : List ℕ) : Type 0 where
   pub refuses : f .refusal ≡ firstOf (positionsTests s ++ ratiosTests k s)
@@ -168,5 +181,5 @@ pub record PointsRead (k : ℕ → List ℕ → Option (List ℕ)) (s ts vs : Li
   pub next : f .refusal .number ≡ 0 → f .end ≡ endAt s
   pub inside : f .refusal .number ≡ 0 → endAt s ≤ length s
   pub near : f .refusal .number ≡ 0 → endAt s ≤ farthest 5
-  pub positions : f .refusal .number ≡ 0 → ps ≡ over (listOf (positionsIn s)) ts
-  pub ratios : f .refusal .number ≡ 0 → qs ≡ over (listOf (ratiosIn k s)) vs
+  pub positions : f .refusal .number ≡ 0 → countIn s ≤ length ts → ps ≡ over (runBy k s .positions) ts
+  pub ratios : f .refusal .number ≡ 0 → countIn s ≤ length vs → qs ≡ over (runBy k s .ratios) vs

@@ -4,13 +4,15 @@ ghost use Prim.Native.Nat.{_+_, _≤_};
 ghost use lib.Dec.{leb, ltb, eqb};
 ghost use lib.ListN.{length};
 ghost use Rattle.lists.specs.Compare.{both};
-ghost use Rattle.outputs.specs.Outputs.{Placed, Filled};
+ghost use Rattle.limits.specs.Points.{maxPoints};
+ghost use Rattle.outputs.specs.Outputs.{Placed};
 ghost use Rattle.position_format.specs.Positions.{readPositions};
 ghost use Rattle.position_format.specs.Tables.{tableOf, pointsOf};
+ghost use Rattle.ratio_format.specs.Bodies.{openRatios, strictRatios};
 ghost use Rattle.record_format.specs.Fields.{headSize, tagAt};
 ghost use Rattle.record_format.specs.Runs.{positionsTag, formOf};
 ghost use Rattle.record_format.specs.Reading.{formIn, positionsTests, ratiosTests};
-ghost use Rattle.record_parts.specs.Fields.{CountFound, ratiosBy, tagOf, codedBy, Codable, RatiosDue, CodedRead};
+ghost use Rattle.record_parts.specs.Fields.{CountFound, ratiosBy, tagOf, codedBy, Codable, FoundInto, RoomToRead, RatiosDue, CodedRead};
 use super::field::Length;
 use super::field::has_tag;
 use super::field::is_head_whole;
@@ -28,6 +30,12 @@ use refusals::Refusal;
 pub enum Coding {
     Positions(Form),
     Ratios,
+}
+
+// How the ratios' field is read: it must be the coding of its ratios, or the open rule reads it.
+pub enum Reading {
+    Strict,
+    Open,
 }
 
 // A part of a record: its refusal, or the offset past it.
@@ -95,17 +103,46 @@ pub(crate) fn put_body(coding: Coding, numbers: &[u64], out: &mut [u8]) -> Wrote
     }
 }
 
-// The ratios of a body, by the open rule or strictly: as many as the count, and every byte used.
-fn get_ratios(openly: bool, body: &[u8], count: usize, out: &mut [u64]) -> bool
-    requires { ⌜ count ≤ length (now out) ⌝ }
-    ensures { λ r. ⌜ Filled (ratiosBy openly count (now (body .entry))) r (now (out .entry)) (now (out .exit)) ⌝ }
+// Whether a body is the coding of so many positions in a form, which are put at the front of the output if it has room for them.
+fn get_positions(form: Form, body: &[u8], count: usize, out: &mut [u64]) -> bool
+    requires { ⌜ count ≤ maxPoints ⌝ }
+    ensures { λ r. ⌜ FoundInto (readPositions (tableOf form) count (now (body .entry))) count r (now (out .entry)) (now (out .exit)) ⌝ }
 {
-    if openly {
-        let took = ratio_bodies::get_open(body, count, out);
-        took.whole(count, body.len())
-    } else {
-        let took = ratio_bodies::get_strict(body, count, out);
-        took.whole(count, body.len())
+    if out.len() < count {
+        return position_codec::check_positions(form, body, count);
+    }
+    position_codec::get_positions(form, body, count, out)
+}
+
+// The same of ratios that are read strictly.
+fn get_strict(body: &[u8], count: usize, out: &mut [u64]) -> bool
+    ensures { λ r. ⌜ FoundInto (strictRatios count (now (body .entry))) count r (now (out .entry)) (now (out .exit)) ⌝ }
+{
+    if out.len() < count {
+        let counted = ratio_bodies::count_strict(body, count);
+        return counted.whole(count, body.len());
+    }
+    let took = ratio_bodies::get_strict(body, count, out);
+    took.whole(count, body.len())
+}
+
+// Whether the open rule reads a body as so many ratios, which are put at the front of the output.
+fn get_open(body: &[u8], count: usize, out: &mut [u64]) -> bool
+    requires { ⌜ count ≤ length (now out) ⌝ }
+    ensures { λ r. ⌜ FoundInto (openRatios count (now (body .entry))) count r (now (out .entry)) (now (out .exit)) ⌝ }
+{
+    let took = ratio_bodies::get_open(body, count, out);
+    took.whole(count, body.len())
+}
+
+// The ratios of a body, strictly or by the open rule, which needs room for them.
+fn get_ratios(reading: Reading, body: &[u8], count: usize, out: &mut [u64]) -> bool
+    requires { ⌜ RoomToRead reading count (now out) ⌝ }
+    ensures { λ r. ⌜ FoundInto (ratiosBy reading count (now (body .entry))) count r (now (out .entry)) (now (out .exit)) ⌝ }
+{
+    match reading {
+        Reading::Strict => get_strict(body, count, out),
+        Reading::Open => get_open(body, count, out),
     }
 }
 
@@ -117,7 +154,7 @@ fn has_many(form: Form, input: &[u8], at: usize, count: usize) -> bool
     is_head_whole(input, at) && points_of(form) < count
 }
 
-// The positions' field, in the form that its tag names, at its offset: its tests, and its positions at the front of the output, which has room for
+// The positions' field, in the form that its tag names, at its offset: its tests, and its positions at the front of the output, if it has room for
 // them. The count's field stands at `place`; a run in the form may have fewer points than the count: 15 there, before the body is looked at.
 pub fn read_positions(
     form: Form,
@@ -127,8 +164,8 @@ pub fn read_positions(
     at: usize,
     out: &mut [u64],
 ) -> Part
-    requires { ⌜ (form ≡ formIn (now input)) × CountFound (now input) count place at × (count ≤ length (now out)) ⌝ }
-    ensures { λ r. ⌜ CodedRead (positionsTests (now (input .entry))) (readPositions (tableOf form) count) (now (input .entry)) at r (now (out .entry)) (now (out .exit)) ⌝ }
+    requires { ⌜ (form ≡ formIn (now input)) × CountFound (now input) count place at ⌝ }
+    ensures { λ r. ⌜ CodedRead (positionsTests (now (input .entry))) (readPositions (tableOf form) count) count (now (input .entry)) at r (now (out .entry)) (now (out .exit)) ⌝ }
 {
     if has_many(form, input, at, count) {
         return Part {
@@ -148,7 +185,7 @@ pub fn read_positions(
     }
     let from = field.from;
     let to = field.to;
-    if !position_codec::get_positions(form, &input[from..to], count, out) {
+    if !get_positions(form, &input[from..to], count, out) {
         return Part {
             refusal: Refusal {
                 number: 17,
@@ -160,16 +197,16 @@ pub fn read_positions(
     Part { refusal, end: to }
 }
 
-// The ratios' field, by the open rule or strictly, at its offset: its tests, and its ratios at the front of the output.
+// The ratios' field, strictly or by the open rule, at its offset: its tests, and its ratios at the front of the output, if it has room for them.
 pub(crate) fn read_ratios(
-    openly: bool,
+    reading: Reading,
     input: &[u8],
     count: usize,
     at: usize,
     out: &mut [u64],
 ) -> Part
-    requires { ⌜ RatiosDue (now input) at count (now out) ⌝ }
-    ensures { λ r. ⌜ CodedRead (ratiosTests (ratiosBy openly) (now (input .entry))) (ratiosBy openly count) (now (input .entry)) at r (now (out .entry)) (now (out .exit)) ⌝ }
+    requires { ⌜ RatiosDue (now input) at count × RoomToRead reading count (now out) ⌝ }
+    ensures { λ r. ⌜ CodedRead (ratiosTests (ratiosBy reading) (now (input .entry))) (ratiosBy reading count) count (now (input .entry)) at r (now (out .entry)) (now (out .exit)) ⌝ }
 {
     let tags = [RATIOS_TAG];
     let field = read_field(input, at, &tags, Length::Any);
@@ -180,7 +217,7 @@ pub(crate) fn read_ratios(
     }
     let from = field.from;
     let to = field.to;
-    if !get_ratios(openly, &input[from..to], count, out) {
+    if !get_ratios(reading, &input[from..to], count, out) {
         return Part {
             refusal: Refusal {
                 number: 18,

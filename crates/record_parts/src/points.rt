@@ -1,8 +1,7 @@
 // The points of a record: the fields of the positions and of the ratios, past its front.
 ghost use mathlib.Core.Path.{_≡_};
-ghost use Prim.Native.Nat.{_≤_};
-ghost use lib.ListN.{length};
-ghost use Rattle.record_parts.specs.Fields.{ratiosBy, CountFound, PointsRead};
+ghost use Rattle.record_parts.specs.Fields.{ratiosBy, CountFound, RoomToRead, PointsRead};
+use super::coding::Reading;
 use super::coding::form_at;
 use super::coding::read_positions;
 use super::coding::read_ratios;
@@ -29,11 +28,11 @@ fn no_points(refusal: Refusal) -> Points
     }
 }
 
-// The points past a count, whose field stands at `place` and ends at `at`, at the front of the outputs, which have room for them; the ratios by the
-// open rule or strictly. Count, place and offset are three arguments: a front as one costs the loop over the positions
-// registers.
+// The points past a count, whose field stands at `place` and ends at `at`, the ratios strictly or by the open rule. They are put at the front of each
+// output that has room for them; read strictly they need none, and open reading needs room for the ratios. Count, place and offset are
+// three arguments: a front as one costs the loop over the positions registers.
 pub fn read_points(
-    openly: bool,
+    reading: Reading,
     input: &[u8],
     count: usize,
     place: usize,
@@ -41,8 +40,8 @@ pub fn read_points(
     positions: &mut [u64],
     ratios: &mut [u64],
 ) -> Points
-    requires { ⌜ CountFound (now input) count place at × (count ≤ length (now positions)) × (count ≤ length (now ratios)) ⌝ }
-    ensures { λ r. ⌜ PointsRead (ratiosBy openly) (now (input .entry)) (now (positions .entry)) (now (ratios .entry)) r (now (positions .exit)) (now (ratios .exit)) ⌝ }
+    requires { ⌜ CountFound (now input) count place at × RoomToRead reading count (now ratios) ⌝ }
+    ensures { λ r. ⌜ PointsRead (ratiosBy reading) (now (input .entry)) (now (positions .entry)) (now (ratios .entry)) r (now (positions .exit)) (now (ratios .exit)) ⌝ }
 {
     let form = form_at(input, at);
     let points = read_positions(form, input, count, place, at, positions);
@@ -51,7 +50,7 @@ pub fn read_points(
     if positions_number != 0 {
         return no_points(positions_refused);
     }
-    let values = read_ratios(openly, input, count, points.end, ratios);
+    let values = read_ratios(reading, input, count, points.end, ratios);
     let ratios_refused = values.refusal;
     let ratios_number = ratios_refused.number;
     if ratios_number != 0 {

@@ -1,23 +1,30 @@
-// Fields put at the front of an output: those that hold a number, those of coded numbers, and the front of a record with its positions.
+// Fields put at the front of an output: those that hold a number, those of coded numbers, and the front of a record with its positions, which are given
+// as numbers or as a body in the other form.
+ghost use mathlib.Core.Bool.{false};
 ghost use mathlib.Core.List.{[], _∷_};
 ghost use mathlib.Core.Path.{_≡_};
 ghost use Prim.Native.Nat.{_≤_};
 ghost use lib.ListN.{length};
+ghost use Rattle.lists.specs.Optional.{missing, listOf};
 ghost use Rattle.bits.specs.Digits.{bytesOf};
 ghost use Rattle.limits.specs.Points.{maxPoints};
 ghost use Rattle.outputs.specs.Outputs.{over, Placed, Left, Next};
+ghost use Rattle.position_format.specs.Positions.{readPositions};
+ghost use Rattle.position_format.specs.Tables.{tableOf};
 ghost use Rattle.position_codec.specs.Codes.{CodablePositions};
 ghost use Rattle.record_format.specs.Fields.{fieldOf, lengthSize, headSize, laid};
-ghost use Rattle.record_format.specs.Runs.{sideFields};
+ghost use Rattle.record_format.specs.Runs.{sideFields, positionsField, frontFields};
 ghost use Rattle.record_parts.specs.Fields.{tagOf, codedBy, Codable};
-ghost use Rattle.record_parts.specs.Leads.{leadFields};
+ghost use Rattle.record_parts.specs.Leads.{leadFields, RecodedAs, RecodedNowhere};
 use super::coding::Coding;
+use super::coding::form_tag;
 use super::coding::put_body;
 use super::coding::tag_of;
 use super::field::LENGTH_SIZE;
 use super::field::TAG_SIZE;
 use outputs::Wrote;
 use outputs::both_wrote;
+use position_codec::Recoded;
 use position_format::Form;
 use record_format::COUNT_SIZE;
 use record_format::COUNT_TAG;
@@ -87,19 +94,83 @@ fn put_side_next(wrote: Wrote, side: u32, out: &mut [u8]) -> Wrote
     put_number_next(wrote, out, SIDE_TAG, SIDE_SIZE, side as u64)
 }
 
+// The fields of the rate, of the side and of the count, at the front of the output.
+fn put_front(rate: u32, side: u32, count: usize, out: &mut [u8]) -> Wrote
+    ensures { λ r. ⌜ Placed (laid (frontFields rate side count)) r (now (out .entry)) (now (out .exit)) ⌝ }
+{
+    let rate_end = put_number(out, RATE_TAG, RATE_SIZE, rate as u64);
+    let side_end = put_side_next(rate_end, side, out);
+    put_number_next(side_end, out, COUNT_TAG, COUNT_SIZE, count as u64)
+}
+
 // The fields of the rate, of the side, of the count and of the positions in a form, at the front of the output: all but the ratios'.
 pub fn put_lead(rate: u32, side: u32, form: Form, positions: &[u64], out: &mut [u8]) -> Wrote
     requires { ⌜ CodablePositions form (now positions) × (length (now positions) ≤ maxPoints) ⌝ }
     ensures { λ r. ⌜ Placed (laid (leadFields rate side form (now (positions .entry)))) r (now (out .entry)) (now (out .exit)) ⌝ }
 {
-    let rate_end = put_number(out, RATE_TAG, RATE_SIZE, rate as u64);
-    let side_end = put_side_next(rate_end, side, out);
-    let count = positions.len() as u64;
-    let Wrote::Done(front_end) = put_number_next(side_end, out, COUNT_TAG, COUNT_SIZE, count) else {
+    let Wrote::Done(front_end) = put_front(rate, side, positions.len(), out) else {
         return Wrote::NoRoom;
     };
     both_wrote(
         front_end,
         put_coded(Coding::Positions(form), positions, &mut out[front_end..]),
     )
+}
+
+// Positions that are to be recoded where there is no room for what they are a part of: the first whose step the table does not hold is told all the same.
+fn recode_nowhere(from: Form, to: Form, body: &[u8], count: usize) -> Recoded
+    requires { ⌜ (missing (readPositions (tableOf from) count (now body)) ≡ false) × (count ≤ maxPoints) ⌝ }
+    ensures { λ r. ⌜ RecodedNowhere to (listOf (readPositions (tableOf from) count (now (body .entry)))) r ⌝ }
+{
+    let mut none: [u8; 0] = [0; 0];
+    match position_codec::recode_positions(from, to, body, count, &mut none) {
+        Recoded::Outside(i) => Recoded::Outside(i),
+        Recoded::Put(_) => Recoded::Put(Wrote::NoRoom),
+    }
+}
+
+// The positions of a body in the form `from`, as a field in the form `to`, at the front of the output: the body past the head, and then the head.
+fn put_recoded(from: Form, to: Form, body: &[u8], count: usize, out: &mut [u8]) -> Recoded
+    requires { ⌜ (missing (readPositions (tableOf from) count (now body)) ≡ false) × (count ≤ maxPoints) ⌝ }
+    ensures { λ r. ⌜ RecodedAs to (listOf (readPositions (tableOf from) count (now (body .entry))))
+        (laid (positionsField to (listOf (readPositions (tableOf from) count (now (body .entry)))) ∷ []))
+        r (now (out .entry)) (now (out .exit)) ⌝ }
+{
+    if out.len() < HEAD_SIZE {
+        return recode_nowhere(from, to, body, count);
+    }
+    let recoded = position_codec::recode_positions(from, to, body, count, &mut out[HEAD_SIZE..]);
+    let Recoded::Put(wrote) = recoded else {
+        return recoded;
+    };
+    let Wrote::Done(n) = wrote else {
+        return Recoded::Put(Wrote::NoRoom);
+    };
+    put_head(out, form_tag(to), n);
+    Recoded::Put(Wrote::Done(n + HEAD_SIZE))
+}
+
+// The fields of `put_lead`, where the positions are those of a body in the form `from`, and are written in the form `to`.
+pub fn put_recoded_lead(
+    rate: u32,
+    side: u32,
+    from: Form,
+    to: Form,
+    body: &[u8],
+    count: usize,
+    out: &mut [u8],
+) -> Recoded
+    requires { ⌜ (missing (readPositions (tableOf from) count (now body)) ≡ false) × (count ≤ maxPoints) ⌝ }
+    ensures { λ r. ⌜ RecodedAs to (listOf (readPositions (tableOf from) count (now (body .entry))))
+        (laid (leadFields rate side to (listOf (readPositions (tableOf from) count (now (body .entry))))))
+        r (now (out .entry)) (now (out .exit)) ⌝ }
+{
+    let Wrote::Done(front_end) = put_front(rate, side, count, out) else {
+        return recode_nowhere(from, to, body, count);
+    };
+    let recoded = put_recoded(from, to, body, count, &mut out[front_end..]);
+    let Recoded::Put(wrote) = recoded else {
+        return recoded;
+    };
+    Recoded::Put(both_wrote(front_end, wrote))
 }

@@ -1,14 +1,16 @@
 -- Laws of a call's tests: the refusal that the first of them gives, by one test and by two lists of tests.
 use mathlib.Core.Bool.{Bool, true, false, not, cond, false≢true}
 use mathlib.Core.List.{List, [], _∷_, _++_, map, map-append}
-use mathlib.Core.Path.{_≡_, refl, sym, ap, ap₂, _∙_}
+use mathlib.Core.Logic.{_⊎_, inl, inr}
+use mathlib.Core.Path.{_≡_, refl, sym, ap, ap₂, subst, _∙_}
 use Prim.Native.Nat.{ℕ, zero, suc, _+_, _<_}
 use native.Mathlib.Nat.{add-zero}
 use native.Mathlib.Omega.{arith}
-use borrow.Author.Tests.{ltb-true, eq-eqb}
+use borrow.Author.Tests.{ltb-true, eqb-true, eq-eqb}
 use lib.Dec.{ltb, eqb}
 use Rattle.refusals.specs.declared.Refusal.{Refusal}
 use Rattle.refusals.specs.Tests.{Test, test, refusal, noRefusal, firstOf}
+use Rattle.lists.specs.Among.{Among}
 use Rattle.lists.proofs.Lists.{every, every-cons}
 
 -- no test has the number of a success: of tests with literal numbers, by refl
@@ -122,6 +124,36 @@ never-append n [] ts a b = b
 never-append n (s ∷ ss) ts a b =
     let h = every-cons (λ (t : Test). cond (eqb (t .number) n) (not (t .applies)) true) s ss a in
     ap₂ (λ (x y : Bool). cond x y false) (h .0) (never-append n ss ts (h .1) b)
+
+-- ---- numbers that tests give
+
+-- every test's number is one of a list: of tests with literal numbers, by refl
+abbrev pub isOne : ℕ → List ℕ → Bool
+isOne n [] = false
+isOne n (m ∷ l) = cond (eqb n m) true (isOne n l)
+
+abbrev pub numberedBy : List ℕ → List Test → Bool
+numberedBy ns ts = every (λ t. isOne (t .number) ns) ts
+
+one-among : (n : ℕ) (l : List ℕ) → isOne n l ≡ true → Among n l
+unfolding Among
+one-among n [] e = absurd (false≢true e)
+one-among n (m ∷ l) e = go (eqb n m) refl e (one-among n l)
+  where
+    go : (b : Bool) → eqb n m ≡ b → cond b true (isOne n l) ≡ true → (isOne n l ≡ true → Among n l) → (n ≡ m) ⊎ Among n l
+    go true q h f = inl (eqb-true n m q)
+    go false q h f = inr (f h)
+
+pub firstOf-among : (ns : List ℕ) (ts : List Test) → numberedBy ns ts ≡ true → Among (firstOf ts .number) (0 ∷ ns)
+unfolding Among
+firstOf-among ns [] w = inl (ap (λ (r : Refusal). r .number) firstOf-end)
+firstOf-among ns (t ∷ ts) w =
+    let h = every-cons (λ (t : Test). isOne (t .number) ns) t ts w in
+    go (t .applies) refl (one-among (t .number) ns (h .0)) (firstOf-among ns ts (h .1))
+  where
+    go : (b : Bool) → t .applies ≡ b → Among (t .number) ns → Among (firstOf ts .number) (0 ∷ ns) → Among (firstOf (t ∷ ts) .number) (0 ∷ ns)
+    go true q h f = inr (subst (λ (n : ℕ). Among n ns) (sym (ap (λ (r : Refusal). r .number) (firstOf-here t ts q))) h)
+    go false q h f = subst (λ (n : ℕ). Among n (0 ∷ ns)) (sym (ap (λ (r : Refusal). r .number) (firstOf-skip t ts q))) f
 
 -- ---- places
 

@@ -1,4 +1,4 @@
--- `print` meets its contract: what is put into the output is the text of the comparison of what reading the inputs answers.
+-- `print` meets its contract: what is put into the output is the text of the comparison of what reading the inputs left.
 use mathlib.Core.List.{List}
 use mathlib.Core.Path.{_≡_, sym, ap, _∙_}
 use Prim.Native.Nat.{ℕ, _≤_}
@@ -8,7 +8,6 @@ use lib.Seq.{length-take-le}
 use Rattle.limits.specs.Points.{maxPoints}
 use Rattle.text.proofs.PlacedAt.{placed-same, placed-within, placed-then}
 use Rattle.inputs.specs.Readings.{RunHeld}
-use Rattle.inputs.proofs.Readings.{read-held}
 use Rattle.differences.specs.declared.OverallDifferences.{OverallDifferences}
 use Rattle.differences.proofs.Overall.{overall-clear}
 use Rattle.compare.proofs.Printed.{refused-text, lines-text}
@@ -18,7 +17,7 @@ use Rattle.compare.proofs.print.Tie as tie
 
 -- ---- places
 
--- both readings, and the outputs that they left
+-- what was read of each record, and the outputs as that left them
 abbrev second : tie.After-overall-of → tie.After-read-input2
 second k = k .before
 
@@ -68,10 +67,10 @@ clear c = overall-clear _ _ (sym (ap (λ (h : OverallDifferences). h .number) (c
 
 -- then the outputs hold both runs' numbers
 first-held : (c : tie.Else1) → let k = c .before in RunHeld (first k .read-input .result .count) (first-positions k) (first-ratios k)
-first-held c = read-held (first (c .before) .read-input .ensures) (clear c .0)
+first-held c = first (c .before) .read-input .ensures .held (clear c .0)
 
 second-held : (c : tie.Else1) → let k = c .before in RunHeld (second k .read-input2 .result .count) (second-positions k) (second-ratios k)
-second-held c = read-held (second (c .before) .read-input2 .ensures) (clear c .1)
+second-held c = second (c .before) .read-input2 .ensures .held (clear c .1)
 
 -- and no more of them than a run has
 few : (c : tie.After-least) → c .least .result ≤ maxPoints

@@ -9,7 +9,7 @@ use Rattle.differences.specs.declared.Difference.{Difference}
 use Rattle.differences.specs.declared.Difference.the-variants.{More}
 use Rattle.differences.specs.declared.OverallDifferences.{OverallDifferences}
 use Rattle.differences.specs.Differences.{propertyDifference, moreDifference, positionBy, ratioBy, positionAt, ratioAt}
-use Rattle.differences.specs.Overall.{overallRead, overallOf}
+use Rattle.differences.specs.Overall.{overallSound, overallOf}
 use Rattle.differences.specs.Claims.{AtIndex, NoneBeyond, Tells, OverallExactly}
 use Rattle.differences.proofs.Differences.{property-same, property-other, more-same, more-other, values-beyond, values-same, values-other}
 use Rattle.differences.proofs.Overall.{overall-first, overall-second, overall-both}
@@ -42,7 +42,7 @@ overall-exactly a b = (
   λ n. sym (overall-first a b n),
   λ ok n. sym (overall-second a b ok n),
   λ ok fine.
-      let h : overallOf a b ≡ overallRead a b = sym (overall-both a b ok fine) in (
+      let h : overallOf a b ≡ overallSound a b = sym (overall-both a b ok fine) in (
         ap (λ (x : OverallDifferences). x .number) h,
         ap (λ (x : OverallDifferences). x .place) h,
         ap (λ (x : OverallDifferences). x .which) h,

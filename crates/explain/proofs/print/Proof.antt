@@ -1,4 +1,4 @@
--- `print` meets its contract: what is put into the output is the text for what reading the input answers, and the index.
+-- `print` meets its contract: what is put into the output is the text for what reading the input left, and the index.
 use mathlib.Core.List.{List}
 use mathlib.Core.Path.{_≡_, sym, ap, _∙_}
 use Prim.Native.Nat.{ℕ, _-_, _≤_}
@@ -10,7 +10,6 @@ use Rattle.ratio_format.specs.Bodies.{codedRatios}
 use Rattle.text.proofs.PlacedAt.{placed-same, placed-within}
 use Rattle.inputs.specs.Inputs.{inputLimit}
 use Rattle.inputs.specs.Readings.{RunHeld}
-use Rattle.inputs.proofs.Readings.{read-held}
 use Rattle.explain.specs.Indexes.{givenIndex}
 use Rattle.explain.specs.Printed.{bodyIn, pointText}
 use Rattle.explain.proofs.Printed.{point-capped, refused-text, body-start, run-text}
@@ -51,7 +50,7 @@ indexed k = k .before
 
 -- the outputs hold its numbers
 run-held : (c : tie.Else1) → RunHeld (read c .read-input .result .count) (left-positions (read c)) (left-ratios (read c))
-run-held c = read-held (read c .read-input .ensures) (c .if1 .left)
+run-held c = read c .read-input .ensures .held (c .if1 .left)
 
 abbrev ratios : tie.Else1 → List ℕ
 ratios c = take (read c .read-input .result .count) (left-ratios (read c))
@@ -61,7 +60,7 @@ few c = length-take-le _ _ (run-held c .ratios)
 
 -- the record ends where its ratios' body does
 body : (c : tie.Else1) → let r = read c .read-input .result in
-    (length (codedRatios (ratios c)) ≤ r .used) × (r .used - length (codedRatios (ratios c)) ≡ bodyIn (start (read c) .args .input .now)) × (r .used ≤ inputLimit)
+    (length (codedRatios (ratios c)) ≤ r .size) × (r .size - length (codedRatios (ratios c)) ≡ bodyIn (start (read c) .args .input .now)) × (r .size ≤ inputLimit)
 body c = body-start (read c .read-input .ensures) (start (read c) .args .index .now) (c .if1 .left)
 
 -- ---- the needs
@@ -127,13 +126,13 @@ returns-2 c =
     let k = indexed i in
     let e = sized k in
     let text = start (read e) .args .index .now in
-    let used = read e .read-input .result .used in
-    let b = used - k .body-size .result in
+    let size = read e .read-input .result .size in
+    let b = size - k .body-size .result in
     let short : length (ratios e) ≤ maxPoints = omega (arith, few e, run-held e .few) in
     placed-same
     (ap (pointText b (ratios e)) (i .index-in .ensures)
     ∙ point-capped b (ratios e) short (givenIndex text)
-    ∙ run-text (read e .read-input .ensures) text (e .if1 .left) b (ap (λ (n : ℕ). used - n) (k .body-size .ensures)))
+    ∙ run-text (read e .read-input .ensures) text (e .if1 .left) b (ap (λ (n : ℕ). size - n) (k .body-size .ensures)))
     (put .put-index .ensures)
 
 pub print-spec : {M : Type 1} → statement M

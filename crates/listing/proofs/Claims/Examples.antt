@@ -6,7 +6,7 @@ use Rattle.bits.specs.Digits.{digitsOf}
 use Rattle.limits.specs.Rates.{rates, isRate}
 use Rattle.refusals.specs.Tests.{firstOf}
 use Rattle.record_format.specs.Examples.{listedRun, sidedRun, pausedRun}
-use Rattle.record_format.specs.Reading.{readWith}
+use Rattle.record_format.specs.Checking.{found}
 use Rattle.record_format.specs.Runs.{recordOf}
 use Rattle.record_format.proofs.Examples.{listed-record, listed-accepted, sided-record, sided-accepted, paused-record, paused-accepted}
 use Rattle.span.specs.Spans.{spanned}
@@ -14,8 +14,8 @@ use Rattle.text.specs.Numbers.{trimmed, decimal, hex16, signed}
 use Rattle.text.specs.Lines.{refusedLine}
 use Rattle.listing.specs.Lines.{rateLine, sideLine, countLine, spanLine, pointLine, pointLines, listing}
 use Rattle.listing.specs.Examples.{listedText, sidedText, pausedText, refusedText}
-use Rattle.listing.specs.Printed.{textOf, printed}
-use Rattle.listing.specs.Claims.{listingOf, PrintsListed}
+use Rattle.listing.specs.Printed.{listingOf, textOf, printed}
+use Rattle.listing.specs.Claims.{PrintsListed}
 use Rattle.listing.proofs.Claims.{prints-run}
 
 -- the run's listing is the text, and so it is on a side and in the wide form
@@ -25,7 +25,7 @@ text-is = (refl, refl, refl)
 
 -- of no input the head of the rate's field is not whole
 refused-is : printed [] ≡ refusedText
-unfolding readWith firstOf textOf digitsOf trimmed decimal refusedLine
+unfolding found firstOf textOf digitsOf trimmed decimal refusedLine
 refused-is = refl
 
 pub prints-listed : PrintsListed

@@ -1,4 +1,4 @@
--- `print` meets its contract: what is put into the output is the text for what reading the input answers.
+-- `print` meets its contract: what is put into the output is the text for what reading the input left.
 use mathlib.Core.List.{List}
 use mathlib.Core.Path.{sym, ap, _∙_}
 use Prim.Native.Nat.{ℕ}
@@ -10,7 +10,6 @@ use mir.ValLaws.{toZ-ofZ}
 use Rattle.span.specs.declared.SpanAnswer.{SpanAnswer}
 use Rattle.text.proofs.PlacedAt.{placed-same, placed-within}
 use Rattle.inputs.specs.Readings.{RunHeld}
-use Rattle.inputs.proofs.Readings.{read-held}
 use Rattle.listing.proofs.Printed.{refused-text, run-text, listing-within}
 use borrow.Author.Needs.{needs}
 use Rattle.listing.proofs.print.Statement.{statement}
@@ -40,7 +39,7 @@ listed k = k .before .before .before .before
 
 -- the outputs hold its numbers
 run-held : (c : tie.Else1) → RunHeld (read c .read-input .result .count) (positions (read c)) (ratios (read c))
-run-held c = read-held (read c .read-input .ensures) (c .if1 .left)
+run-held c = read c .read-input .ensures .held (c .if1 .left)
 
 -- ---- the needs
 

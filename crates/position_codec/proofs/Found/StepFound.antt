@@ -94,7 +94,7 @@ module _ (rs : List Row) (good : goodTable rs ≡ true) (q : ℕ) (short : short
   here = getD rs i noRow
 
   -- a code that stands there is by that row
-  by-row : (z : ℤ) → inTable rs z ≡ true → begins (code rs z) ds ≡ true → rowOf rs z ≡ i
+  pub by-row : (z : ℤ) → inTable rs z ≡ true → begins (code rs z) ds ≡ true → rowOf rs z ≡ i
   by-row z e b =
       let t = begins-rest (code rs z) ds b in
       let p = getD rs (rowOf rs z) noRow .prefix in
@@ -102,7 +102,7 @@ module _ (rs : List Row) (good : goodTable rs ≡ true) (q : ℕ) (short : short
       prefix-one noRow rs good (ahead q ds) (rowOf rs z) i (inTable-row rs z e) (lead .row)
       (begins-ahead q p ds (prefix-short q rs short (rowOf rs z) (inTable-row rs z e)) bp) (lead .front)
 
-  size-by : (z : ℤ) → inTable rs z ≡ true → rowOf rs z ≡ i → length (code rs z) ≡ n
+  pub size-by : (z : ℤ) → inTable rs z ≡ true → rowOf rs z ≡ i → length (code rs z) ≡ n
   size-by z e is = length-code noRow z rs e ∙ ap (λ (j : ℕ). codeLength (getD rs j noRow)) is ∙ sym (lead .len)
 
   -- so there is none where there are fewer bits than its codes have

@@ -5,12 +5,13 @@ use native.Mathlib.Omega.{arith}
 use borrow.Author.Needs.{needs}
 use Rattle.ratio_format.specs.Open.{openOne}
 use Rattle.ratio_format.proofs.Bodies.Taken.{open-within}
-use Rattle.ratio_bodies.proofs.Taking.{Taking, taking-start, taking-all, taking-stop, taking-within, taking-more}
+use Rattle.ratio_bodies.specs.Taking.{Taking}
+use Rattle.ratio_bodies.proofs.Taking.{taking-start, taking-all, taking-stop, taking-within, taking-more, onto-into}
 use Rattle.ratio_bodies.proofs.get_open.Statement.{statement}
 use Rattle.ratio_bodies.proofs.get_open.Tie as tie
 
 abbrev Inv-loop : tie.InvT-loop
-Inv-loop body count out₀ at₀ i₀ out at i = Taking openOne count body out₀ out at i
+Inv-loop body count out₀ at₀ i₀ out at i = Taking openOne count body out₀ 0 0 out at i
 
 abbrev μ-loop : tie.MeasureT-loop
 μ-loop body count out₀ at₀ i₀ out at i = count - i
@@ -28,7 +29,7 @@ read c = c .before .before .before
 loop-holds : tie.Need-loop-holds Inv-loop μ-loop
 loop-holds c =
     let a = start c .args in
-    taking-start openOne (a .count) (a .body .now) (a .out .now)
+    taking-start openOne (a .count) (a .body .now) (a .out .now) 0 0 (omega arith) (omega arith)
 
 open-from-requires : tie.Need-open-from-requires Inv-loop μ-loop
 open-from-requires c κs = search needs
@@ -49,7 +50,8 @@ returns c =
     let l = turn told .loop in
     let s = start (turn told .before) in
     let a = s .args in
-    taking-stop openOne (a .count) (a .body .now) (a .out .now) (l .out) (l .at) (l .i) (l .inv) (omega arith) (r .result) (r .ensures) (s .pre) (c .enum-told .given .1)
+    onto-into openOne (a .count) (a .body .now) (a .out .now) (l .out) (record { count = l .i; used = l .at })
+    (taking-stop openOne (a .count) (a .body .now) (a .out .now) 0 0 (l .out) (l .at) (l .i) (l .inv) (omega arith) (r .result) (r .ensures) (c .enum-told .given .1))
 
 mul-out : tie.Need-mul-out Inv-loop μ-loop
 mul-out c = search needs
@@ -63,7 +65,7 @@ add-at c =
     let r = read c .open-from in
     let l = turn (read c) .loop in
     let a = start (turn (read c) .before) .args in
-    omega (arith, taking-within openOne (a .count) (a .body .now) (a .out .now) (l .out) (l .at) (l .i) (l .inv) (omega arith) (r .result) (r .ensures) open-within (g .0 .0) (g .0 .1 .0) (g .1))
+    omega (arith, taking-within openOne (a .count) (a .body .now) (a .out .now) 0 0 (l .out) (l .at) (l .i) (l .inv) (omega arith) (r .result) (r .ensures) open-within (g .0 .0) (g .0 .1 .0) (g .1))
 
 add-i : tie.Need-add-i Inv-loop μ-loop
 add-i c = search needs
@@ -78,7 +80,7 @@ loop-again c =
     let l = turn (read c) .loop in
     let s = start (turn (read c) .before) in
     let a = s .args in
-    taking-more openOne (a .count) (a .body .now) (a .out .now) (l .out) (l .at) (l .i) (l .inv) (omega arith) (r .result) (r .ensures) open-within (g .0 .0) (g .0 .1 .0) (g .1) (s .pre)
+    taking-more openOne (a .count) (a .body .now) (a .out .now) 0 0 (l .out) (l .at) (l .i) (l .inv) (omega arith) (r .result) (r .ensures) open-within (g .0 .0) (g .0 .1 .0) (g .1) (s .pre)
 
 same-length-2 : tie.Need-same-length-2 Inv-loop μ-loop
 same-length-2 c = search needs
@@ -88,7 +90,8 @@ returns-2 c =
     let l = c .before .loop in
     let s = start (c .before .before) in
     let a = s .args in
-    taking-all openOne (a .count) (a .body .now) (a .out .now) (l .out) (l .at) (l .i) (l .inv) (omega arith) (s .pre)
+    onto-into openOne (a .count) (a .body .now) (a .out .now) (l .out) (record { count = l .i; used = l .at })
+    (taking-all openOne (a .count) (a .body .now) (a .out .now) 0 0 (l .out) (l .at) (l .i) (l .inv) (omega arith))
 
 pub get-open-spec : {M : Type 1} → statement M
 get-open-spec =

@@ -1,6 +1,6 @@
--- What reading takes from the front of bytes, ratio by ratio. A reading of a whole body is that all was taken; strictly the bytes begin with the
--- coding of what was taken, and of no more ratios.
-use mathlib.Core.Path.{_≡_, refl, sym, ap, ap₂, _∙_}
+-- What reading takes from the front of bytes, ratio by ratio and stretch by stretch. A reading of a whole body is that all was taken; strictly the
+-- bytes begin with the coding of what was taken, and of no more ratios.
+use mathlib.Core.Path.{_≡_, refl, sym, ap, ap₂, _∙_, subst}
 use mathlib.Core.Bool.{Bool, true, false, cond}
 use mathlib.Core.List.{List, [], _∷_, _++_, append-nil, append-assoc}
 use mathlib.Core.Option.{Option, none, some}
@@ -9,17 +9,17 @@ use native.Mathlib.Omega.{arith}
 use borrow.Author.Tests.{eqb-true, eqb-false, eq-eqb}
 use lib.Dec.{eqb}
 use lib.ListN.{length, drop, length-append, length-drop, drop-of-length-le}
-use lib.Seq.{drop-at, drop-drop}
+use lib.Seq.{drop-at, drop-drop, append-snoc}
 use Rattle.lists.specs.Below.{Below}
 use Rattle.lists.specs.Compare.{both}
 use Rattle.lists.proofs.Below.{below-drop}
 use Rattle.ratio_format.specs.declared.Read.{Read}
 use Rattle.ratio_format.specs.declared.Read.the-variants.{Ratio, Nothing}
-use Rattle.ratio_format.specs.Windows.{windowSize, push}
+use Rattle.ratio_format.specs.Windows.{windowSize, push, windowOf}
 use Rattle.ratio_format.specs.RatioForms.{coded}
 use Rattle.ratio_format.specs.Open.{openOne, strictOne}
-use Rattle.ratio_format.specs.Bodies.{codedFrom, codedRatios, before, openRatios, strictRatios, Taken, noneTaken, andTaken, onTaken, takenFrom, openTaken, strictTaken, wholeTaken}
-use Rattle.ratio_format.proofs.Windows.{push-length, push-below}
+use Rattle.ratio_format.specs.Bodies.{codedFrom, codedRatios, before, openRatios, strictRatios, Taken, noneTaken, andTaken, afterTaken, onTaken, takenFrom, openTaken, strictTaken, wholeTaken}
+use Rattle.ratio_format.proofs.Windows.{push-length, push-below, window-snoc}
 use Rattle.ratio_format.proofs.Open.{strict-takes, strict-open, strict-only, open-used, open-value}
 use Rattle.ratio_format.proofs.Bodies.ReadFrom.{Rule, Gives64, readFrom, open-is}
 use Rattle.ratio_format.proofs.Bodies.Strict.{strict-coded, strict-only-body, strict-below}
@@ -48,6 +48,69 @@ taken-count rule size w (suc n) s = go (λ v k. taken-count rule size (push size
         → length (onTaken r (λ v k. andTaken v k (takenFrom rule size (push size v w) n (drop k s))) .ratios) ≤ suc n
     go ih Nothing = omega arith
     go ih (Ratio v k) = omega (arith, ih v k)
+
+-- stretch by stretch
+
+module _ (rule : Rule) (size : ℕ) where
+  -- from the window that the ratios us leave
+  abbrev from : List ℕ → ℕ → List ℕ → Taken
+  from us n s = takenFrom rule size (windowOf size us) n s
+
+  -- one ratio, and then the rest
+  from-next : (us : List ℕ) (n : ℕ) (s : List ℕ) (v k : ℕ) → rule (windowOf size us) s ≡ Ratio v k → from us (suc n) s ≡ andTaken v k (from (us ++ (v ∷ [])) n (drop k s))
+  from-next us n s v k e =
+      taken-next rule size (windowOf size us) n s v k e ∙ ap (λ (w : List ℕ). andTaken v k (takenFrom rule size w n (drop k s))) (sym (window-snoc size us v))
+
+  -- where the first m are taken, the rest is taken after them
+  pub taken-part : (us : List ℕ) (m n : ℕ) (s : List ℕ) (k : ℕ) → k ≡ m + n → length (from us m s .ratios) ≡ m
+      → from us k s ≡ afterTaken (from us m s .ratios) (from us m s .used) (from (us ++ from us m s .ratios) n (drop (from us m s .used) s))
+  unfolding takenFrom
+  taken-part us zero n s k e h =
+      let x = from us n s in
+      let i : k ≡ n = omega arith in
+      let u : x .used ≡ 0 + x .used = omega arith in
+      ap (λ (j : ℕ). from us j s) i ∙ ap (λ (j : ℕ). record { ratios = x .ratios; used = j }) u
+      ∙ ap (λ (l : List ℕ). afterTaken [] 0 (from l n s)) (sym (append-nil us))
+  taken-part us (suc m) n s k e h = go (λ v j. taken-part (us ++ (v ∷ [])) m n (drop j s) (m + n) refl) (rule (windowOf size us) s) refl
+    where
+      Part : Taken → Type 0
+      Part t = from us k s ≡ afterTaken (t .ratios) (t .used) (from (us ++ t .ratios) n (drop (t .used) s))
+
+      all : from us k s ≡ from us (suc (m + n)) s
+      all = let i : k ≡ suc (m + n) = omega arith in ap (λ (j : ℕ). from us j s) i
+
+      go : ((v j : ℕ) → length (from (us ++ (v ∷ [])) m (drop j s) .ratios) ≡ m
+          → from (us ++ (v ∷ [])) (m + n) (drop j s)
+          ≡ afterTaken (from (us ++ (v ∷ [])) m (drop j s) .ratios) (from (us ++ (v ∷ [])) m (drop j s) .used)
+          (from ((us ++ (v ∷ [])) ++ from (us ++ (v ∷ [])) m (drop j s) .ratios) n (drop (from (us ++ (v ∷ [])) m (drop j s) .used) (drop j s))))
+          → (r : Read) → rule (windowOf size us) s ≡ r → Part (from us (suc m) s)
+      go ih Nothing f = absurd (omega (arith, ap (λ (t : Taken). length (t .ratios)) (taken-stop rule size (windowOf size us) m s f), h))
+      go ih (Ratio v j) f =
+          let t = from (us ++ (v ∷ [])) m (drop j s) in
+          let q : from us (suc m) s ≡ andTaken v j t = from-next us m s v j f in
+          let many : length (t .ratios) ≡ m = omega (arith, ap (λ (x : Taken). length (x .ratios)) q, h) in
+          let z = from (us ++ (v ∷ t .ratios)) n (drop (j + t .used) s) in
+          let u : j + (t .used + z .used) ≡ j + t .used + z .used = omega arith in
+          subst Part (sym q)
+          (all ∙ from-next us (m + n) s v j f ∙ ap (andTaken v j) (ih v j many)
+          ∙ ap₂ (λ (l r : List ℕ). andTaken v j (afterTaken (t .ratios) (t .used) (from l n r))) (append-snoc us v (t .ratios)) (drop-drop (t .used) j s)
+          ∙ ap (λ (i : ℕ). record { ratios = v ∷ (t .ratios ++ z .ratios); used = i }) u)
+
+  -- where fewer are taken, no more are
+  pub taken-short : (us : List ℕ) (m n : ℕ) (s : List ℕ) (k : ℕ) → k ≡ m + n → length (from us m s .ratios) < m → from us k s ≡ from us m s
+  unfolding takenFrom
+  taken-short us zero n s k e h = absurd (omega arith)
+  taken-short us (suc m) n s k e h = go (λ v j. taken-short (us ++ (v ∷ [])) m n (drop j s) (m + n) refl) (rule (windowOf size us) s) refl
+    where
+      all : from us k s ≡ from us (suc (m + n)) s
+      all = let i : k ≡ suc (m + n) = omega arith in ap (λ (j : ℕ). from us j s) i
+
+      go : ((v j : ℕ) → length (from (us ++ (v ∷ [])) m (drop j s) .ratios) < m → from (us ++ (v ∷ [])) (m + n) (drop j s) ≡ from (us ++ (v ∷ [])) m (drop j s))
+          → (r : Read) → rule (windowOf size us) s ≡ r → from us k s ≡ from us (suc m) s
+      go ih Nothing f = all ∙ taken-stop rule size (windowOf size us) (m + n) s f ∙ sym (taken-stop rule size (windowOf size us) m s f)
+      go ih (Ratio v j) f =
+          let q = from-next us m s v j f in
+          all ∙ from-next us (m + n) s v j f ∙ ap (andTaken v j) (ih v j (omega (arith, ap (λ (x : Taken). length (x .ratios)) q, h))) ∙ sym q
 
 -- a whole body
 

@@ -1,5 +1,5 @@
 -- What is accepted: by any reading, bytes that begin with the fields of the rate, the side, the count and the positions that it answers; by
--- strict reading, bytes that begin with the record of a run that the writer accepts.
+-- a check, bytes that begin with the record of a run that the writer accepts.
 use mathlib.Core.Path.{_≡_, sym, ap, _∙_, subst}
 use mathlib.Core.Bool.{true}
 use mathlib.Core.List.{List, [], _∷_, _++_}
@@ -17,9 +17,9 @@ use Rattle.ratio_format.specs.Bodies.{strictRatios}
 use Rattle.ratio_format.proofs.Bodies.Strict.{strict-only-body, strict-below}
 use Rattle.record_format.specs.Fields.{Field, bodyAt, nextAt, laid}
 use Rattle.record_format.specs.Runs.{Run, run, sideFields, countField, positionsField, ratiosField, frontFields, fieldsOf, recordOf}
-use Rattle.record_format.specs.Reading.{recordAnswer, readTests, readStrict, readWith, rateAt, sideAt, positionsAt, ratiosAt, rateIn, sideIn, countIn, formIn, positionsIn}
+use Rattle.record_format.specs.Reading.{recordTests, rateAt, sideAt, positionsAt, ratiosAt, rateIn, sideIn, countIn, formIn, positionsIn}
 use Rattle.record_format.proofs.Fields.{Follow, pastAll, past-append, follow-laid, follow-append}
-use Rattle.record_format.proofs.Reading.{sound-follows, sound-below, sound-number, answer-clear}
+use Rattle.record_format.proofs.Reading.{sound-follows, sound-below, sound-number}
 use Rattle.record_format.proofs.Reading.Sides.{side-follows}
 use Rattle.record_format.proofs.Reading.Sound.{FrontSound, RecordSound, record-clear}
 use Rattle.record_format.proofs.Writing.{Fitting}
@@ -70,9 +70,9 @@ pub record FrontStands (s : List ℕ) : Type 0 where
   pub rest : List ℕ
   pub splits : s ≡ laid (frontFields (rateIn s) (sideIn s) (length points) ++ (positionsField (formIn s) points ∷ [])) ++ rest
 
-pub front-stands : (k : ℕ → List ℕ → Option (List ℕ)) (e : ℕ) (s : List ℕ) (m n : ℕ) → Below 256 s → firstOf (readTests k e s m n) .number ≡ 0 → FrontStands s
-front-stands k e s m n bytes clear =
-    let h = record-clear k e s m n clear in
+pub front-stands : (k : ℕ → List ℕ → Option (List ℕ)) (e : ℕ) (s : List ℕ) → Below 256 s → firstOf (recordTests k e s) .number ≡ 0 → FrontStands s
+front-stands k e s bytes clear =
+    let h = record-clear k e s clear in
     let ps = h .points .0 in
     let p = read-only (tableOf (formIn s)) (countIn s) (bodyAt s (positionsAt s)) ps (h .points .1) in
     let fields = frontFields (rateIn s) (sideIn s) (length ps) ++ (positionsField (formIn s) ps ∷ []) in
@@ -88,7 +88,7 @@ front-stands k e s m n bytes clear =
       splits = follow-laid s rateAt fields (positions-follow s bytes k h [] tt);
     }
 
--- ---- the whole record, by strict reading
+-- ---- the whole record, its ratios read strictly
 
 -- a run whose record the bytes s begin with
 pub record Begins (s : List ℕ) : Type 0 where
@@ -121,13 +121,6 @@ begins s bytes h =
       splits = follow-laid s rateAt (fieldsOf r) follow;
     }
 
--- bytes that strict reading's tests do not refuse begin with a run's record
-pub clear-begins : (e : ℕ) (s : List ℕ) (m n : ℕ) → Below 256 s → firstOf (readTests strictRatios e s m n) .number ≡ 0 → Begins s
-clear-begins e s m n bytes h = begins s bytes (record-clear strictRatios e s m n h)
-
--- and so do those that it accepts
-pub accepted-begins : (e : ℕ) (s ts vs : List ℕ) → Below 256 s → readStrict e s ts vs .answer .number ≡ 0 → Begins s
-unfolding readWith
-accepted-begins e s ts vs bytes h =
-    clear-begins e s (length ts) (length vs) bytes
-    (answer-clear (readTests strictRatios e s (length ts) (length vs)) (recordAnswer strictRatios s ts vs) ts vs h)
+-- bytes that a check's tests do not refuse begin with a run's record
+pub clear-begins : (e : ℕ) (s : List ℕ) → Below 256 s → firstOf (recordTests strictRatios e s) .number ≡ 0 → Begins s
+clear-begins e s bytes h = begins s bytes (record-clear strictRatios e s h)

@@ -2,7 +2,7 @@
 -- offset.
 use mathlib.Core.Path.{_≡_, refl, ap, ap₂, _∙_, subst}
 use mathlib.Core.Bool.{Bool, true, false, cond}
-use mathlib.Core.List.{List, [], _∷_, _++_}
+use mathlib.Core.List.{List, [], _∷_, _++_, map}
 use mathlib.Core.Option.{Option}
 use Prim.Native.Nat.{ℕ, _≤_}
 use native.Mathlib.Nat.{add-zero}
@@ -10,14 +10,17 @@ use native.Mathlib.Omega.{arith}
 use lib.Dec.{ltb, lit<}
 use lib.ListN.{length}
 use Rattle.refusals.specs.Tests.{Test, test, firstOf, refused}
-use Rattle.refusals.proofs.Tests.{further-append, further-none}
+use Rattle.refusals.proofs.Tests.{further, further-append, further-none}
 use Rattle.outputs.specs.Outputs.{over}
 use Rattle.position_format.specs.declared.Form.{Form}
 use Rattle.ratio_format.specs.Bodies.{strictRatios}
+use Rattle.record_format.specs.declared.CheckAnswer.{CheckAnswer}
 use Rattle.record_format.specs.Fields.{nextAt}
 use Rattle.record_format.specs.Runs.{Run, positionsTag, positionsTags, recordOf}
-use Rattle.record_format.specs.Reading.{Answer, recordAnswer, answerBy, readTests, readWith, rateAt, sideAt, hasSide, countAt, endAt, frontTests, roomTests, positionsTestsBy, ratiosTests}
-use Rattle.record_format.specs.Moves.{otherForm, inForm, runIn, sourceTests, targetTests, moveTests, Move, refusedMove, recordMove, moveOf}
+use Rattle.record_format.specs.Reading.{rateAt, sideAt, hasSide, countAt, endAt, frontTests, positionsTestsBy, positionsTests, ratiosTests, recordTests}
+use Rattle.record_format.specs.Checking.{runBy, runIn, refusedCheck, soundCheck, found}
+use Rattle.record_format.specs.Fetching.{roomTests, readTests, asRead, Answer, answerBy, readWith}
+use Rattle.record_format.specs.Moves.{otherForm, inForm, sourceTests, targetTests, moveTests, Move, refusedMove, recordMove, moveOf}
 use Rattle.record_format.specs.Claims.{Followed, MoveFollowed}
 use Rattle.record_format.proofs.Fields.{first-whole, next-later}
 use Rattle.record_format.proofs.Runs.{openingFieldCount, closingFieldCount}
@@ -48,46 +51,66 @@ module _ (s rest : List ℕ) (framed : endAt s ≤ length s) where
 
 -- ---- readings
 
-module _ (k : ℕ → List ℕ → Option (List ℕ)) (e : ℕ) (s rest ts vs : List ℕ) (framed : endAt s ≤ length s) where
-  tests-same : readTests k e (s ++ rest) (length ts) (length vs) ≡ readTests k e s (length ts) (length vs)
-  tests-same =
+module _ (k : ℕ → List ℕ → Option (List ℕ)) (e : ℕ) (s rest : List ℕ) (framed : endAt s ≤ length s) where
+  -- the tests of the points, and all of them
+  points-tests : positionsTests (s ++ rest) ++ ratiosTests k (s ++ rest) ≡ map (further 0) (positionsTests s ++ ratiosTests k s)
+  points-tests =
       let p = points s rest framed in
-      let room = roomTests s (length ts) (length vs) in
-      let later = positionsTestsBy positionsTags s ++ ratiosTests k s in
-      further-append 0 (frontTests e s) (room ++ later) (front-tests-shifted (front s rest framed) p e)
-      (further-append 0 room later (room-tests-shifted p (length ts) (length vs)) (further-append 0 (positionsTestsBy positionsTags s) (ratiosTests k s) (positions-tests-shifted p positionsTags) (ratios-tests-shifted p k)))
-      ∙ further-none (readTests k e s (length ts) (length vs))
+      further-append 0 (positionsTests s) (ratiosTests k s) (positions-tests-shifted p positionsTags) (ratios-tests-shifted p k)
 
-  answer-same : recordAnswer k (s ++ rest) ts vs ≡ recordAnswer k s ts vs
-  answer-same =
+  tests-same : recordTests k e (s ++ rest) ≡ recordTests k e s
+  tests-same =
+      further-append 0 (frontTests e s) (positionsTests s ++ ratiosTests k s) (front-tests-shifted (front s rest framed) (points s rest framed) e) points-tests
+      ∙ further-none (recordTests k e s)
+
+  sound-same : soundCheck (s ++ rest) ≡ soundCheck s
+  sound-same =
       let a = rate-same (front s rest framed) in
       let b = side-same (front s rest framed) in
       let c = count-same (points s rest framed) in
       let d = end-same s rest framed in
-      let f = positions-same (points s rest framed) in
-      let g = ratios-same (points s rest framed) k in
       let h = form-same (points s rest framed) in
       cc
 
-  read-followed : readWith k e (s ++ rest) ts vs ≡ readWith k e s ts vs
-  unfolding readWith
-  read-followed = ap₂ (λ (l : List Test) (a : Answer). answerBy l a ts vs) tests-same answer-same
+  found-followed : found k e (s ++ rest) ≡ found k e s
+  unfolding found
+  found-followed = ap₂ (λ (l : List Test) (a : CheckAnswer). cond (refused (firstOf l)) (refusedCheck (firstOf l)) a) tests-same sound-same
+
+  run-followed : runBy k (s ++ rest) ≡ runBy k s
+  run-followed =
+      let a = rate-same (front s rest framed) in
+      let b = side-same (front s rest framed) in
+      let c = form-same (points s rest framed) in
+      let d = positions-same (points s rest framed) in
+      let f = ratios-same (points s rest framed) k in
+      cc
+
+  module _ (ts vs : List ℕ) where
+    -- with 16 among them
+    read-tests-same : readTests k e (s ++ rest) (length ts) (length vs) ≡ readTests k e s (length ts) (length vs)
+    read-tests-same =
+        let p = points s rest framed in
+        let room = roomTests s (length ts) (length vs) in
+        let later = positionsTests s ++ ratiosTests k s in
+        further-append 0 (frontTests e s) (room ++ later) (front-tests-shifted (front s rest framed) p e)
+        (further-append 0 room later (room-tests-shifted p (length ts) (length vs)) points-tests)
+        ∙ further-none (readTests k e s (length ts) (length vs))
+
+    read-followed : readWith k e (s ++ rest) ts vs ≡ readWith k e s ts vs
+    unfolding readWith
+    read-followed =
+        ap₂ (λ (l : List Test) (a : Answer). answerBy l a ts vs) read-tests-same
+        (ap₂ (λ (a : CheckAnswer) (r : Run). record { answer = asRead a; positions = over (r .positions) ts; ratios = over (r .ratios) vs }) sound-same run-followed)
 
 -- whatever a reading makes of the ratios' field
 pub followed : Followed
-followed k e s rest ts vs h = read-followed k e s rest ts vs h
+followed k e s rest h = (found-followed k e s rest h, run-followed k e s rest h, read-followed k e s rest h)
 
 -- ---- moves: the run that one finds, and its tests
 
 module _ (f : Form) (s rest o : List ℕ) (framed : endAt s ≤ length s) where
   run-in : runIn (s ++ rest) ≡ runIn s
-  run-in =
-      let a = rate-same (front s rest framed) in
-      let b = side-same (front s rest framed) in
-      let c = form-same (points s rest framed) in
-      let d = positions-same (points s rest framed) in
-      let e = ratios-same (points s rest framed) strictRatios in
-      cc
+  run-in = run-followed strictRatios 0 s rest framed
 
   source-tests : sourceTests f (s ++ rest) ≡ sourceTests f s
   source-tests =

@@ -3,7 +3,7 @@
 use mathlib.Core.Path.{_≡_, refl, sym, ap, ap₂, _∙_, subst}
 use mathlib.Core.Bool.{true, not}
 use mathlib.Core.List.{List, [], _∷_, _++_}
-use mathlib.Core.Option.{Option, none, some}
+use mathlib.Core.Option.{none, some}
 use Prim.Native.Nat.{ℕ, _+_, _^_, _≤_, _<_}
 use native.Mathlib.Nat.{add-zero}
 use native.Mathlib.Omega.{arith}
@@ -28,8 +28,8 @@ use Rattle.position_format.proofs.Positions.{read-coded}
 use Rattle.position_format.proofs.Tables.{table-good}
 use Rattle.record_format.specs.Fields.{Field, headSize, tagAt, bodyAt, nextAt}
 use Rattle.record_format.specs.Runs.{rateTag, countTag, positionsTags, formOf, rateSize, countSize, rateField, sideFields, sideLength, countField, positionsField, frontFields}
-use Rattle.record_format.specs.Reading.{rateAt, sideAt, countAt, positionsAt, rateIn, sideIn, countIn, formIn, positionsIn, otherRate, lacksRoom, readTests, sideTests, countTests, frontTests, roomTests, positionsTests, ratiosTests}
-use Rattle.record_format.specs.WideClaims.{frontBytes}
+use Rattle.record_format.specs.Reading.{rateAt, sideAt, countAt, positionsAt, rateIn, sideIn, countIn, formIn, positionsIn, otherRate, sideTests, countTests, frontTests, positionsTests}
+use Rattle.record_format.specs.PointClaims.{frontBytes}
 use Rattle.record_format.proofs.Fields.{FieldStands, StandAll, length-field, laid-stand, pastAll, stand-past, stand-append, past-append}
 use Rattle.record_format.proofs.Reading.{field-passes, positions-few, front-flat}
 use Rattle.record_format.proofs.Runs.{form-of, tag-good, length-side, front-small}
@@ -91,15 +91,6 @@ module _ (s : List ℕ) (rate side count : ℕ) (listed : isRate rate ≡ true) 
       (side-passes s count-field refl side sided (past-rate .0) (past-rate .1 .0) from-count
       ∙ field-passes count-stands (countTag ∷ []) (some countSize) (test (ltb maxPoints (countIn s)) 15 (countAt s) ∷ ts) refl (length-digits 256 countSize count)
       ∙ ap (λ (c : ℕ). firstOf (test (ltb maxPoints c) 15 (countAt s) ∷ ts)) count-is)
-
-  -- in reading 16 is the first of them
-  pub front-tests : (k : ℕ → List ℕ → Option (List ℕ)) (e m n : ℕ)
-      → firstOf (readTests k e s m n)
-      ≡ firstOf (test (otherRate e rate) 14 rateAt ∷ test (ltb maxPoints count) 15 (countAt s) ∷ test (lacksRoom m n count) 16 (countAt s) ∷ (positionsTests s ++ ratiosTests k s))
-  front-tests k e m n =
-      let later = positionsTests s ++ ratiosTests k s in
-      front-pass e (roomTests s m n ++ later)
-      ∙ ap (λ (c : ℕ). firstOf (test (otherRate e rate) 14 rateAt ∷ test (ltb maxPoints count) 15 (countAt s) ∷ test (lacksRoom m n c) 16 (countAt s) ∷ later)) count-is
 
 -- ---- the front, laid, and then any bytes
 

@@ -24,7 +24,8 @@ use Rattle.position_format.specs.Positions.{readPositions}
 use Rattle.position_format.specs.Tables.{tableOf, pointsOf}
 use Rattle.record_format.specs.Fields.{tagSize, lengthSize, headSize, tagAt, lengthAt, bodyAt, nextAt, headTests, lengthTests, bodyTests, fieldTests}
 use Rattle.record_format.specs.Runs.{rateTag, sideTag, countTag, formOf, ratiosTag, rateSize, sideSize, countSize}
-use Rattle.record_format.specs.Reading.{rateAt, sideAt, hasSide, countAt, positionsAt, ratiosAt, endAt, rateIn, sideIn, countIn, formIn, positionsIn, ratiosIn, otherRate, lacksRoom, rateTests, sideTests, countTests, frontTests, roomTests, manyTests, positionsTestsBy, ratiosTests}
+use Rattle.record_format.specs.Reading.{rateAt, sideAt, hasSide, countAt, positionsAt, ratiosAt, endAt, rateIn, sideIn, countIn, formIn, positionsIn, ratiosIn, otherRate, rateTests, sideTests, countTests, frontTests, manyTests, positionsTestsBy, ratiosTests}
+use Rattle.record_format.specs.Fetching.{lacksRoom, roomTests}
 use Rattle.record_format.proofs.Fields.{fieldAt, first-whole, tag-same, length-same, next-same, head-within, body-same}
 use Rattle.record_format.proofs.Reading.{side-of}
 use Rattle.record_format.proofs.Runs.{openingFieldCount, closingFieldCount}

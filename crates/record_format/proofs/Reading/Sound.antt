@@ -1,6 +1,6 @@
 -- Bytes to which no test of reading applies: what that says of the front, and of the whole record.
 use mathlib.Core.Path.{_≡_, sym, ap, _∙_}
-use mathlib.Core.Bool.{true, not}
+use mathlib.Core.Bool.{true, false, not}
 use mathlib.Core.List.{List, [], _∷_, _++_}
 use mathlib.Core.Option.{Option, none, some}
 use Prim.Native.Nat.{ℕ, _≤_}
@@ -14,7 +14,7 @@ use Rattle.refusals.proofs.Tests.{firstOf-clear}
 use Rattle.position_format.specs.Tables.{pointsOf}
 use Rattle.record_format.specs.Fields.{tagAt}
 use Rattle.record_format.specs.Runs.{rateTag, countTag, positionsTag, ratiosTag, rateSize, countSize}
-use Rattle.record_format.specs.Reading.{readTests, rateAt, countAt, positionsAt, ratiosAt, rateIn, countIn, formIn, positionsIn, ratiosIn, otherRate, sideTests, countTests, frontTests, roomTests, positionsTests, ratiosTests}
+use Rattle.record_format.specs.Reading.{rateAt, countAt, positionsAt, ratiosAt, rateIn, countIn, formIn, positionsIn, ratiosIn, otherRate, sideTests, countTests, frontTests, positionsTests, ratiosTests, recordTests}
 use Rattle.record_format.proofs.Reading.{FieldSound, field-clear, missing-some, front-flat}
 use Rattle.record_format.proofs.Reading.Sides.{SideSound, side-clear}
 use Rattle.record_format.proofs.Runs.{tag-named}
@@ -42,6 +42,15 @@ front-clear e s ts clear =
     let b15 = firstOf-clear _ _ (lit< tt) (b .1) in
     (record { rate = a .0; listed = not-false _ (a13 .0); side = a20 .0; count = b .0; few = ltb-false _ _ (b15 .0) }, b15 .1)
 
+-- no other rate than its own is expected
+pub rate-expected : (e : ℕ) (s : List ℕ) (ts : List Test) → firstOf (frontTests e s ++ ts) .number ≡ 0 → otherRate e (rateIn s) ≡ false
+rate-expected e s ts clear =
+    let from-side = sideTests s ++ (countTests s ++ ts) in
+    let flat = sym (ap (λ (l : List Test). firstOf l .number) (front-flat e s ts)) ∙ clear in
+    let a = field-clear s (rateTag ∷ []) (some rateSize) rateAt (test (not (isRate (rateIn s))) 13 rateAt ∷ test (otherRate e (rateIn s)) 14 rateAt ∷ from-side) flat in
+    let a13 = firstOf-clear _ _ (lit< tt) (a .1) in
+    firstOf-clear _ _ (lit< tt) (a13 .1) .0
+
 -- ---- the record
 
 -- what the tests of reading say of bytes to which none applies, by the reading k of the ratios' field
@@ -53,11 +62,10 @@ pub record RecordSound (k : ℕ → List ℕ → Option (List ℕ)) (s : List �
   pub ratios : FieldSound s (ratiosTag ∷ []) none (ratiosAt s)
   pub values : (vs : List ℕ) × (ratiosIn k s ≡ some vs)
 
-pub record-clear : (k : ℕ → List ℕ → Option (List ℕ)) (e : ℕ) (s : List ℕ) (m n : ℕ) → firstOf (readTests k e s m n) .number ≡ 0 → RecordSound k s
-record-clear k e s m n clear =
-    let f = front-clear e s (roomTests s m n ++ (positionsTests s ++ ratiosTests k s)) clear in
-    let f16 = firstOf-clear _ _ (lit< tt) (f .1) in
-    let head = firstOf-clear _ _ (lit< tt) (f16 .1) in
+pub record-clear : (k : ℕ → List ℕ → Option (List ℕ)) (e : ℕ) (s : List ℕ) → firstOf (recordTests k e s) .number ≡ 0 → RecordSound k s
+record-clear k e s clear =
+    let f = front-clear e s (positionsTests s ++ ratiosTests k s) clear in
+    let head = firstOf-clear _ _ (lit< tt) (f .1) in
     let tag = firstOf-clear _ _ (lit< tt) (head .1) in
     let c15 = firstOf-clear _ _ (lit< tt) (tag .1) in
     let body = firstOf-clear _ _ (lit< tt) (c15 .1) in

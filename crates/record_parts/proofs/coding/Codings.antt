@@ -1,40 +1,60 @@
 -- Laws of fields of coded numbers as they are read: what each outcome leaves to be said.
 use mathlib.Core.Path.{_≡_, refl, sym, ap, ap₂, _∙_, subst}
-use mathlib.Core.Bool.{Bool, true, false}
+use mathlib.Core.Bool.{Bool, true, false, not, cond, false≢true}
 use mathlib.Core.List.{List, [], _∷_, _++_}
 use mathlib.Core.Option.{Option, none, some}
-use Prim.Native.Nat.{ℕ, _+_, _-_, _≤_}
+use Prim.Native.Nat.{ℕ, _+_, _-_, _≤_, _<_}
 use native.Mathlib.Omega.{arith}
-use borrow.Author.Tests.{leb-true, leb-false, ltb-true, lt-ltb}
-use lib.Dec.{leb, ltb}
+use borrow.Author.Tests.{leb-true, leb-false, ltb-true, lt-ltb, not-true, not-false}
+use lib.Dec.{leb, ltb, eqb}
 use lib.ListN.{length, take, drop}
 use Rattle.lists.specs.Compare.{both}
 use Rattle.lists.proofs.Compare.{both-true}
-use Rattle.lists.specs.Optional.{missing, listOf}
+use Rattle.lists.specs.Optional.{missing}
 use Rattle.limits.specs.Points.{maxPoints}
-use Rattle.outputs.specs.Outputs.{over, Filled}
+use Rattle.outputs.specs.Outputs.{Filled}
 use Rattle.refusals.specs.declared.Refusal.{Refusal}
 use Rattle.refusals.specs.Tests.{Test, test, refusal, firstOf}
 use Rattle.refusals.proofs.Tests.{firstOf-here, firstOf-skip, firstOf-end}
 use Rattle.position_format.specs.declared.Form.{Form}
 use Rattle.position_format.specs.Positions.{readPositions}
 use Rattle.position_format.specs.Tables.{tableOf, pointsOf}
+use Rattle.ratio_format.specs.Bodies.{Taken, wholeTaken}
 use Rattle.record_format.specs.Fields.{headSize, tagAt, lengthAt, bodyAt, nextAt, headTests, fieldTests}
 use Rattle.record_format.specs.Runs.{positionsTags}
 use Rattle.record_format.specs.Reading.{countAt, positionsAt, countIn, formIn, positionsTests}
 use Rattle.record_format.proofs.Reading.{positions-few, positions-many, many-tag}
 use Rattle.record_parts.specs.declared.field.FieldBody.{FieldBody}
-use Rattle.record_parts.specs.Fields.{PartRead, FieldRead, CodedRead}
+use Rattle.record_parts.specs.Fields.{PartRead, FieldRead, FoundInto, CodedRead}
 use Rattle.record_parts.proofs.Fields.{part-refused, part-first, part-then, part-both, field-numbered}
 
--- what a reader of a list says of it
-filled-none : (o : Option (List ℕ)) (b : Bool) (x y : List ℕ) → Filled o b x y → b ≡ false → missing o ≡ true
-filled-none none b x y f e = refl
-filled-none (some l) b x y f e = absurd (let z : _≡_ {A = ℕ} 0 1 = cc (f .0) in omega arith)
+-- ---- a list that was read into an output, or not
 
-filled-some : (o : Option (List ℕ)) (b : Bool) (x y : List ℕ) → Filled o b x y → b ≡ true → (missing o ≡ false) × (y ≡ over (listOf o) x)
-filled-some none b x y f e = absurd (let z : _≡_ {A = ℕ} 0 1 = cc in omega arith)
-filled-some (some l) b x y f e = (refl, f .1)
+-- where there is room
+pub filled-into : (x : Option (List ℕ)) (c : ℕ) (b : Bool) (o q : List ℕ) → Filled x b o q → FoundInto x c b o q
+filled-into none c b o q f = (f, λ e. absurd (false≢true (sym e)))
+filled-into (some l) c b o q f = (f .0, λ _ _. f .1)
+
+-- and where there is none
+pub short-into : (x : Option (List ℕ)) (c : ℕ) (b : Bool) (o q : List ℕ) → length o < c → b ≡ not (missing x) → FoundInto x c b o q
+short-into x c b o q h e = (e, λ _ room. absurd (omega arith))
+
+-- whether there is a list is whether it is whole
+pub whole-found : (n : ℕ) (s : List ℕ) (t : Taken) (b : Bool) → b ≡ both (eqb (length (t .ratios)) n) (eqb (t .used) (length s)) → b ≡ not (missing (wholeTaken n s t))
+whole-found n s t b e = go (both (eqb (length (t .ratios)) n) (eqb (t .used) (length s))) e
+  where
+    go : (x : Bool) → b ≡ x → b ≡ not (missing (cond x (some (t .ratios)) none))
+    go true f = f
+    go false f = f
+
+-- what was found
+into-none : (x : Option (List ℕ)) (c : ℕ) (b : Bool) (o q : List ℕ) → FoundInto x c b o q → b ≡ false → missing x ≡ true
+into-none x c b o q f e = not-false (missing x) (sym (f .0) ∙ e)
+
+into-some : (x : Option (List ℕ)) (c : ℕ) (b : Bool) (o q : List ℕ) → FoundInto x c b o q → b ≡ true → missing x ≡ false
+into-some x c b o q f e = not-true (missing x) (sym (f .0) ∙ e)
+
+-- ---- fields
 
 -- the tests of the field at p, whose body the reading k takes, or else the number x
 abbrev pub codedTests : List ℕ → List ℕ → (List ℕ → Option (List ℕ)) → ℕ → ℕ → List Test
@@ -58,8 +78,8 @@ module _ {us : List Test} {tags : List ℕ} {k : List ℕ → Option (List ℕ)}
   abbrev ts : List Test
   ts = test (missing (k (bodyAt s p))) x p ∷ []
 
-  pub coded-refused : (o q : List ℕ) → (f .refusal .number ≡ 0 → ⊥) → CodedRead us k s p (record { refusal = f .refusal; end = 0 }) o q
-  coded-refused o q d = record {
+  pub coded-refused : (c : ℕ) (o q : List ℕ) → (f .refusal .number ≡ 0 → ⊥) → CodedRead us k c s p (record { refusal = f .refusal; end = 0 }) o q
+  coded-refused c o q d = record {
     part = part-refused us s p (f .refusal) 0 d (part-first fs ts s p (f .refusal) (f .to) (field-numbered s tags none p) (h .read .part) d .refuses ∙ sym (h .same));
     filled = λ z. absurd (d z);
   }
@@ -78,26 +98,26 @@ module _ {us : List Test} {tags : List ℕ} {k : List ℕ → Option (List ℕ)}
         let e : f .to - f .from ≡ lengthAt s p = omega (arith, h .read .from clear, h .read .part .next clear) in
         ap₂ (λ (n m : ℕ). take n (drop m s)) e (h .read .from clear)
 
-    module _ (b : Bool) (o q : List ℕ) (got : Filled (k (take (f .to - f .from) (drop (f .from) s))) b o q) where
-      got-body : Filled (k (bodyAt s p)) b o q
-      got-body = subst (λ (l : List ℕ). Filled (k l) b o q) body-lent got
+    module _ (c : ℕ) (b : Bool) (o q : List ℕ) (got : FoundInto (k (take (f .to - f .from) (drop (f .from) s))) c b o q) where
+      got-body : FoundInto (k (bodyAt s p)) c b o q
+      got-body = subst (λ (l : List ℕ). FoundInto (k l) c b o q) body-lent got
 
-      pub coded-none : b ≡ false → CodedRead us k s p (record { refusal = refusal x p; end = 0 }) o q
+      pub coded-none : b ≡ false → CodedRead us k c s p (record { refusal = refusal x p; end = 0 }) o q
       coded-none e =
-          let g = sym (firstOf-here _ _ (filled-none (k (bodyAt s p)) b o q got-body e)) in
+          let g = sym (firstOf-here _ _ (into-none (k (bodyAt s p)) c b o q got-body e)) in
           record {
             part = part-as us (fs ++ ts) s p (refusal x p) 0 (h .same)
                 (part-then fs ts s p (f .refusal) (f .to) (field-numbered s tags none p) (h .read .part) clear (refusal x p) 0 g (h .numbered));
             filled = λ z. absurd (h .numbered z);
           }
 
-      pub coded-found : b ≡ true → CodedRead us k s p (record { refusal = f .refusal; end = f .to }) o q
+      pub coded-found : b ≡ true → CodedRead us k c s p (record { refusal = f .refusal; end = f .to }) o q
       coded-found e =
-          let g = filled-some (k (bodyAt s p)) b o q got-body e in
+          let g = into-some (k (bodyAt s p)) c b o q got-body e in
           record {
             part = part-as us (fs ++ ts) s p (f .refusal) (f .to) (h .same)
-                (part-both fs ts s p (f .refusal) (f .to) (field-numbered s tags none p) (h .read .part) clear (firstOf-skip _ _ (g .0) ∙ firstOf-end));
-            filled = λ _. g .1;
+                (part-both fs ts s p (f .refusal) (f .to) (field-numbered s tags none p) (h .read .part) clear (firstOf-skip _ _ g ∙ firstOf-end));
+            filled = λ _. got-body .1 g;
           }
 
 -- a cut head decides, whatever tests follow

@@ -4,7 +4,6 @@ use mathlib.Core.List.{List, _++_}
 use mathlib.Core.Option.{Option}
 use Prim.Native.Nat.{ℕ, _+_, _≤_}
 use native.Mathlib.Omega.{arith}
-use lib.ListN.{length}
 use Rattle.lists.specs.Optional.{listOf}
 use Rattle.outputs.specs.Outputs.{over}
 use Rattle.refusals.specs.declared.Refusal.{Refusal}
@@ -43,7 +42,7 @@ points-none k s ts vs r ps qs g q d e =
 pub record PositionsPast (s ts : List ℕ) (c m p : ℕ) (o : Form) (g : Part) (ps : List ℕ) : Type 0 where
   pub count : CountFound s c m p
   pub form : o ≡ formIn s
-  pub read : CodedRead (positionsTests s) (readPositions (tableOf o) c) s p g ts ps
+  pub read : CodedRead (positionsTests s) (readPositions (tableOf o) c) c s p g ts ps
 
 -- where the ratios' field stands
 module _ {s ts : List ℕ} {c m p : ℕ} {o : Form} {g : Part} {ps : List ℕ} (h : PositionsPast s ts c m p o g ps) (good : g .refusal .number ≡ 0) where
@@ -53,14 +52,13 @@ module _ {s ts : List ℕ} {c m p : ℕ} {o : Form} {g : Part} {ps : List ℕ} (
   ratios-near : g .end ≤ farthest 4
   ratios-near = omega (arith, h .read .part .next good, h .read .part .near good, h .count .next, h .count .near)
 
-  pub ratios-due : (vs : List ℕ) → c ≤ length vs → RatiosDue s (g .end) c vs
-  ratios-due vs room = record {
+  pub ratios-due : RatiosDue s (g .end) c
+  ratios-due = record {
     here = ratios-at;
     inside = omega (arith, h .read .part .next good, h .read .part .inside good);
     near = omega (arith, ratios-near);
     counted = h .count .counted;
     few = omega (arith, h .count .counted, h .count .few);
-    room = room;
   }
 
 -- and then ratios by the reading k
@@ -70,7 +68,7 @@ module _ {s ts : List ℕ} {c m p : ℕ} {o : Form} {g : Part} {ps : List ℕ} (
       points-none k s ts vs r ps qs (g .refusal) q d
       (h .read .part .refuses ∙ sym (firstOf-append-some (positionsTests s) _ (λ z. d (ap (λ (x : Refusal). x .number) (h .read .part .refuses) ∙ z))))
 
-  module _ (good : g .refusal .number ≡ 0) (l : Part) (qs : List ℕ) (j : CodedRead (ratiosTests k s) (k c) s (g .end) l vs qs) where
+  module _ (good : g .refusal .number ≡ 0) (l : Part) (qs : List ℕ) (j : CodedRead (ratiosTests k s) (k c) c s (g .end) l vs qs) where
     past-positions : firstOf (positionsTests s ++ ratiosTests k s) ≡ firstOf (ratiosTests k s)
     past-positions = firstOf-append-none (positionsTests s) _ refl (part-clear (h .read .part) good)
 
@@ -89,9 +87,9 @@ module _ {s ts : List ℕ} {c m p : ℕ} {o : Form} {g : Part} {ps : List ℕ} (
           next = λ _. e;
           inside = λ _. omega (arith, e, j .part .next whole, j .part .inside whole);
           near = λ _. omega (arith, e, j .part .next whole, j .part .near whole, ratios-near h good);
-          positions = λ _.
-              h .read .filled good
+          positions = λ _ room.
+              h .read .filled good (omega (arith, b))
               ∙ ap₂ (λ (n q : ℕ). over (listOf (readPositions (tableOf o) n (bodyAt s q))) ts) b (h .count .next)
               ∙ ap (λ (x : Form). over (listOf (readPositions (tableOf x) (countIn s) (bodyAt s (positionsAt s)))) ts) (h .form);
-          ratios = λ _. j .filled whole ∙ ap₂ (λ (n q : ℕ). over (listOf (k n (bodyAt s q))) vs) b at;
+          ratios = λ _ room. j .filled whole (omega (arith, b)) ∙ ap₂ (λ (n q : ℕ). over (listOf (k n (bodyAt s q))) vs) b at;
         }

@@ -19,11 +19,11 @@ shared-slice-read-b c = search needs
 cast-b : tie.Need-cast-b
 cast-b c = omega (arith, c .shared-slice-known3 .given (c .before .before .before .args .at))
 
-add-get-bytes : tie.Need-add-get-bytes
-add-get-bytes c = search needs
+add-get-first : tie.Need-add-get-first
+add-get-first c = search needs
 
-get-bytes-requires : tie.Need-get-bytes-requires
-get-bytes-requires c κs = search needs
+get-first-requires : tie.Need-get-first-requires
+get-first-requires c κs = search needs
 
 -- where the first byte is known
 module _ (c : tie.After-shared-slice-known3) where
@@ -57,7 +57,7 @@ module _ (c : tie.After-shared-slice-known3) where
 returns : tie.Need-returns
 returns c =
     let r = c .before .before in
-    ahead-exception (windowOf windowSize (take (i r) (rs r))) (at r) (body r) (ten r) (c .get-bytes .result) (c .before .if1 .taken) (c .get-bytes .ensures .0)
+    ahead-exception (windowOf windowSize (take (i r) (rs r))) (at r) (body r) (ten r) (c .get-first .result) (c .before .if1 .taken) (c .get-first .ensures .0)
 
 returns-2 : tie.Need-returns-2
 returns-2 c =
@@ -114,8 +114,8 @@ open-ahead-spec =
     (tie.spec
     shared-slice-read-b
     cast-b
-    add-get-bytes
-    get-bytes-requires
+    add-get-first
+    get-first-requires
     returns
     returns-2
     returns-3

@@ -2,18 +2,20 @@
 use mathlib.Core.Bool.{false}
 use mathlib.Core.List.{List}
 use mathlib.Core.Path.{_≡_, sym, _∙_}
-use Prim.Native.Nat.{ℕ}
+use Prim.Native.Nat.{ℕ, _≤_}
 use native.Mathlib.Omega.{arith}
 use borrow.Author.Needs.{needs}
 use lib.ListN.{length}
-use Rattle.record_format.specs.Reading.{lacksRoom}
-use Rattle.record_parts.specs.Fields.{FrontFound}
+use Rattle.record_format.specs.Fetching.{lacksRoom}
+use Rattle.record_parts.specs.declared.coding.Reading.{Reading}
+use Rattle.record_parts.specs.declared.coding.Reading.the-variants.{Strict, Open}
+use Rattle.record_parts.specs.Fields.{ratiosBy, RoomToRead}
 use Rattle.record_parts.proofs.front.ReadFront.{place-near}
-use Rattle.record_codec.proofs.reader.ReadRecord.{answered-as, read-front, read-lacks, room-both, read-points, read-found}
+use Rattle.record_codec.proofs.reader.ReadRecord.{answered-as, read-front, read-lacks, room-both, read-refusal, read-found}
 use Rattle.record_codec.proofs.reader.read_record.Statement.{statement}
 use Rattle.record_codec.proofs.reader.read_record.Tie as tie
 
--- ---- places: the front, the room and the points, as later places see them
+-- ---- places: the front, the room and what is past them, as later places see them
 
 abbrev entry : tie.After-read-front → tie.Start
 entry k = k .before .before .before .before
@@ -21,14 +23,11 @@ entry k = k .before .before .before .before
 abbrev front : tie.Else1 → tie.After-read-front
 front k = k .before .before
 
-abbrev room : tie.After-read-points → tie.Else2
+abbrev room : tie.After-read-past → tie.Else2
 room k = k .before .before .before
 
-abbrev outputs-known : tie.After-slice-known8 → tie.After-read-points
-outputs-known k = k .before .before .before .before
-
-abbrev points : tie.After-points-refused → tie.After-read-points
-points k = outputs-known (k .before)
+abbrev past : tie.After-slice-known8 → tie.After-read-past
+past k = k .before .before .before .before
 
 -- the call that clears the outputs, as each return of a refusal sees it
 abbrev front-cleared : tie.After-slice-known4 → tie.After-refuse-read
@@ -37,16 +36,16 @@ front-cleared k = k .before .before .before .before
 abbrev room-cleared : tie.After-slice-known6 → tie.After-refuse-read2
 room-cleared k = k .before .before .before .before
 
-abbrev points-cleared : tie.After-slice-known10 → tie.After-refuse-read3
-points-cleared k = k .before .before .before .before
+abbrev past-cleared : tie.After-slice-known10 → tie.After-refuse-read3
+past-cleared k = k .before .before .before .before
 
--- ---- the outputs as reading the points leaves them
+-- ---- the outputs as reading leaves them
 
-abbrev positions-out : tie.After-read-points → List ℕ
-positions-out k = k .read-points .last .1 .1 .1 .1 .1 .0
+abbrev positions-out : tie.After-read-past → List ℕ
+positions-out k = k .read-past .last .1 .1 .1 .0
 
-abbrev ratios-out : tie.After-read-points → List ℕ
-ratios-out k = k .read-points .last .1 .1 .1 .1 .1 .1 .0
+abbrev ratios-out : tie.After-read-past → List ℕ
+ratios-out k = k .read-past .last .1 .1 .1 .1 .0
 
 -- ---- what holds past the test of room
 
@@ -63,19 +62,26 @@ module _ (k : tie.Else2) where
   good-front : fronted .read-front .result .refusal .number ≡ 0
   good-front = lacked .before .if1 .left
 
-  found : FrontFound (start .args .input .now) (fronted .read-front .result)
-  found = fronted .read-front .ensures .found good-front
-
   enough : lacksRoom (length (start .args .positions .now)) (length (start .args .ratios .now)) (fronted .read-front .result .count) ≡ false
   enough = sym (lacked .lacks .ensures) ∙ k .if2 .left
 
+  rooms : (fronted .read-front .result .count ≤ length (start .args .positions .now)) × (fronted .read-front .result .count ≤ length (start .args .ratios .now))
+  rooms =
+      let a = start .args in
+      room-both (ratiosBy (a .reading)) (a .expected) (a .input .now) (a .positions .now) (a .ratios .now) _ (fronted .read-front .ensures) good-front enough
+
+-- with room either reading has the room that it needs
+roomy : (r : Reading) (c : ℕ) (o : List ℕ) → c ≤ length o → RoomToRead r c o
+roomy Strict c o h = tt
+roomy Open c o h = h
+
 -- the outputs stay as long as they were
-module _ (k : tie.After-read-points) where
+module _ (k : tie.After-read-past) where
   positions-kept : length (positions-out k) ≡ length (start (room k) .args .positions .now)
-  positions-kept = k .read-points .kept .1 .1 .1 .1 .1 .0
+  positions-kept = k .read-past .kept .1 .1 .1 .0
 
   ratios-kept : length (ratios-out k) ≡ length (start (room k) .args .ratios .now)
-  ratios-kept = k .read-points .kept .1 .1 .1 .1 .1 .1 .0
+  ratios-kept = k .read-past .kept .1 .1 .1 .1 .0
 
 -- ---- the needs
 
@@ -97,14 +103,14 @@ returns c =
     let k = i .before .before in
     let a = entry k .args in
     answered-as
-    (read-front (a .openly) (a .expected) (a .input .now) (a .positions .now) (a .ratios .now) (k .read-front .result) (k .read-front .ensures) (i .if1 .taken))
+    (read-front (ratiosBy (a .reading)) (a .expected) (a .input .now) (a .positions .now) (a .ratios .now) (k .read-front .result) (k .read-front .ensures) (i .if1 .taken))
     (front-cleared c .refuse-read .ensures)
 
 lacks-requires : tie.Need-lacks-requires
 lacks-requires c κs = search needs
 
-cast-t22 : tie.Need-cast-t22
-cast-t22 c =
+cast-t19 : tie.Need-cast-t19
+cast-t19 c =
     let l = c .before .before in
     let near = place-near (front (l .before) .read-front .ensures .found (l .before .if1 .left) .count) in
     omega arith
@@ -125,16 +131,15 @@ returns-2 c =
     let k = front (l .before) in
     let a = entry k .args in
     answered-as
-    (read-lacks (a .openly) (a .expected) (a .input .now) (a .positions .now) (a .ratios .now) (k .read-front .result) (k .read-front .ensures) (l .before .if1 .left)
+    (read-lacks (ratiosBy (a .reading)) (a .expected) (a .input .now) (a .positions .now) (a .ratios .now) (k .read-front .result) (k .read-front .ensures) (l .before .if1 .left)
     (sym (l .lacks .ensures) ∙ i .if2 .taken))
     (room-cleared c .refuse-read2 .ensures)
 
-read-points-requires : tie.Need-read-points-requires
-read-points-requires c κs =
+read-past-requires : tie.Need-read-past-requires
+read-past-requires c κs =
     let k = c .before .before in
     let a = start k .args in
-    let r = room-both (a .openly) (a .expected) (a .input .now) (a .positions .now) (a .ratios .now) _ (fronted k .read-front .ensures) (good-front k) (enough k) in
-    (found k .count, r .0, r .1)
+    (fronted k .read-front .ensures .found (good-front k), roomy (a .reading) _ (a .ratios .now) (rooms k .1))
 
 refuse-read-requires-3 : tie.Need-refuse-read-requires-3
 refuse-read-requires-3 c κs = search needs
@@ -147,28 +152,15 @@ same-length-6 c = search needs
 
 returns-3 : tie.Need-returns-3
 returns-3 c =
-    let i = points-cleared c .before .before .before in
-    let p = points (i .before) in
+    let i = past-cleared c .before .before .before in
+    let p = past (i .before) in
     let r = room p in
     let f = fronted r in
     let a = start r .args in
     answered-as
-    (read-points (a .openly) (a .expected) (a .input .now) (a .positions .now) (a .ratios .now) (f .read-front .result) (f .read-front .ensures) (good-front r) (enough r)
-    (p .read-points .result) (positions-out p) (ratios-out p) (p .read-points .ensures) (i .if3 .taken) (positions-kept p) (ratios-kept p))
-    (points-cleared c .refuse-read3 .ensures)
-
-cast-t36 : tie.Need-cast-t36
-cast-t36 c =
-    let r = room (points (c .before)) in
-    let counted = found r .count .counted in
-    let few = found r .count .few in
-    omega arith
-
-form-tag-requires : tie.Need-form-tag-requires
-form-tag-requires c κs = search needs
-
-cast-t38 : tie.Need-cast-t38
-cast-t38 c = search needs
+    (read-refusal (ratiosBy (a .reading)) (a .expected) (a .input .now) (a .positions .now) (a .ratios .now) (f .read-front .result) (f .read-front .ensures) (good-front r) (enough r)
+    (p .read-past .result) (positions-out p) (ratios-out p) (p .read-past .ensures) (i .if3 .taken) (positions-kept p) (ratios-kept p))
+    (past-cleared c .refuse-read3 .ensures)
 
 same-length-7 : tie.Need-same-length-7
 same-length-7 c = search needs
@@ -178,13 +170,12 @@ same-length-8 c = search needs
 
 returns-4 : tie.Need-returns-4
 returns-4 c =
-    let last = c .before in
-    let p = points (last .before) in
+    let p = past (c .before) in
     let r = room p in
     let f = fronted r in
     let a = start r .args in
-    read-found (a .openly) (a .expected) (a .input .now) (a .positions .now) (a .ratios .now) (f .read-front .result) (f .read-front .ensures) (good-front r) (enough r)
-    (p .read-points .result) (positions-out p) (ratios-out p) (p .read-points .ensures) (last .if3 .left) (c .form-tag .result) (c .form-tag .ensures)
+    read-found (ratiosBy (a .reading)) (a .expected) (a .input .now) (a .positions .now) (a .ratios .now) (f .read-front .result) (f .read-front .ensures) (good-front r) (enough r)
+    (p .read-past .result) (positions-out p) (ratios-out p) (p .read-past .ensures) (c .if3 .left)
 
 pub read-record-spec : {M : Type 1} → statement M
 read-record-spec =
@@ -196,19 +187,16 @@ read-record-spec =
     same-length-2
     returns
     lacks-requires
-    cast-t22
+    cast-t19
     refuse-read-requires-2
     same-length-3
     same-length-4
     returns-2
-    read-points-requires
+    read-past-requires
     refuse-read-requires-3
     same-length-5
     same-length-6
     returns-3
-    cast-t36
-    form-tag-requires
-    cast-t38
     same-length-7
     same-length-8
     returns-4)

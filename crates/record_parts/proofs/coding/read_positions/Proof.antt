@@ -92,7 +92,7 @@ returns-2 : tie.Need-returns-2
 returns-2 c =
     let k = c .before .before in
     let o = begun k .args .out .now in
-    coded-refused (coded k) o o (c .if2 .taken)
+    coded-refused (coded k) (begun k .args .count) o o (c .if2 .taken)
 
 sub-get-positions : tie.Need-sub-get-positions
 sub-get-positions c = body-order (coded (field c)) (c .if2 .left)
@@ -117,7 +117,7 @@ returns-3 c =
     let b = c .before .before .before in
     let g = found b in
     let k = field g in
-    coded-none (coded k) (g .if2 .left) (b .get-positions .result) (begun k .args .out .now) _ (b .get-positions .ensures) (not-true _ (c .if3 .taken))
+    coded-none (coded k) (g .if2 .left) (begun k .args .count) (b .get-positions .result) (begun k .args .out .now) _ (b .get-positions .ensures) (not-true _ (c .if3 .taken))
 
 same-length-2 : tie.Need-same-length-2
 same-length-2 c = search needs
@@ -127,7 +127,7 @@ returns-4 c =
     let b = c .before .before .before in
     let g = found b in
     let k = field g in
-    coded-found (coded k) (g .if2 .left) (b .get-positions .result) (begun k .args .out .now) _ (b .get-positions .ensures) (not-false _ (c .if3 .left))
+    coded-found (coded k) (g .if2 .left) (begun k .args .count) (b .get-positions .result) (begun k .args .out .now) _ (b .get-positions .ensures) (not-false _ (c .if3 .left))
 
 pub read-positions-spec : {M : Type 1} → statement M
 read-positions-spec =

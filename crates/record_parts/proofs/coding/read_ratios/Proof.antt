@@ -27,10 +27,10 @@ found k = k .before .before .before
 -- ---- the tests of the field, and what reads its body
 
 abbrev tests : tie.Start → List Test
-tests e = ratiosTests (ratiosBy (e .args .openly)) (e .args .input .now)
+tests e = ratiosTests (ratiosBy (e .args .reading)) (e .args .input .now)
 
 abbrev reads : tie.Start → List ℕ → Option (List ℕ)
-reads e = ratiosBy (e .args .openly) (e .args .count)
+reads e = ratiosBy (e .args .reading) (e .args .count)
 
 -- the field that was read, at the offset that was given
 module _ (k : tie.After-read-field) where
@@ -42,7 +42,7 @@ module _ (k : tie.After-read-field) where
       let a = begun .args in
       record {
         numbered = λ z. omega arith;
-        same = ap₂ (λ (c p : ℕ). firstOf (codedTests (a .input .now) (ratiosTag ∷ []) (ratiosBy (a .openly) c) 18 p)) (sym (begun .pre .counted)) (sym (begun .pre .here));
+        same = ap₂ (λ (c p : ℕ). firstOf (codedTests (a .input .now) (ratiosTag ∷ []) (ratiosBy (a .reading) c) 18 p)) (sym (begun .pre .0 .counted)) (sym (begun .pre .0 .here));
         read = k .read-field .ensures;
       }
 
@@ -58,7 +58,7 @@ returns : tie.Need-returns
 returns c =
     let k = c .before .before in
     let o = begun k .args .out .now in
-    coded-refused (coded k) o o (c .if1 .taken)
+    coded-refused (coded k) (begun k .args .count) o o (c .if1 .taken)
 
 sub-get-ratios : tie.Need-sub-get-ratios
 sub-get-ratios c = body-order (coded (field c)) (c .if1 .left)
@@ -83,7 +83,7 @@ returns-2 c =
     let b = c .before .before .before in
     let g = found b in
     let k = field g in
-    coded-none (coded k) (g .if1 .left) (b .get-ratios .result) (begun k .args .out .now) _ (b .get-ratios .ensures) (not-true _ (c .if2 .taken))
+    coded-none (coded k) (g .if1 .left) (begun k .args .count) (b .get-ratios .result) (begun k .args .out .now) _ (b .get-ratios .ensures) (not-true _ (c .if2 .taken))
 
 same-length-2 : tie.Need-same-length-2
 same-length-2 c = search needs
@@ -93,7 +93,7 @@ returns-3 c =
     let b = c .before .before .before in
     let g = found b in
     let k = field g in
-    coded-found (coded k) (g .if1 .left) (b .get-ratios .result) (begun k .args .out .now) _ (b .get-ratios .ensures) (not-false _ (c .if2 .left))
+    coded-found (coded k) (g .if1 .left) (begun k .args .count) (b .get-ratios .result) (begun k .args .out .now) _ (b .get-ratios .ensures) (not-false _ (c .if2 .left))
 
 pub read-ratios-spec : {M : Type 1} → statement M
 read-ratios-spec =

@@ -48,7 +48,7 @@ module _ (p : tie.After-read-positions) where
   start = entry (formed p)
 
   abbrev reading : ℕ → List ℕ → Option (List ℕ)
-  reading = ratiosBy (start .args .openly)
+  reading = ratiosBy (start .args .reading)
 
   past : PositionsPast (start .args .input .now) (start .args .positions .now) (start .args .count) (start .args .place) (start .args .at) (formed p .form-at .result) (p .read-positions .result) (positions-out p)
   past = record { count = start .pre .0; form = form-is (formed p); read = p .read-positions .ensures }
@@ -61,7 +61,7 @@ form-at-requires c κs = search needs
 read-positions-requires : tie.Need-read-positions-requires
 read-positions-requires c κs =
     let k = c .before in
-    (form-is k, entry k .pre .0, entry k .pre .1)
+    (form-is k, entry k .pre .0)
 
 no-points-requires : tie.Need-no-points-requires
 no-points-requires c κs = search needs
@@ -80,7 +80,7 @@ read-ratios-requires : tie.Need-read-ratios-requires
 read-ratios-requires c κs =
     let i = c .before in
     let p = positions (i .before) in
-    ratios-due (past p) (i .if1 .left) (start p .args .ratios .now) (start p .pre .2)
+    (ratios-due (past p) (i .if1 .left), start p .pre .1)
 
 no-points-requires-2 : tie.Need-no-points-requires-2
 no-points-requires-2 c κs = search needs

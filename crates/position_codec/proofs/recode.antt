@@ -1,0 +1,3 @@
+-- Laws of how the functions of `recode` go.
+pub mod Copying
+pub mod State

@@ -11,7 +11,6 @@ ghost use Rattle.record_format.specs.Writing.{write_answer, write_output};
 ghost use Rattle.record_format.specs.Checking.{checked, check_number};
 ghost use Rattle.record_format.specs.Fetching.{read_open, fetched};
 ghost use Rattle.record_format.specs.Moves.{move_of};
-ghost use Rattle.salvage_format.specs.Salvage.{salvage_of};
 ghost use Rattle.reasons.specs.Reasons.{explained};
 ghost use Rattle.reasons.specs.Numbers.{reason_numbers};
 ghost use Rattle.differences.specs.Differences.{position_at, ratio_at};
@@ -26,7 +25,6 @@ use position_format::Form;
 use ratio_format::{AddAnswer, Cursor, Live};
 use reasons::ExplainAnswer;
 use record_format::{CheckAnswer, FetchAnswer, MoveAnswer, ReadAnswer, WIDE_TAG, WriteAnswer};
-use salvage_format::SalvageAnswer;
 use span::SpanAnswer;
 
 // What kind of double a ratio is.
@@ -133,15 +131,6 @@ pub extern "C" fn farigolenc_to_old(input: &[u8], out: &mut [u8]) -> MoveAnswer
         × (out.new ≡ (move_of Form.Old input.now out.old).output) }
 {
     record_codec::to_old(input, out)
-}
-
-// Salvages a record: the first points, as many as its ratios' field has whole.
-#[unsafe(no_mangle)]
-pub extern "C" fn farigolenc_salvage(input: &[u8], out: &mut [u8]) -> SalvageAnswer
-    ensures { (result ≡ (salvage_of input.now out.old).answer)
-        × (out.new ≡ (salvage_of input.now out.old).output) }
-{
-    salvage_codec::salvage(input, out)
 }
 
 // The reason for the ratio of an index among a run's ratios.

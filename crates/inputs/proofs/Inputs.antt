@@ -1,4 +1,4 @@
--- Laws of what a program reads: what the first bytes of an input have of it, a record is not cut, what begins with none is refused, and how far is read.
+-- Laws of what a program reads: a record is not cut, what begins with none is refused, and how far is read.
 use mathlib.Core.Path.{◌≡◌, refl, sym, ap, ◌∙◌}
 use mathlib.Core.List.{List, ◌++◌, append_assoc}
 use mathlib.Core.Logic.{inl}
@@ -15,23 +15,14 @@ use Rattle.record_format.proofs.Sizes.{within}
 use Rattle.record_format.proofs.CheckClaims.{checks_record, checks_only}
 use Rattle.inputs.specs.Inputs.{input_limit, check_input, run_input, ReadsFar}
 
--- ---- the first n bytes
-
--- a beginning that is no longer is not cut
-pub front_uncut : (n : ℕ) (a rest : List ℕ) → length a ≤ n → take n (a ++ rest) ≡ a ++ take (n - length a) rest
-front_uncut n a rest short =
-    let e : n ≡ length a + (n - length a) = omega arith in
-    ap (λ (k : ℕ). take k (a ++ rest)) e ∙ take-append-add a rest (n - length a)
-
--- what they begin with the whole begins with
-pub begins_taken : (n : ℕ) (a s : List ℕ) → Beginning a (take n s) → Beginning a s
-begins_taken n a s h = (h.0 ++ drop n s, sym (take-append-drop n s) ∙ ap (λ (x : List ℕ). x ++ drop n s) h.1 ∙ append_assoc a h.0 (drop n s))
-
 -- ---- what a program reads of a record, and of all else
 
 -- a record is not cut: it is no longer than what a program reads
 pub record_uncut : (r : Run) → Accepted r → (rest : List ℕ) → take input_limit (record_of r ++ rest) ≡ record_of r ++ take (input_limit - length (record_of r)) rest
-record_uncut r a rest = let h = (within r a).1 in front_uncut input_limit (record_of r) rest (omega arith)
+record_uncut r a rest =
+    let h = (within r a).1 in
+    let e : input_limit ≡ length (record_of r) + (input_limit - length (record_of r)) = omega arith in
+    ap (λ (n : ℕ). take n (record_of r ++ rest)) e ∙ take-append-add (record_of r) rest (input_limit - length (record_of r))
 
 pub reads_record : (r : Run) → Accepted r → (rest : List ℕ) → (check_input (record_of r ++ rest) ≡ run_check r) × (run_input (record_of r ++ rest) ≡ r)
 reads_record r a rest =
@@ -41,7 +32,8 @@ reads_record r a rest =
 
 -- what the bytes that a program reads begin with the whole input begins with
 pub begins-whole : (a s : List ℕ) → Beginning a (take input_limit s) → Beginning a s
-begins-whole a s h = begins_taken input_limit a s h
+begins-whole a s h =
+    (h.0 ++ drop input_limit s, sym (take-append-drop input_limit s) ∙ ap (λ (x : List ℕ). x ++ drop input_limit s) h.1 ∙ append_assoc a h.0 (drop input_limit s))
 
 pub reads_no_other : (s : List ℕ) → Bytes s → ((r : Run) → Accepted r → Beginning (record_of r) s → ⊥) → (check_input s).number ≡ 0 → ⊥
 reads_no_other s b never e =

@@ -28,14 +28,6 @@ module _ {A : Type 0} (x : A) where
   unfolding Among
   among_none l e h = subst (Among x) e h
 
-  -- an element that is not the last one
-  pub among_other : (a : List A) (y : A) → (x ≡ y → ⊥) → Among x (a ++ (y ∷ [])) → Among x a
-  unfolding Among
-  among_other [] y d (inl e) = d e
-  among_other [] y d (inr h) = h
-  among_other (z ∷ a) y d (inl e) = inl e
-  among_other (z ∷ a) y d (inr h) = inr (among_other a y d h)
-
 -- what holds of every element holds of one
 pub among_every : {A : Type 0} (p : A → Bool) (x : A) (l : List A) → every p l ≡ true → Among x l → p x ≡ true
 unfolding Among

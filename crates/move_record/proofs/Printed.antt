@@ -1,58 +1,90 @@
--- Laws of what the program prints and writes: what a move into room for every record leaves, and the response that is told of it.
+-- Laws of what the program prints and writes: the line of an answer, what a move into room for every record leaves, and the response that is told of it.
 use mathlib.Core.Bool.{Bool, true, false}
-use mathlib.Core.Path.{◌≡◌, refl, sym, ap, ◌∙◌, subst}
+use mathlib.Core.Path.{◌≡◌, refl, sym, ap, ap₂, ◌∙◌, subst}
 use mathlib.Core.List.{List}
 use Prim.Native.Nat.{ℕ, ◌≤◌}
+use borrow.Author.Tests.{ne_eqb, eq-eqb}
 use lib.Dec.{eqb}
-use lib.ListN.{length, take}
+use lib.ListN.{length, take, drop, replicate, length-replicate}
+use lib.Seq.{take_all, take_at, length-take-le}
+use Rattle.outputs.specs.Outputs.{zeros, over}
 use Rattle.refusals.specs.Tests.{first_of}
 use Rattle.position_format.specs.declared.Form.{Form}
 use Rattle.record_format.specs.declared.MoveAnswer.{MoveAnswer}
 use Rattle.record_format.specs.Checking.{run_in_lem}
 use Rattle.record_format.specs.Moves.{Move, in_form, move_tests, move_of}
 use Rattle.record_format.specs.Runs.{record_of}
+use Rattle.record_format.specs.Sizes.{max_record}
 use Rattle.record_format.proofs.MoveClaims.{moved_within}
+use Rattle.text.specs.Lines.{refused_line}
 use Rattle.text.specs.PlacedAt.{PlacedAt}
 use Rattle.text.proofs.PlacedAt.{placed_same}
 use Rattle.inputs.specs.Inputs.{input_limit}
-use Rattle.new_records.specs.declared.Outcome.{Outcome}
-use Rattle.new_records.specs.Room.{blank_record}
-use Rattle.new_records.specs.Responses.{outcome_of, Told}
-use Rattle.new_records.proofs.Room.{RoomLeft, call_whole, room-refused, room-written}
-use Rattle.new_records.proofs.Responses.{answer_told}
+use Rattle.move_record.specs.declared.Outcome.{Outcome}
 use Rattle.move_record.specs.declared.Word.{Word}
 use Rattle.move_record.specs.Words.{form_asked}
-use Rattle.move_record.specs.Lines.{line_limit, answer_line}
-use Rattle.move_record.specs.Printed.{move_input, move_response, response_to, response}
+use Rattle.move_record.specs.Lines.{line_limit, moved_line, answer_line}
+use Rattle.move_record.specs.Printed.{blank_record, move_input, standard_output, move_response, response_to, response, Told}
+
+-- ---- the line
+
+module _ (a : MoveAnswer) where
+  pub line_refused : (a.number ≡ 0 → ⊥) → refused_line a.number a.place ≡ answer_line a
+  unfolding answer_line
+  line_refused d = sym (rw (ne_eqb a.number 0 d))
+
+  pub line-moved : a.number ≡ 0 → moved_line a.used a.length ≡ answer_line a
+  unfolding answer_line
+  line-moved e = sym (rw (eq-eqb a.number 0 e))
 
 -- ---- a move into room for every record
 
--- what a move leaves there
-left : (f : Form) (s : List ℕ) → let m = move_of f s blank_record in RoomLeft m.answer.length m.output
+-- an input that is not cut
+whole : (f : Form) (s o : List ℕ) → length s ≤ input_limit → o ≡ blank_record → move_of f s o ≡ move_input f s
+whole f s o short e = ap (move_of f s) e ∙ ap (λ (l : List ℕ). move_of f l blank_record) (sym (take_all input_limit s short))
+
+-- such room, filled with zeros
+blank_zeros : zeros blank_record ≡ blank_record
+unfolding blank_record
+blank_zeros = ap (λ (n : ℕ). replicate n 0) (length-replicate {A = ℕ} max_record 0)
+
+-- what a move leaves there: the file's bytes at the front, and 0 past them
+left : (f : Form) (s : List ℕ) → let m = move_of f s blank_record in m.output ≡ over (take m.answer.length m.output) blank_record
 unfolding move_of
 left f s = go (eqb (first_of (move_tests f s blank_record)).number 0) refl
   where
-    go : (b : Bool) → eqb (first_of (move_tests f s blank_record)).number 0 ≡ b → RoomLeft (move_of f s blank_record).answer.length (move_of f s blank_record).output
-    go true e = rw e (room-written (record_of (in_form f (run_in_lem s))) (rw e at (moved_within f s blank_record)))
-    go false e = rw e room-refused
+    go : (b : Bool) → eqb (first_of (move_tests f s blank_record)).number 0 ≡ b
+        → (move_of f s blank_record).output ≡ over (take (move_of f s blank_record).answer.length (move_of f s blank_record).output) blank_record
+    go true e =
+        let q = record_of (in_form f (run_in_lem s)) in
+        rw e (sym (ap (λ (x : List ℕ). over x blank_record) (take_at q (drop (length q) blank_record) (length q) refl)))
+    go false e = rw e blank_zeros
 
 -- ---- all but reading, writing and printing
 
 -- of a move
-pub move_told : (f : Form) (s o p l q : List ℕ) (a : MoveAnswer) (end : ℕ) {r : Outcome} → length s ≤ input_limit → o ≡ blank_record
-    → (a ≡ (move_of f s o).answer) × (p ≡ (move_of f s o).output) → PlacedAt line_limit (answer_line a) 0 end l q → r ≡ outcome_of a.number a.length end
-    → Told line_limit (move_response (move_input f s)) r p l q
-move_told f s o p l q a end short blank h put outcome =
-    let e = call_whole (move_of f) input_limit s o short blank in
+pub move_told : (f : Form) (s o p l q : List ℕ) (a : MoveAnswer) (end : ℕ) → length s ≤ input_limit → o ≡ blank_record → length p ≡ length o
+    → (a ≡ (move_of f s o).answer) × (p ≡ (move_of f s o).output) → PlacedAt line_limit (answer_line a) 0 end l q
+    → Told (move_response (move_input f s)) (record { stream = standard_output; moved = eqb a.number 0; length = a.length; line = end }) p l q
+move_told f s o p l q a end short blank kept h put =
+    let e = whole f s o short blank in
     let is : a ≡ (move_input f s).answer = h.0 ∙ ap (λ (m : Move). m.answer) e in
-    answer_told (left f (take input_limit s)) outcome (ap (λ (x : MoveAnswer). x.number) is) (ap (λ (x : MoveAnswer). x.length) is)
-    (h.1 ∙ ap (λ (m : Move). m.output) e) (placed_same (ap answer_line is) put)
+    let leaves : p ≡ (move_input f s).output = h.1 ∙ ap (λ (m : Move). m.output) e in
+    let within : a.length ≤ length p = subst (λ (n : ℕ). a.length ≤ n) (sym kept) (subst (λ (x : MoveAnswer). x.length ≤ length o) (sym h.0) (moved_within f s o)) in
+    record {
+      stream = refl;
+      moved = ap (λ (x : MoveAnswer). eqb x.number 0) is;
+      saved = sym (ap₂ (λ (x : MoveAnswer) (z : List ℕ). length (take x.length z)) (sym is) (sym leaves) ∙ length-take-le a.length p within);
+      output = leaves ∙ left f (take input_limit s);
+      room = within;
+      line = placed_same (ap answer_line is) put;
+    }
 
 -- by the form that is asked for
 module _ (n : ℕ) (w s : List ℕ) {a b : Word} (asked : a ≡ form_asked n w) (is : a ≡ b) {r : Outcome} {o l p : List ℕ} where
-  pub told_asked : Told line_limit (response_to b s) r o l p → Told line_limit (response n w s) r o l p
-  told_asked h = subst (λ (x : Word). Told line_limit (response_to x s) r o l p) (sym is ∙ asked) h
+  pub told_asked : Told (response_to b s) r o l p → Told (response n w s) r o l p
+  told_asked h = subst (λ (x : Word). Told (response_to x s) r o l p) (sym is ∙ asked) h
 
   -- the same where the output was not written to
-  pub told_blank : o ≡ blank_record → Told line_limit (response_to b s) r blank_record l p → Told line_limit (response n w s) r o l p
-  told_blank e h = told_asked (subst (λ (x : List ℕ). Told line_limit (response_to b s) r x l p) (sym e) h)
+  pub told_blank : o ≡ blank_record → Told (response_to b s) r blank_record l p → Told (response n w s) r o l p
+  told_blank e h = told_asked (subst (λ (x : List ℕ). Told (response_to b s) r x l p) (sym e) h)

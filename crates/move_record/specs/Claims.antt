@@ -16,12 +16,10 @@ use Rattle.record_format.specs.Moves.{other_form, in_form, move_of}
 use Rattle.record_format.specs.Runs.{Run, record_of}
 use Rattle.text.specs.Lines.{refused_line}
 use Rattle.inputs.specs.Inputs.{input_limit}
-use Rattle.new_records.specs.Room.{blank_record}
-use Rattle.new_records.specs.Responses.{standard_output, standard_error}
 use Rattle.move_record.specs.declared.Word.TheVariants.{To, Other}
 use Rattle.move_record.specs.Words.{word_of, form_named, is_call}
 use Rattle.move_record.specs.Lines.{moved_line, usage_line}
-use Rattle.move_record.specs.Printed.{response}
+use Rattle.move_record.specs.Printed.{blank_record, standard_output, standard_error, response}
 
 -- a run that both forms take
 abbrev pub MovesFile : Type 0
@@ -29,7 +27,7 @@ MovesFile = (n : ℕ) → 4 ≤ n → (f : Form) (r : Run) → Accepted r → r.
     → response n (word_of f) (record_of r ++ rest)
     ≡ record {
       stream = standard_output;
-      made = true;
+      moved = true;
       file = record_of (in_form f r);
       line = moved_line (length (record_of r)) (length (record_of (in_form f r)));
     }
@@ -40,7 +38,7 @@ RefusesFile = (n : ℕ) → 4 ≤ n → (f : Form) (s : List ℕ) → Bytes s
     → ((r : Run) → Accepted r → r.form ≡ other_form f → Accepted (in_form f r) → Beginning (record_of r) s → ⊥)
     → let a = (move_of f (take input_limit s) blank_record).answer in
     (a.number ≡ 0 → ⊥) × (a.number ≡ 6 → ⊥)
-    × (response n (word_of f) s ≡ record { stream = standard_output; made = false; file = []; line = refused_line a.number a.place })
+    × (response n (word_of f) s ≡ record { stream = standard_output; moved = false; file = []; line = refused_line a.number a.place })
 
 -- 119 105 100 101 and 111 108 100
 abbrev pub NamesForms : Type 0
@@ -56,4 +54,4 @@ ReadsFile = (n : ℕ) → 4 ≤ n → (f : Form) → is_call n (word_of f) ≡ t
 -- every other call, whatever the input is
 abbrev pub SaysUsage : Type 0
 SaysUsage = (n : ℕ) (w : List ℕ) → (n < 4) ⊎ ((f : Form) → w ≡ word_of f → ⊥) → (s : List ℕ)
-    → (is_call n w ≡ false) × (response n w s ≡ record { stream = standard_error; made = false; file = []; line = usage_line })
+    → (is_call n w ≡ false) × (response n w s ≡ record { stream = standard_error; moved = false; file = []; line = usage_line })

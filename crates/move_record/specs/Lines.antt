@@ -4,11 +4,10 @@
 --   moved_line u n      `moved 1234 to 1240`: the bytes used of the record read, and the length of the one written
 --   answer_line a       the line for the answer a of a move; that of a refusal is the listing's
 --   usage_line          `usage: move_record wide|old RECORD NEW`, for a call that asks for no form
-use Rattle.std.specs.Prelude.{List, [], ◌∷◌, ◌++◌, ℕ}
+use Rattle.std.specs.Prelude.{cond, List, [], ◌∷◌, ◌++◌, ℕ, eqb}
 use Rattle.record_format.specs.declared.MoveAnswer.{MoveAnswer}
-use Rattle.text.specs.Lines.{newline}
+use Rattle.text.specs.Lines.{newline, refused_line}
 use Rattle.text.specs.Numbers.{decimal}
-use Rattle.new_records.specs.Lines.{line_of}
 
 -- the longest is that of a refusal: its words, 8 and 4, two numbers of up to 20 digits, and the line's end
 abbrev pub line_limit : ℕ
@@ -27,8 +26,8 @@ unfoldable pub moved_line : ℕ → ℕ → List ℕ
 moved_line u n = moved_word ++ (decimal u ++ (to_word ++ (decimal n ++ newline)))
 
 -- by the number
-abbrev pub answer_line : MoveAnswer → List ℕ
-answer_line a = line_of a.number a.place (moved_line a.used a.length)
+unfoldable pub answer_line : MoveAnswer → List ℕ
+answer_line a = cond (eqb a.number 0) (moved_line a.used a.length) (refused_line a.number a.place)
 
 -- "usage: ", "move_record ", "wide|old ", "RECORD NEW" and the line's end: 39 bytes
 abbrev pub usage_line : List ℕ

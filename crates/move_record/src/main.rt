@@ -1,23 +1,25 @@
 // The moving program: reads the record in the file that its second argument names, moves it to the form that the first names, `wide` or `old`,
 // and makes the file that the third names of what was written. Prints one line: what was moved, or the refusal. Called otherwise it reads and makes
 // no file, and a line on standard error says how it is called.
-// Whether a file is read is answered by `is_call`, and all else that follows from the arguments and from the bytes read by `respond`. `main` hands both
-// answers to what the programs that make a file share (`new_records`), which opens, reads and writes.
-ghost use Rattle.std.specs.Prelude.{◌≡◌, ◌≤◌, length};
+// Whether a file is read is answered by `is_call`, and all else that follows from the arguments and from the bytes read by `respond`. `main` and `save`
+// open, read and write, and decide by nothing but these answers and what failed.
+ghost use Rattle.std.specs.Prelude.{◌≡◌, false, ◌≤◌, length};
+ghost use Rattle.io.specs.Counts.{IsPrefixLen};
 ghost use Rattle.lists.specs.Compare.{same};
 ghost use Rattle.record_format.specs.Moves.{move_of};
 ghost use Rattle.text.specs.PlacedAt.{PlacedAt};
 ghost use Rattle.inputs.specs.Inputs.{input_limit};
-ghost use Rattle.new_records.specs.Room.{blank_record};
-ghost use Rattle.new_records.specs.Responses.{Told};
 ghost use Rattle.move_record.specs.Words.{form_named, form_asked, is_call};
-ghost use Rattle.move_record.specs.Lines.{line_limit, moved_line, answer_line};
-ghost use Rattle.move_record.specs.Printed.{move_input, move_response, response};
+ghost use Rattle.move_record.specs.Lines.{line_limit, moved_line, answer_line, usage_line};
+ghost use Rattle.move_record.specs.Printed.{blank_record, move_input, move_response, usage_response, response, Told};
 
 use inputs::input_room;
-use new_records::{Outcome, answered, finish, read_source, record_room, show_usage};
+use libc::{STDERR_FILENO, STDOUT_FILENO};
 use position_format::Form;
 use record_format::MoveAnswer;
+
+// As many bytes as the longest record has.
+const RECORD: usize = 61709;
 
 // Room for every line: the longest has two words, two numbers of up to 20 digits, and the line's end.
 const LINE: usize = 53;
@@ -30,6 +32,23 @@ const ARGUMENTS: usize = 4;
 pub enum Word {
     To(Form),
     Other,
+}
+
+// What the program is to do: the stream that the line goes to, whether a file is to be made, how many bytes of the output are to be saved in it, and
+// how many bytes the line has.
+#[derive(Drop)]
+pub struct Outcome {
+    pub stream: i32,
+    pub moved: bool,
+    pub length: usize,
+    pub line: usize,
+}
+
+// Room for every record.
+fn record_room() -> [u8; RECORD]
+    ensures { result ≡ blank_record }
+{
+    [0; RECORD]
 }
 
 // Room for the line.
@@ -109,6 +128,14 @@ fn put_answer(out: &mut [u8], answer: MoveAnswer) -> usize
     put_moved_line(out, answer.used, answer.length)
 }
 
+// The line that says how the program is called.
+fn put_usage(out: &mut [u8]) -> usize
+    requires { line_limit ≤ length out.old }
+    ensures { PlacedAt line_limit usage_line 0 result out.old out.new }
+{
+    text::put_text(out, 0, b"usage: move_record wide|old RECORD NEW\n")
+}
+
 // The move to a form.
 fn move_to(form: Form, input: &[u8], out: &mut [u8]) -> MoveAnswer
     ensures { (result ≡ (move_of form input.now out.old).answer)
@@ -123,34 +150,86 @@ fn move_to(form: Form, input: &[u8], out: &mut [u8]) -> MoveAnswer
 // Moves the record in an input into an output, and puts the line for it.
 fn move_input(form: Form, input: &[u8], out: &mut [u8], line: &mut [u8]) -> Outcome
     requires { (length input.now ≤ input_limit) × (out.old ≡ blank_record) × (line_limit ≤ length line.old) }
-    ensures { Told line_limit (move_response (move_input form input.now)) result out.new line.old line.new }
+    ensures { Told (move_response (move_input form input.now)) result out.new line.old line.new }
 {
     let answer = move_to(form, input, out);
     let end = put_answer(line, answer);
-    answered(answer.number, answer.length, end)
+    Outcome {
+        stream: STDOUT_FILENO,
+        moved: answer.number == 0,
+        length: answer.length as usize,
+        line: end,
+    }
+}
+
+// Puts the line of a call that asks for no form. The output then stays as it was lent.
+fn show_usage(line: &mut [u8]) -> Outcome
+    requires { line_limit ≤ length line.old }
+    ensures { Told usage_response result blank_record line.old line.new }
+{
+    let end = put_usage(line);
+    Outcome {
+        stream: STDERR_FILENO,
+        moved: false,
+        length: 0,
+        line: end,
+    }
 }
 
 // What the program is to do, by the number of its arguments, the first of them, and the bytes that it read.
 fn respond(count: usize, word: &[u8], input: &[u8], out: &mut [u8], line: &mut [u8]) -> Outcome
     requires { (length input.now ≤ input_limit) × (out.old ≡ blank_record) × (line_limit ≤ length line.old) }
-    ensures { Told line_limit (response count word.now input.now) result out.new line.old line.new }
+    ensures { Told (response count word.now input.now) result out.new line.old line.new }
 {
     match form_asked(count, word) {
         Word::To(form) => move_input(form, input, out, line),
-        Word::Other => show_usage(b"usage: move_record wide|old RECORD NEW\n", line),
+        Word::Other => show_usage(line),
     }
 }
 
-// Reads the first argument and, where the call asks for a form, the file that the second names, and does what `respond` answers.
+// Reads the file that the second argument names, if there is one to be read, and returns how many bytes it put at the front of the input. Else it
+// opens none, so that a call that asks for no form waits for no pipe.
+fn read_source(called: bool, input: &mut [u8]) -> usize
+    ensures prefix_len { IsPrefixLen result input.new }
+    ensures value { called ≡ false → result ≡ 0 }
+{
+    if called {
+        return files::read_argument(2, input);
+    }
+    0
+}
+
+// Makes the file that the third argument names of the first n bytes. A name that is longer than one may be is left out by `arg`, which notes so.
+fn save(bytes: &[u8], n: usize) -> bool
+    requires { n ≤ length bytes.now }
+{
+    let mut path = io::buffer();
+    let k = os::arg(3, &mut path);
+    if os::errno() != 0 {
+        os::fail(b"the name of the new file");
+        return false;
+    }
+    files::save_new(&path[..k], bytes, n)
+}
+
+// Reads the first argument and, where the call asks for a form, the file, and does what `respond` answers. The line goes out once the new file stands,
+// or where there is none to be made.
 fn main() {
     let count = os::arg_count();
     let mut argument = io::buffer();
     let k = os::arg(1, &mut argument);
     let word = &argument[..k];
     let mut input = input_room();
-    let n = read_source(is_call(count, word), 2, &mut input);
+    let n = read_source(is_call(count, word), &mut input);
     let mut out = record_room();
     let mut line = line_room();
     let outcome = respond(count, word, &input[..n], &mut out, &mut line);
-    finish(3, outcome, &out, &line);
+    let length = outcome.length;
+    if outcome.moved {
+        if !save(&out, length) {
+            return;
+        }
+    }
+    let end = outcome.line;
+    files::write_front(outcome.stream, &line, end);
 }

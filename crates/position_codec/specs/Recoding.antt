@@ -1,6 +1,4 @@
 -- What recoding says of positions that are coded in one form and are to be coded in another (document 02, No. 5).
---   Gives f n body                the bits of the body begin with those of n valid positions in the form f. The body may hold others after them, as
---                                 where only the first points of a record are kept (document 02, No. 9)
 --   CodeStands rs ds z            the bits ds begin with the code of a step z that the table rs holds
 --   Led rs ds l                   l says by which row that code is, and how many bits it has
 --   Fore k body at w              the word w begins with the bits of a body from a bit offset on, k of them, with 0 bits past the end
@@ -9,7 +7,7 @@
 --   ThreeShared f body at n       three codes of the form f that stand there have n bits, and every form has them
 --   RecodedInto f ts r o p        the coding of the positions ts in the form f was put at the front of o, which is now p, or there was no room for it; or
 --                                 r is the index of the first point whose step the table of f does not hold. That is told whatever the room
-use Rattle.std.specs.Prelude.{true, List, ◌≡◌, ℕ, ◌+◌, ◌^◌, ◌≤◌, ◌<◌, ℤ, length, take, drop}
+use Rattle.std.specs.Prelude.{true, List, ◌≡◌, ℕ, ◌+◌, ◌<◌, ℤ, length, take, drop}
 use Rattle.lists.specs.Compare.{begins}
 use Rattle.bits.specs.Digits.{bits_of}
 use Rattle.bits.specs.Packing.{bits, ahead}
@@ -18,17 +16,11 @@ use Rattle.position_format.specs.declared.Form.{Form}
 use Rattle.position_format.specs.Rows.{Row, in_table, code, row_of}
 use Rattle.position_format.specs.Steps.{first_outside}
 use Rattle.position_format.specs.Tables.{table_of}
-use Rattle.position_format.specs.Positions.{position_bits, coded_positions, valid_positions, decoded}
+use Rattle.position_format.specs.Positions.{coded_positions}
 use Rattle.position_codec.specs.Codes.{CodablePositions}
 use Rattle.position_codec.specs.declared.table.Lead.{Lead}
 use Rattle.position_codec.specs.declared.recode.Recoded.{Recoded}
 use Rattle.position_codec.specs.declared.recode.Recoded.TheVariants.{Outside, Put}
-
--- the n positions that the body gives are valid, its bits begin with theirs, and offsets in it are small
-pub record Gives (f : Form) (n : ℕ) (body : List ℕ) : Type 0 where
-  pub valid : valid_positions (table_of f) (decoded (table_of f) n body) ≡ true
-  pub front : begins (position_bits (table_of f) (decoded (table_of f) n body)) (bits body) ≡ true
-  pub short : length body ≤ 2 ^ 32
 
 -- a code at the front of bits
 pub record CodeStands (rs : List Row) (ds : List ℕ) (z : ℤ) : Type 0 where

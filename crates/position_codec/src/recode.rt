@@ -1,16 +1,17 @@
 // Positions of one form coded in another: the bits of the first two points stay, and so do those of every code after its prefix, since
 // document 01's rows are the wide table's first five, but for the prefix of the fifth. So no position is computed, and no array holds any. The first four
 // rows are the same in both, and three codes by these are copied as one field.
-ghost use Rattle.std.specs.Prelude.{List, ◌++◌, ◌≡◌, ℕ, ◌+◌, ◌-◌, ◌*◌, ◌^◌, ◌≤◌, ◌<◌, ltb, length, get_or, take, drop};
+ghost use Rattle.std.specs.Prelude.{false, List, ◌++◌, ◌≡◌, ℕ, ◌+◌, ◌-◌, ◌*◌, ◌^◌, ◌≤◌, ◌<◌, ltb, length, get_or, take, drop};
+ghost use Rattle.lists.specs.Optional.{missing, list_of};
 ghost use Rattle.bits.specs.Digits.{bits_of};
 ghost use Rattle.bits.specs.Packing.{bits};
 ghost use Rattle.bits.specs.Sinks.{Sound, Held, PlacedBits, Laid};
 ghost use Rattle.limits.specs.Points.{max_points};
 ghost use Rattle.position_format.specs.Rows.{wide_rows, no_row};
 ghost use Rattle.position_format.specs.Tables.{table_of};
-ghost use Rattle.position_format.specs.Positions.{decoded};
+ghost use Rattle.position_format.specs.Positions.{read_positions};
 ghost use Rattle.position_codec.specs.Found.{Ahead};
-ghost use Rattle.position_codec.specs.Recoding.{Gives, Led, Fore, ThreeShared, RecodedInto};
+ghost use Rattle.position_codec.specs.Recoding.{Led, Fore, ThreeShared, RecodedInto};
 
 use crate::read::field_ahead;
 use crate::table::{Lead, lead_of, prefixes_of, width_of};
@@ -158,11 +159,11 @@ fn put_code(
     copy_bits(body, at + (n - width), width, out, t)
 }
 
-// The first `count` positions of a body in the form `from`, coded in the form `to`, at the front of the output, whose rest stays, if there is room; or the
-// first of them whose step the table of `to` does not hold, whatever the room. The body begins with the coding of so many, so each code is there.
+// The positions of a body in the form `from`, coded in the form `to`, at the front of the output, whose rest stays, if there is room; or the first of
+// them whose step the table of `to` does not hold, whatever the room. The body is the coding of so many positions, so each code is there.
 pub fn recode_positions(from: Form, to: Form, body: &[u8], count: usize, out: &mut [u8]) -> Recoded
-    requires { Gives from count body.now × (count ≤ max_points) }
-    ensures { RecodedInto to (decoded (table_of from) count body.now) result out.old out.new }
+    requires { (missing (read_positions (table_of from) count body.now) ≡ false) × (count ≤ max_points) }
+    ensures { RecodedInto to (list_of (read_positions (table_of from) count body.now)) result out.old out.new }
 {
     let mut i = raw_points(count);
     let mut at = 64 * i;

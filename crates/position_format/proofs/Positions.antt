@@ -1,22 +1,21 @@
--- The coding of positions and its reading: valid positions are read from their coding, and from no other body. Decoding fewer gives the first ones.
+-- The coding of positions and its reading: valid positions are read from their coding, and from no other body.
 pub mod After
 pub mod Raw
 pub mod Sizes
 pub mod Valid
 pub mod Every
-use mathlib.Core.Bool.{Bool, true, false, cond, false≢true}
+use mathlib.Core.Bool.{Bool, true, false, cond}
 use mathlib.Core.List.{List, [], ◌∷◌, ◌++◌, append_assoc}
 use mathlib.Core.Option.{none, some}
 use mathlib.Core.Path.{◌≡◌, refl, sym, ap, ◌∙◌}
-use Prim.Native.Nat.{ℕ, zero, suc, ◌≤◌}
+use Prim.Native.Nat.{ℕ, zero, suc}
 use native.Mathlib.Omega.{arith}
 use borrow.Author.Tests.{not-false}
 use lib.IntN.{ℤ}
-use lib.ListN.{length, take, drop, replicate}
+use lib.ListN.{length, replicate}
 use Rattle.lists.specs.Below.{Below}
 use Rattle.lists.specs.Compare.{both, same}
-use Rattle.lists.specs.Optional.{missing, list_of}
-use Rattle.bits.specs.Digits.{bits_of, number_of}
+use Rattle.bits.specs.Digits.{bits_of}
 use Rattle.bits.specs.Packing.{bits, fill_of}
 use Rattle.lists.proofs.Below.{below_append}
 use Rattle.bits.proofs.Digits.{below_digits, two⁺}
@@ -109,33 +108,6 @@ pub length-decoded : (rs : List Row) (n : ℕ) (body : List ℕ) → length (dec
 unfolding decoded
 length-decoded rs n body = length-decoded_bits rs n (bits body)
 
--- ---- fewer of them are the first ones
-
-steps_first : (rs : List Row) (k n a b : ℕ) (ds : List ℕ) → k ≤ n → decoded_steps rs k a b ds ≡ take k (decoded_steps rs n a b ds)
-unfolding decoded_steps
-steps_first rs zero n a b ds h = refl
-steps_first rs (suc k) zero a b ds h = absurd (omega arith)
-steps_first rs (suc k) (suc n) a b ds h =
-    let s = step_at rs ds in
-    let t = after a b s.step in
-    ap (λ (l : List ℕ). t ∷ l) (steps_first rs k n b t s.rest (omega arith))
-
-bits-first : (rs : List Row) (k n : ℕ) (ds : List ℕ) → k ≤ n → decoded_bits rs k ds ≡ take k (decoded_bits rs n ds)
-unfolding decoded_bits
-bits-first rs zero n ds h = refl
-bits-first rs (suc k) zero ds h = absurd (omega arith)
-bits-first rs (suc zero) (suc zero) ds h = refl
-bits-first rs (suc zero) (suc (suc n)) ds h = refl
-bits-first rs (suc (suc k)) (suc zero) ds h = absurd (omega arith)
-bits-first rs (suc (suc k)) (suc (suc n)) ds h =
-    let a = number_of 2 (take 64 ds) in
-    let b = number_of 2 (take 64 (drop 64 ds)) in
-    ap (λ (l : List ℕ). a ∷ b ∷ l) (steps_first rs k n a b (drop 128 ds) (omega arith))
-
-pub decoded-first : (rs : List Row) (k n : ℕ) (body : List ℕ) → k ≤ n → decoded rs k body ≡ take k (decoded rs n body)
-unfolding decoded
-decoded-first rs k n body h = bits-first rs k n (bits body) h
-
 -- ---- reading
 
 module _ (rs : List Row) where
@@ -165,21 +137,6 @@ module _ (rs : List Row) where
           let p = both_true (valid_positions rs us) _ s in
           rw (← u) (sym (same_is (coded_positions rs us) body p.1), p.0, length-decoded rs n body)
       go false s r = let z : ◌≡◌ {A = ℕ} 0 1 = cc in absurd (omega arith)
-
-  -- they are those that the body gives; decoding fewer gives the first of them
-  pub read_decoded : (n : ℕ) (body : List ℕ) → missing (read_positions rs n body) ≡ false → list_of (read_positions rs n body) ≡ decoded rs n body
-  unfolding read_positions
-  read_decoded n body e = go (accepts us body) e
-    where
-      us : List ℕ
-      us = decoded rs n body
-
-      go : (t : Bool) → missing (cond t (some us) none) ≡ false → list_of (cond t (some us) none) ≡ us
-      go true h = refl
-      go false h = absurd (false≢true (sym h))
-
-  pub read_first : (k n : ℕ) (body : List ℕ) → k ≤ n → missing (read_positions rs n body) ≡ false → decoded rs k body ≡ take k (list_of (read_positions rs n body))
-  read_first k n body h e = decoded-first rs k n body h ∙ ap (take k) (sym (read_decoded n body e))
 
   -- a body that is no such coding is refused
   pub read_none : (n : ℕ) (body : List ℕ) → ((ts : List ℕ) → length ts ≡ n → valid_positions rs ts ≡ true → coded_positions rs ts ≡ body → ⊥) → read_positions rs n body ≡ none

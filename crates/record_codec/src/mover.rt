@@ -1,14 +1,13 @@
 // Moving: a record is checked, and then the codes of its positions are put with the other form's prefixes, one by one. Its ratios' field is copied as it
 // stands, since it is the same in both. No memory is kept for the points: what a move takes of the stack does not grow with the count.
-ghost use Rattle.std.specs.Prelude.{◌≡◌, ◌++◌, ◌≤◌};
+ghost use Rattle.std.specs.Prelude.{false, ◌≡◌, ◌++◌, ◌≤◌};
+ghost use Rattle.lists.specs.Optional.{missing, list_of};
 ghost use Rattle.limits.specs.Points.{max_points};
-ghost use Rattle.position_format.specs.Positions.{decoded};
+ghost use Rattle.position_format.specs.Positions.{read_positions};
 ghost use Rattle.position_format.specs.Tables.{table_of};
-ghost use Rattle.position_codec.specs.Recoding.{Gives};
 ghost use Rattle.record_format.specs.Fields.{laid};
 ghost use Rattle.record_format.specs.Moves.{refused_move, move_of};
-ghost use Rattle.record_format.specs.Runs.{lead_fields};
-ghost use Rattle.record_parts.specs.Recodings.{RecodedAs};
+ghost use Rattle.record_parts.specs.Leads.{lead_fields, RecodedAs};
 ghost use Rattle.record_codec.specs.Answers.{Moved};
 ghost use Rattle.record_codec.specs.Movable.{Movable, Opened, ended_move};
 
@@ -35,8 +34,8 @@ fn refuse_move(refusal: Refusal, out: &mut [u8]) -> MoveAnswer
     }
 }
 
-// The fields of a record up to and with the positions', which are the first `count` of a body in the form `from` and are written in the form `to`, and
-// then the ratios' field, which is given as bytes.
+// The fields of a record up to and with the positions', which are those of a body in the form `from` and are written in the form `to`, and then the
+// ratios' field, which is given as bytes.
 fn put_moved(
     rate: u32,
     side: u32,
@@ -47,9 +46,9 @@ fn put_moved(
     field: &[u8],
     out: &mut [u8],
 ) -> Recoded
-    requires { Gives from count body.now × (count ≤ max_points) }
-    ensures { RecodedAs to (decoded (table_of from) count body.now)
-        (laid (lead_fields rate side to (decoded (table_of from) count body.now)) ++ field.now)
+    requires { (missing (read_positions (table_of from) count body.now) ≡ false) × (count ≤ max_points) }
+    ensures { RecodedAs to (list_of (read_positions (table_of from) count body.now))
+        (laid (lead_fields rate side to (list_of (read_positions (table_of from) count body.now))) ++ field.now)
         result out.old out.new }
 {
     let lead = put_recoded_lead(rate, side, from, to, body, count, out);

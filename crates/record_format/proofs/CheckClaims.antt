@@ -74,10 +74,10 @@ pub run-counted : RunCounted
 run-counted e s h =
     let clear = found_clear strict_ratios e s h in
     let r = record_clear strict_ratios e s clear in
-    let p = read_only (table_of (form_in s)) (count_in s) (body_at s (positions_at s)) r.lead.points.0 r.lead.points.1 in
+    let p = read_only (table_of (form_in s)) (count_in s) (body_at s (positions_at s)) r.points.0 r.points.1 in
     let q = strict_only_body (count_in s) (body_at s (ratios_at s)) r.values.0 r.values.1 in (
       ap (λ (a : CheckAnswer). a.count) (found-sound strict_ratios e s clear),
-      ap (λ (o : Option (List ℕ)). length (list_of o)) r.lead.points.1 ∙ p.2,
+      ap (λ (o : Option (List ℕ)). length (list_of o)) r.points.1 ∙ p.2,
       ap (λ (o : Option (List ℕ)). length (list_of o)) r.values.1 ∙ q.1,
     )
 

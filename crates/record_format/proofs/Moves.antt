@@ -40,7 +40,6 @@ use Rattle.record_format.proofs.Reading.Fronts.{count_at_lem, positions_at_lem, 
 use Rattle.record_format.proofs.Reading.{front-numbered, front_never_six}
 use Rattle.record_format.proofs.Claims.Returned.{positions_stand, ratios_stand, at_end_lem, count_read, run_is, all_clear}
 use Rattle.record_format.proofs.Claims.Admitted.{clear_begins}
-use Rattle.record_format.proofs.Runs.{record_laid}
 use Rattle.record_format.proofs.Writing.{Fitting, fitting_few, steps_valid, valid_steps}
 
 -- ---- forms
@@ -328,6 +327,18 @@ own_form f r fit rest e o =
     ap (λ (l : List ℕ). move_of f l o) splits
     ∙ form_first f r.rate r.side (length r.positions) (later ++ rest) o fit.listed fit.sided few (head_long points values rest) (ap positions_tag e)
 
+-- the record of the run in another form, from its fields up to the positions' and the ratios' field
+pub moved-laid : (f : Form) (r : Run)
+    → record_of (in_form f r)
+    ≡ laid (front_fields r.rate r.side (length r.positions) ++ (positions_field f r.positions ∷ []))
+    ++ laid (ratios_field r.ratios ∷ [])
+unfolding record_of
+moved-laid f r =
+    let front = front_fields r.rate r.side (length r.positions) in
+    let points = positions_field f r.positions ∷ [] in
+    let values = ratios_field r.ratios ∷ [] in
+    ap laid (sym (append_assoc front points values)) ∙ laid-append (front ++ points) values
+
 -- ---- bytes that the tests of the record do not refuse
 
 -- the run in them, and the bytes of its ratios' field
@@ -348,7 +359,7 @@ module _ (r : Run) (fit : Fitting r) (words : Below (2 ^ 64) r.ratios) (rest : L
   values = ratios_field r.ratios ∷ []
 
   split : record_of r ≡ laid points ++ laid values
-  split = record_laid r
+  split = moved-laid r.form r
 
   run_here : run_in_lem here ≡ r
   run_here = run_is r fit rest strict_ratios (strict_coded r.ratios words)

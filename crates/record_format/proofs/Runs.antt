@@ -1,7 +1,7 @@
 -- Laws of a run's record: the forms and their tags, which field is which, how long the bodies of its fields are, and how long it is.
 use mathlib.Core.Bool.{Bool, true, false, false≢true}
-use mathlib.Core.List.{List, [], ◌∷◌, ◌++◌, append_assoc}
-use mathlib.Core.Path.{◌≡◌, refl, sym, ap, ap₂, ◌∙◌}
+use mathlib.Core.List.{List, [], ◌∷◌, ◌++◌}
+use mathlib.Core.Path.{◌≡◌, refl, ap, ap₂, ◌∙◌}
 use Prim.Native.Nat.{ℕ, zero, suc, ◌+◌, ◌≤◌}
 use native.Mathlib.Omega.{arith}
 use lib.Dec.{eqb, lit≤}
@@ -17,7 +17,7 @@ use Rattle.ratio_format.specs.Windows.{window_size}
 use Rattle.ratio_format.specs.Bodies.{coded_ratios}
 use Rattle.ratio_format.proofs.Bodies.{nine_bytes}
 use Rattle.record_format.specs.Fields.{head_size, max_body, field_bytes, laid}
-use Rattle.record_format.specs.Runs.{Run, run, positions_tag, positions_tags, form_of, rate_size, side_size, count_size, rate_field, side_fields, side_length, count_field, positions_field, ratios_field, front_fields, lead_fields, fields_of, record_of}
+use Rattle.record_format.specs.Runs.{Run, run, positions_tag, positions_tags, form_of, rate_size, side_size, count_size, rate_field, side_fields, side_length, count_field, positions_field, ratios_field, front_fields, fields_of, record_of}
 use Rattle.record_format.specs.Sizes.{min_record, max_positions_body, max_ratios_body}
 use Rattle.record_format.proofs.Fields.{Small, length_field, length-laid, laid-append, small_append}
 use Rattle.record_format.proofs.Writing.{Fitting}
@@ -125,15 +125,6 @@ module _ (r : Run) (fit : Fitting r) where
       let m = form_bodies r.form in
       small_append (front_fields r.rate r.side (length r.positions)) _ (front_small r.rate r.side (length r.positions))
       (omega (arith, positions_size, m.0), (omega (arith, ratios_size, m.1), tt))
-
--- the ratios' field stands last
-pub record_laid : (r : Run) → record_of r ≡ laid (lead_fields r.rate r.side r.form r.positions) ++ laid (ratios_field r.ratios ∷ [])
-unfolding record_of
-record_laid r =
-    let front = front_fields r.rate r.side (length r.positions) in
-    let points = positions_field r.form r.positions ∷ [] in
-    let values = ratios_field r.ratios ∷ [] in
-    ap laid (sym (append_assoc front points values)) ∙ laid-append (front ++ points) values
 
 pub length_record : (r : Run) → length (record_of r) ≡ min_record + side_length r.side + length (coded_positions (table_of r.form) r.positions) + length (coded_ratios r.ratios)
 unfolding record_of

@@ -8,8 +8,7 @@
 --   rate_field r, count_field n, positions_field f ts, ratios_field vs   the fields of the rate r, of the count n, of the positions ts in the form f, and of
 --                  the ratios vs
 --   front_fields r d n   the fields of the rate r, of the side d unless it is 0, and of the count n
---   lead_fields r d f ts   the fields before the ratios': those, and that of the positions ts in the form f
---   fields_of r     the fields of the record of the run r: those, and then coded ratios, each once, in this order
+--   fields_of r     the fields of the record of the run r: those, coded positions, coded ratios, each once, in this order
 --   record_of r     the record of the run r: its fields laid end to end
 use Rattle.std.specs.Prelude.{cond, List, [], ◌∷◌, ◌++◌, ℕ, zero, suc, ◌+◌, eqb, length}
 use Rattle.bits.specs.Digits.{bytes_of}
@@ -102,10 +101,6 @@ ratios_field vs = field_of ratios_tag (coded_ratios vs)
 -- rate, side, count
 abbrev pub front_fields : ℕ → ℕ → ℕ → List Field
 front_fields r d n = rate_field r ∷ (side_fields d ++ (count_field n ∷ []))
-
--- the front, and then the coded positions
-abbrev pub lead_fields : ℕ → ℕ → Form → List ℕ → List Field
-lead_fields r d f ts = front_fields r d (length ts) ++ (positions_field f ts ∷ [])
 
 -- the front, positions, ratios
 abbrev pub fields_of : Run → List Field

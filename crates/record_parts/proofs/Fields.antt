@@ -6,8 +6,7 @@ use mathlib.Core.Option.{Option, none, some}
 use Prim.Native.Nat.{ℕ, ◌+◌, ◌-◌, ◌≤◌, ◌<◌}
 use native.Mathlib.Omega.{arith}
 use borrow.Author.Tests.{eqb-true, eqb-false}
-use lib.ListN.{length, get_or, take, drop, length-take, length-drop, take-append-drop}
-use lib.Seq.{take_at}
+use lib.ListN.{length, get_or, take, drop}
 use Rattle.lists.specs.Below.{Below}
 use Rattle.lists.specs.Lists.{member}
 use Rattle.bits.specs.Digits.{number_of}
@@ -95,29 +94,6 @@ module _ (s tags : List ℕ) (n : Option ℕ) (p : ℕ) where
               };
               from = λ z. refl;
             }
-
--- ---- where a body ends, as much of it as is there
-
--- past a whole head at the offset p that states the length l
-module _ (s : List ℕ) (p : ℕ) (head : p + head_size ≤ length s) (l : ℕ) (stated : l ≡ number_of 256 (take length_size (drop (p + tag_size) s))) where
-  length_there : length (body_at s p) ≡ length (take l (drop (p + head_size) s))
-  unfolding body_at length_at
-  length_there = ap (λ (n : ℕ). length (take n (drop (p + head_size) s))) (sym stated)
-
-  -- the end of the input, where it is cut
-  pub body_cut : length s - (p + head_size) < l → length s ≡ p + head_size + length (body_at s p)
-  body_cut h = omega (arith, length_there, length-take l (drop (p + head_size) s), length-drop (p + head_size) s)
-
-  -- and else the stated length
-  pub body-whole : l ≤ length s - (p + head_size) → p + head_size + l ≡ p + head_size + length (body_at s p)
-  body-whole h = omega (arith, length_there, length-take l (drop (p + head_size) s), length-drop (p + head_size) s)
-
--- the bytes up to its end are the body
-pub body_part : (s : List ℕ) (p end : ℕ) → end ≡ p + head_size + length (body_at s p) → take (end - (p + head_size)) (drop (p + head_size) s) ≡ body_at s p
-unfolding body_at
-body_part s p end e =
-    let d = drop (p + head_size) s in
-    ap (take (end - (p + head_size))) (sym (take-append-drop (length_at s p) d)) ∙ take_at (take (length_at s p) d) (drop (length_at s p) d) (end - (p + head_size)) (omega (arith, e))
 
 -- ---- contents after a field
 

@@ -2,7 +2,7 @@
 // Document 01, "The record": a tag byte, a two-byte length, then the body.
 ghost use Rattle.std.specs.Prelude.{◌≡◌, ◌+◌, ◌≤◌, ◌<◌, leb, eqb, length};
 ghost use Rattle.lists.specs.Lists.{member};
-ghost use Rattle.record_format.specs.Fields.{head_size, tag_at, body_at, field_tests};
+ghost use Rattle.record_format.specs.Fields.{head_size, tag_at, field_tests};
 ghost use Rattle.record_parts.specs.Fields.{max_place, length_asked, length_good, FieldRead};
 
 use record_format::HEAD_SIZE;
@@ -43,7 +43,7 @@ fn is_among(tags: &[u8], tag: u8) -> bool
 }
 
 // Whether the head of the field at an offset is whole.
-pub fn is_head_whole(input: &[u8], at: usize) -> bool
+pub(crate) fn is_head_whole(input: &[u8], at: usize) -> bool
     requires { at ≤ length input.now }
     ensures { result ≡ leb (at + head_size) (length input.now) }
 {
@@ -51,25 +51,11 @@ pub fn is_head_whole(input: &[u8], at: usize) -> bool
 }
 
 // Whether the field at an offset has this tag, which is not 0; past the end of the input there is none.
-pub fn has_tag(input: &[u8], at: usize, tag: u8) -> bool
+pub(crate) fn has_tag(input: &[u8], at: usize, tag: u8) -> bool
     requires { 0 < tag }
     ensures { result ≡ eqb (tag_at input.now at) tag }
 {
     at < input.len() && input[at] == tag
-}
-
-// Where the body of the field at an offset ends, as much of it as is there: past the length that a whole head states, or at the end of the input, if that
-// comes first.
-pub fn body_end(input: &[u8], at: usize) -> usize
-    requires { at + head_size ≤ length input.now }
-    ensures { (result ≡ at + head_size + length (body_at input.now at)) × (result ≤ length input.now) }
-{
-    let n = bits::get_bytes(input, at + TAG_SIZE, LENGTH_SIZE) as usize;
-    let from = at + HEAD_SIZE;
-    if input.len() - from < n {
-        return input.len();
-    }
-    from + n
 }
 
 // Whether a stated length is the one that is asked for.

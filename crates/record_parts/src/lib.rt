@@ -1,6 +1,6 @@
 // The parts of a record: its fields, its front and its points, read and written. Internal: some functions have a `requires`, which their callers meet.
 pub mod coding;
-pub mod field;
+mod field;
 pub mod front;
 pub mod points;
 pub mod putting;

@@ -1,21 +1,21 @@
-// Fields put at the front of an output: those that hold a number, those of coded numbers, those whose body is given, and the front of a record with its
-// positions, which are given as numbers or as a body in either form.
-ghost use Rattle.std.specs.Prelude.{[], ◌∷◌, ◌≡◌, ◌≤◌, length};
+// Fields put at the front of an output: those that hold a number, those of coded numbers, and the front of a record with its positions, which are given
+// as numbers or as a body in the other form.
+ghost use Rattle.std.specs.Prelude.{false, [], ◌∷◌, ◌≡◌, ◌≤◌, length};
+ghost use Rattle.lists.specs.Optional.{missing, list_of};
 ghost use Rattle.bits.specs.Digits.{bytes_of};
 ghost use Rattle.limits.specs.Points.{max_points};
 ghost use Rattle.outputs.specs.Outputs.{over, Placed, Left, Next};
-ghost use Rattle.position_format.specs.Positions.{decoded};
+ghost use Rattle.position_format.specs.Positions.{read_positions};
 ghost use Rattle.position_format.specs.Tables.{table_of};
 ghost use Rattle.position_codec.specs.Codes.{CodablePositions};
-ghost use Rattle.position_codec.specs.Recoding.{Gives};
-ghost use Rattle.record_format.specs.Fields.{field_of, length_size, head_size, max_body, laid};
-ghost use Rattle.record_format.specs.Runs.{side_fields, positions_field, front_fields, lead_fields};
+ghost use Rattle.record_format.specs.Fields.{field_of, length_size, head_size, laid};
+ghost use Rattle.record_format.specs.Runs.{side_fields, positions_field, front_fields};
 ghost use Rattle.record_parts.specs.Fields.{tag_of, coded_by, Codable};
-ghost use Rattle.record_parts.specs.Recodings.{RecodedAs, RecodedNowhere};
+ghost use Rattle.record_parts.specs.Leads.{lead_fields, RecodedAs, RecodedNowhere};
 
 use super::coding::{Coding, form_tag, put_body, tag_of};
 use super::field::{LENGTH_SIZE, TAG_SIZE};
-use outputs::{Wrote, both_wrote, put_copy};
+use outputs::{Wrote, both_wrote};
 use position_codec::Recoded;
 use position_format::Form;
 use record_format::{COUNT_SIZE, COUNT_TAG, HEAD_SIZE, RATE_SIZE, RATE_TAG, SIDE_SIZE, SIDE_TAG};
@@ -69,32 +69,6 @@ fn put_number_next(wrote: Wrote, out: &mut [u8], tag: u8, n: usize, x: u64) -> W
     both_wrote(at, put_number(&mut out[at..], tag, n, x))
 }
 
-// A field whose body is given as bytes, at the front of the output: the body past the head, and then the head.
-fn put_field(tag: u8, body: &[u8], out: &mut [u8]) -> Wrote
-    requires { length body.now ≤ max_body }
-    ensures { Placed (laid (field_of tag body.now ∷ [])) result out.old out.new }
-{
-    if out.len() < HEAD_SIZE {
-        return Wrote::NoRoom;
-    }
-    let Wrote::Done(n) = put_copy(body, &mut out[HEAD_SIZE..]) else {
-        return Wrote::NoRoom;
-    };
-    put_head(out, tag, n);
-    Wrote::Done(n + HEAD_SIZE)
-}
-
-// A field whose body is given as bytes, no more of them than a head can state, past the bytes of a writer before.
-pub fn put_field_next(wrote: Wrote, tag: u8, body: &[u8], out: &mut [u8]) -> Wrote
-    requires { Left wrote out.old × (length body.now ≤ max_body) }
-    ensures { Next (laid (field_of tag body.now ∷ [])) wrote result out.old out.new }
-{
-    let Wrote::Done(at) = wrote else {
-        return Wrote::NoRoom;
-    };
-    both_wrote(at, put_field(tag, body, &mut out[at..]))
-}
-
 // The field of a side: nothing for side 0.
 fn put_side_next(wrote: Wrote, side: u32, out: &mut [u8]) -> Wrote
     requires { Left wrote out.old }
@@ -131,8 +105,8 @@ pub fn put_lead(rate: u32, side: u32, form: Form, positions: &[u64], out: &mut [
 
 // Positions that are to be recoded where there is no room for what they are a part of: the first whose step the table does not hold is told all the same.
 fn recode_nowhere(from: Form, to: Form, body: &[u8], count: usize) -> Recoded
-    requires { Gives from count body.now × (count ≤ max_points) }
-    ensures { RecodedNowhere to (decoded (table_of from) count body.now) result }
+    requires { (missing (read_positions (table_of from) count body.now) ≡ false) × (count ≤ max_points) }
+    ensures { RecodedNowhere to (list_of (read_positions (table_of from) count body.now)) result }
 {
     let mut none: [u8; 0] = [0; 0];
     match position_codec::recode_positions(from, to, body, count, &mut none) {
@@ -141,12 +115,11 @@ fn recode_nowhere(from: Form, to: Form, body: &[u8], count: usize) -> Recoded
     }
 }
 
-// The first `count` positions of a body in the form `from`, as a field in the form `to`, at the front of the output: the body past the head, and then the
-// head.
+// The positions of a body in the form `from`, as a field in the form `to`, at the front of the output: the body past the head, and then the head.
 fn put_recoded(from: Form, to: Form, body: &[u8], count: usize, out: &mut [u8]) -> Recoded
-    requires { Gives from count body.now × (count ≤ max_points) }
-    ensures { RecodedAs to (decoded (table_of from) count body.now)
-        (laid (positions_field to (decoded (table_of from) count body.now) ∷ []))
+    requires { (missing (read_positions (table_of from) count body.now) ≡ false) × (count ≤ max_points) }
+    ensures { RecodedAs to (list_of (read_positions (table_of from) count body.now))
+        (laid (positions_field to (list_of (read_positions (table_of from) count body.now)) ∷ []))
         result out.old out.new }
 {
     if out.len() < HEAD_SIZE {
@@ -163,7 +136,7 @@ fn put_recoded(from: Form, to: Form, body: &[u8], count: usize, out: &mut [u8]) 
     Recoded::Put(Wrote::Done(n + HEAD_SIZE))
 }
 
-// The fields of `put_lead`, where the positions are the first `count` of a body in the form `from`, and are written in the form `to`.
+// The fields of `put_lead`, where the positions are those of a body in the form `from`, and are written in the form `to`.
 pub fn put_recoded_lead(
     rate: u32,
     side: u32,
@@ -173,9 +146,9 @@ pub fn put_recoded_lead(
     count: usize,
     out: &mut [u8],
 ) -> Recoded
-    requires { Gives from count body.now × (count ≤ max_points) }
-    ensures { RecodedAs to (decoded (table_of from) count body.now)
-        (laid (lead_fields rate side to (decoded (table_of from) count body.now)))
+    requires { (missing (read_positions (table_of from) count body.now) ≡ false) × (count ≤ max_points) }
+    ensures { RecodedAs to (list_of (read_positions (table_of from) count body.now))
+        (laid (lead_fields rate side to (list_of (read_positions (table_of from) count body.now))))
         result out.old out.new }
 {
     let Wrote::Done(front_end) = put_front(rate, side, count, out) else {

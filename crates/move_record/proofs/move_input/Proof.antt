@@ -23,9 +23,6 @@ move-to-requires c κs = search rules
 put-answer-requires : tie.Need-put-answer-requires
 put-answer-requires c κs = search rules
 
-answered-requires : tie.Need-answered-requires
-answered-requires c κs = search rules
-
 same_length : tie.Need-same-length
 same_length c = search rules
 
@@ -38,8 +35,8 @@ returns c =
     let m = moved put in
     let s = start m in
     move_told s.args.form s.args.input.now s.args.out.now _ s.args.line.now _ m.move-to.result put.put-answer.result s.pre.0 s.pre.1
-    m.move-to.ensures put.put-answer.ensures c.answered.ensures
+    m.move-to.kept.1.1.0 m.move-to.ensures put.put-answer.ensures
 
 pub move-input-spec : {M : Type 1} → statement M
 move-input-spec =
-    tie.close (tie.spec move-to-requires put-answer-requires answered-requires same_length same-length-2 returns)
+    tie.close (tie.spec move-to-requires put-answer-requires same_length same-length-2 returns)

@@ -1,6 +1,6 @@
 -- `put_answer` meets its contract, by the number.
 use Rattle.text.proofs.PlacedAt.{placed_same}
-use Rattle.new_records.proofs.Lines.{line_refused, line_own}
+use Rattle.move_record.proofs.Printed.{line_refused, line-moved}
 use borrow.Author.Rules.{rules}
 use Rattle.move_record.proofs.put_answer.Statement.{statement}
 use Rattle.move_record.proofs.put_answer.Tie as tie
@@ -15,7 +15,7 @@ returns : tie.Need-returns
 returns c =
     let put = c.before.before in
     let i = put.before.before in
-    placed_same (line_refused _ _ _ i.if1.true) put.Put-refused.ensures
+    placed_same (line_refused i.before.before.args.answer i.if1.true) put.Put-refused.ensures
 
 put-moved-line-requires : tie.Need-put-moved-line-requires
 put-moved-line-requires c κs = search rules
@@ -27,7 +27,7 @@ returns-2 : tie.Need-returns-2
 returns-2 c =
     let put = c.before.before in
     let i = put.before.before in
-    placed_same (line_own _ _ _ i.if1.false) put.put-moved-line.ensures
+    placed_same (line-moved i.before.before.args.answer i.if1.false) put.put-moved-line.ensures
 
 pub put-answer-spec : {M : Type 1} → statement M
 put-answer-spec =

@@ -1,6 +1,4 @@
 -- `respond` meets its contract, by the form that is asked for.
-use native.Mathlib.Omega.{arith}
-use Rattle.new_records.proofs.Responses.{told_within}
 use Rattle.move_record.proofs.Printed.{told_asked, told_blank}
 use borrow.Author.Rules.{rules}
 use Rattle.move_record.proofs.respond.Statement.{statement}
@@ -18,7 +16,7 @@ abbrev form : tie.After-move-input → tie.After-form
 form k = k.before.before.before.before
 
 abbrev none : tie.After-show-usage → tie.After-enum-told
-none k = k.before.before.before
+none k = k.before.before
 
 -- ---- the needs
 
@@ -33,9 +31,6 @@ move-input-requires c κs = search rules
 
 enum_told : tie.Need-enum-told
 enum_told c = search rules
-
-slice-aggregate-show-usage : tie.Need-slice-aggregate-show-usage
-slice-aggregate-show-usage c = search rules
 
 show-usage-requires : tie.Need-show-usage-requires
 show-usage-requires c κs = search rules
@@ -64,8 +59,7 @@ returns-2 c =
     let f = k.before.before in
     let s = start f in
     let a = s.args in
-    told_blank a.count a.word.now a.input.now f.form-asked.ensures k.enum_told.given.1 s.pre.1
-    (told_within (omega arith) m.show-usage.ensures)
+    told_blank a.count a.word.now a.input.now f.form-asked.ensures k.enum_told.given.1 s.pre.1 m.show-usage.ensures
 
 pub respond-spec : {M : Type 1} → statement M
 respond-spec =
@@ -75,7 +69,6 @@ respond-spec =
     enum-known-form
     move-input-requires
     enum_told
-    slice-aggregate-show-usage
     show-usage-requires
     same_length
     same-length-2

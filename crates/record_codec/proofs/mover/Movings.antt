@@ -18,32 +18,28 @@ use Rattle.refusals.specs.Tests.{refusal, first_of}
 use Rattle.refusals.proofs.Tests.{first_of_here, first_of_skip, first_of_end}
 use Rattle.position_format.specs.declared.Form.{Form}
 use Rattle.position_format.specs.declared.Form.TheVariants.{Old, Wide}
-use Rattle.position_format.specs.Positions.{decoded, read_positions}
+use Rattle.position_format.specs.Positions.{read_positions}
 use Rattle.position_format.specs.Steps.{first_outside}
 use Rattle.position_format.specs.Tables.{table_of, points_of}
-use Rattle.position_format.proofs.Positions.{read_decoded}
 use Rattle.position_format.proofs.Positions.Valid.{valid_parts}
 use Rattle.position_codec.specs.Codes.{CodablePositions}
-use Rattle.position_codec.specs.Recoding.{Gives}
 use Rattle.position_codec.specs.declared.recode.Recoded.{Recoded}
 use Rattle.position_codec.specs.declared.recode.Recoded.TheVariants.{Outside, Put}
 use Rattle.position_codec.proofs.Codes.{codable_inside}
-use Rattle.position_codec.proofs.Recoding.{sound-gives}
 use Rattle.ratio_format.specs.Bodies.{strict_ratios}
 use Rattle.record_format.specs.Fields.{head_size, length_at, body_at, next_at, laid}
-use Rattle.record_format.specs.Runs.{lead_fields, record_of}
+use Rattle.record_format.specs.Runs.{record_of}
 use Rattle.record_format.specs.Reading.{positions_at, rate_in, side_in, count_in, form_in, positions_in, front_tests, record_tests}
 use Rattle.record_format.specs.Checking.{run_in_lem}
 use Rattle.record_format.specs.Moves.{Move, in_form, source_tests, target_tests, refused_move, move_of}
 use Rattle.record_format.specs.declared.MoveAnswer.{MoveAnswer}
 use Rattle.record_format.proofs.Reading.Sound.{record_clear}
-use Rattle.record_format.proofs.Runs.{record_laid}
 use Rattle.record_format.proofs.Writing.{fitting_few, valid_steps}
-use Rattle.record_format.proofs.Moves.{head_of, source_front, source_form, source_points, source_check, source_refused, target_refused, room-refused, move_done, SourceSound, source_sound}
+use Rattle.record_format.proofs.Moves.{head_of, source_front, source_form, source_points, source_check, source_refused, target_refused, room-refused, move_done, moved-laid, SourceSound, source_sound}
 use Rattle.record_parts.specs.declared.front.Front.{Front}
 use Rattle.record_parts.specs.declared.points.Points.{Points}
 use Rattle.record_parts.specs.Fields.{no_front, FrontFound, FrontRead, PointsRead}
-use Rattle.record_parts.specs.Recodings.{RecodedAs}
+use Rattle.record_parts.specs.Leads.{lead_fields, RecodedAs}
 use Rattle.record_parts.proofs.putting.Recodings.{recoded_put, recoded_outside}
 use Rattle.outputs.proofs.Outputs.Writers.{short_of, wrote_all}
 use Rattle.record_codec.specs.Answers.{Moved}
@@ -128,15 +124,12 @@ module _ {f : Form} {s : List ℕ} {h : Front} {g : Points} (i : PointsFound f s
   pub points_stop : (g.refusal.number ≡ 0 → ⊥) → (o : List ℕ) → refused_move g.refusal o ≡ move_of f s o
   points_stop d o = source_refused f s o g.refusal source_is d
 
-  -- the body of the positions' field, what is read from it, and the positions that it gives
+  -- the body of the positions' field, and the positions in it
   abbrev body : List ℕ
   body = take (g.from - (h.end + head_size)) (drop (h.end + head_size) s)
 
-  abbrev found : Option (List ℕ)
-  found = read_positions (table_of g.form) h.count body
-
-  abbrev points : List ℕ
-  points = decoded (table_of g.form) h.count body
+  abbrev points : Option (List ℕ)
+  points = read_positions (table_of g.form) h.count body
 
   -- and the ratios' field
   abbrev field : List ℕ
@@ -166,25 +159,19 @@ module _ {f : Form} {s : List ℕ} {h : Front} {g : Points} (i : PointsFound f s
         let size : g.from - (h.end + head_size) ≡ length_at s (positions_at s) = omega (arith, body_size) in
         ap₂ (λ (n p : ℕ). take n (drop (p + head_size) s)) size front.count.next
 
-    found_is : found ≡ positions_in s
-    found_is =
+    points-are : points ≡ positions_in s
+    points-are =
         ap₂ (λ (x : Form) (n : ℕ). read_positions (table_of x) n body) (i.read.form good) front.count.counted
         ∙ ap (λ (l : List ℕ). read_positions (table_of (form_in s)) (count_in s) l) body_is
 
+    run_are : list_of points ≡ (run_in_lem s).positions
+    run_are = ap list_of points-are
+
     -- the positions are there, and not too many
-    found_there : missing found ≡ false
-    found_there =
+    pub body-sound : (missing points ≡ false) × (h.count ≤ max_points)
+    body-sound =
         let checked : (first_of (record_tests strict_ratios 0 s)).number ≡ 0 = sym (ap (λ (x : Refusal). x.number) (source_check f s (λ _. elsewhere.1))) ∙ clear in
-        ap missing (found_is ∙ (record_clear strict_ratios 0 s checked).lead.points.1)
-
-    few_points : h.count ≤ max_points
-    few_points = omega (arith, front.count.counted, front.count.few)
-
-    pub body-sound : Gives g.form h.count body × (h.count ≤ max_points)
-    body-sound = (sound-gives g.form h.count body found_there few_points h.count (omega arith), few_points)
-
-    run_are : points ≡ (run_in_lem s).positions
-    run_are = sym (read_decoded (table_of g.form) h.count body found_there) ∙ ap list_of found_is
+        (ap missing (points-are ∙ (record_clear strict_ratios 0 s checked).points.1), omega (arith, front.count.counted, front.count.few))
 
     many_is : h.count ≡ length (run_in_lem s).positions
     many_is = front.count.counted ∙ sound.many
@@ -197,19 +184,19 @@ module _ {f : Form} {s : List ℕ} {h : Front} {g : Points} (i : PointsFound f s
         target_refused f s o clear (refusal 3 0) (target_many f (run_in_lem s).positions (fitting_few (run_in_lem s) sound.fits) (omega (arith, many_is))) (λ z. omega arith)
 
     -- what the writer of the record says
-    module _ (o p : List ℕ) (r : Recoded) (put : RecodedAs f points (laid (lead_fields h.rate h.side f points) ++ field) r o p) where
+    module _ (o p : List ℕ) (r : Recoded) (put : RecodedAs f (list_of points) (laid (lead_fields h.rate h.side f (list_of points)) ++ field) r o p) where
       abbrev moved : List ℕ
       moved = record_of (in_form f (run_in_lem s))
 
-      bytes_are : laid (lead_fields h.rate h.side f points) ++ field ≡ moved
+      bytes_are : laid (lead_fields h.rate h.side f (list_of points)) ++ field ≡ moved
       bytes_are =
           ap₂ (λ (x y : List ℕ). x ++ y)
-          (ap₂ (λ (x y : ℕ). laid (lead_fields x y f points)) front.rate front.side ∙ ap (λ (l : List ℕ). laid (lead_fields (rate_in s) (side_in s) f l)) run_are)
+          (ap₂ (λ (x y : ℕ). laid (lead_fields x y f (list_of points))) front.rate front.side ∙ ap (λ (l : List ℕ). laid (lead_fields (rate_in s) (side_in s) f l)) run_are)
           (ap₂ (λ (a b : ℕ). take (b - a) (drop a s)) (i.read.from good) (i.read.next good) ∙ sound.ratios)
-          ∙ sym (record_laid (in_form f (run_in_lem s)))
+          ∙ sym (moved-laid f (run_in_lem s))
 
       put_record : RecodedAs f (run_in_lem s).positions moved r o p
-      put_record = subst (λ (l : List ℕ). RecodedAs f (run_in_lem s).positions l r o p) bytes_are (subst (λ (l : List ℕ). RecodedAs f l (laid (lead_fields h.rate h.side f points) ++ field) r o p) run_are put)
+      put_record = subst (λ (l : List ℕ). RecodedAs f (run_in_lem s).positions l r o p) bytes_are (subst (λ (l : List ℕ). RecodedAs f l (laid (lead_fields h.rate h.side f (list_of points)) ++ field) r o p) run_are put)
 
       -- a step outside
       module _ (k : ℕ) (e : r ≡ Outside k) where

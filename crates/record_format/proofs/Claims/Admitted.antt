@@ -16,12 +16,12 @@ use Rattle.position_format.proofs.Positions.{read_only}
 use Rattle.ratio_format.specs.Bodies.{strict_ratios}
 use Rattle.ratio_format.proofs.Bodies.Strict.{strict_only_body, strict_below}
 use Rattle.record_format.specs.Fields.{Field, body_at, next_at, laid}
-use Rattle.record_format.specs.Runs.{Run, run, side_fields, count_field, positions_field, ratios_field, front_fields, lead_fields, fields_of, record_of}
+use Rattle.record_format.specs.Runs.{Run, run, side_fields, count_field, positions_field, ratios_field, front_fields, fields_of, record_of}
 use Rattle.record_format.specs.Reading.{record_tests, rate_at, side_at, positions_at, ratios_at, rate_in, side_in, count_in, form_in, positions_in}
 use Rattle.record_format.proofs.Fields.{Follow, past_all, past_append, follow_laid, follow_append}
 use Rattle.record_format.proofs.Reading.{sound_follows, sound_below, sound_number}
 use Rattle.record_format.proofs.Reading.Sides.{side_follows}
-use Rattle.record_format.proofs.Reading.Sound.{FrontSound, LeadSound, RecordSound, record_clear}
+use Rattle.record_format.proofs.Reading.Sound.{FrontSound, RecordSound, record_clear}
 use Rattle.record_format.proofs.Writing.{Fitting}
 
 -- ---- the front
@@ -49,9 +49,9 @@ front_splits s bytes h =
     ∙ ap (λ (p : ℕ). laid (front_fields (rate_in s) (side_in s) (count_in s)) ++ drop p s) f.1
 
 -- and with the positions, as they are read in their form
-positions_follow : (s : List ℕ) → Below 256 s → (h : LeadSound s) → (fs : List Field) → Follow s (ratios_at s) fs
+positions_follow : (s : List ℕ) → Below 256 s → (k : ℕ → List ℕ → Option (List ℕ)) → (h : RecordSound k s) → (fs : List Field) → Follow s (ratios_at s) fs
     → Follow s rate_at (front_fields (rate_in s) (side_in s) (length h.points.0) ++ (positions_field (form_in s) h.points.0 ∷ fs))
-positions_follow s bytes h fs later =
+positions_follow s bytes k h fs later =
     let p = read_only (table_of (form_in s)) (count_in s) (body_at s (positions_at s)) h.points.0 h.points.1 in
     let f = front_follows s bytes h.front in
     let points = positions_field (form_in s) h.points.0 ∷ fs in
@@ -68,13 +68,14 @@ pub record FrontStands (s : List ℕ) : Type 0 where
   pub few : length points ≤ points_of (form_in s)
   pub valid : valid_positions (table_of (form_in s)) points ≡ true
   pub rest : List ℕ
-  pub splits : s ≡ laid (lead_fields (rate_in s) (side_in s) (form_in s) points) ++ rest
+  pub splits : s ≡ laid (front_fields (rate_in s) (side_in s) (length points) ++ (positions_field (form_in s) points ∷ [])) ++ rest
 
-pub lead_stands : (s : List ℕ) → Below 256 s → LeadSound s → FrontStands s
-lead_stands s bytes h =
+pub front_stands : (k : ℕ → List ℕ → Option (List ℕ)) (e : ℕ) (s : List ℕ) → Below 256 s → (first_of (record_tests k e s)).number ≡ 0 → FrontStands s
+front_stands k e s bytes clear =
+    let h = record_clear k e s clear in
     let ps = h.points.0 in
     let p = read_only (table_of (form_in s)) (count_in s) (body_at s (positions_at s)) ps h.points.1 in
-    let fields = lead_fields (rate_in s) (side_in s) (form_in s) ps in
+    let fields = front_fields (rate_in s) (side_in s) (length ps) ++ (positions_field (form_in s) ps ∷ []) in
     record {
       listed = h.front.listed;
       sided = (side_follows s bytes h.front.side).sided;
@@ -84,11 +85,8 @@ lead_stands s bytes h =
       few = subst (λ (c : ℕ). c ≤ points_of (form_in s)) (sym p.2) h.few;
       valid = p.1;
       rest = drop (past_all s rate_at fields) s;
-      splits = follow_laid s rate_at fields (positions_follow s bytes h [] tt);
+      splits = follow_laid s rate_at fields (positions_follow s bytes k h [] tt);
     }
-
-pub front_stands : (k : ℕ → List ℕ → Option (List ℕ)) (e : ℕ) (s : List ℕ) → Below 256 s → (first_of (record_tests k e s)).number ≡ 0 → FrontStands s
-front_stands k e s bytes clear = lead_stands s bytes (record_clear k e s clear).lead
 
 -- ---- the whole record, its ratios read strictly
 
@@ -103,19 +101,19 @@ pub record Begins (s : List ℕ) : Type 0 where
 begins : (s : List ℕ) → Below 256 s → RecordSound strict_ratios s → Begins s
 unfolding record_of
 begins s bytes h =
-    let ts = h.lead.points.0 in
+    let ts = h.points.0 in
     let vs = h.values.0 in
-    let p = read_only (table_of (form_in s)) (count_in s) (body_at s (positions_at s)) ts h.lead.points.1 in
+    let p = read_only (table_of (form_in s)) (count_in s) (body_at s (positions_at s)) ts h.points.1 in
     let q = strict_only_body (count_in s) (body_at s (ratios_at s)) vs h.values.1 in
     let r = run (rate_in s) (side_in s) (form_in s) ts vs in
-    let follow : Follow s rate_at (fields_of r) = positions_follow s bytes h.lead (ratios_field vs ∷ []) (sound_follows bytes h.ratios _ q.0, tt) in
+    let follow : Follow s rate_at (fields_of r) = positions_follow s bytes strict_ratios h (ratios_field vs ∷ []) (sound_follows bytes h.ratios _ q.0, tt) in
     record {
       own = r;
       fits = record {
-        listed = h.lead.front.listed;
-        sided = (side_follows s bytes h.lead.front.side).sided;
+        listed = h.front.listed;
+        sided = (side_follows s bytes h.front.side).sided;
         paired = q.1 ∙ sym p.2;
-        few = subst (λ (k : ℕ). k ≤ points_of (form_in s)) (sym p.2) h.lead.few;
+        few = subst (λ (k : ℕ). k ≤ points_of (form_in s)) (sym p.2) h.few;
         valid = p.1;
       };
       ratios = strict_below (count_in s) (body_at s (ratios_at s)) vs (sound_below bytes h.ratios) h.values.1;

@@ -40,10 +40,10 @@ module _ (s rest : List ℕ) (framed : end_at s ≤ length s) where
       go false e = subst (λ (p : ℕ). next_at s p ≤ length s) (absent_count s e) count_whole
 
   -- the rate's field and the one past it, and those from the count's on
-  pub front : FieldsShifted 0 s rate_at (s ++ rest) rate_at opening_field_count
+  front : FieldsShifted 0 s rate_at (s ++ rest) rate_at opening_field_count
   front = whole_fields s rest rate_at rate_at opening_field_count refl side_whole
 
-  pub points : FieldsShifted 0 s (count_at_lem s) (s ++ rest) (count_at_lem (s ++ rest)) closing_field_count
+  points : FieldsShifted 0 s (count_at_lem s) (s ++ rest) (count_at_lem (s ++ rest)) closing_field_count
   points = whole_fields s rest (count_at_lem s) (count_at_lem (s ++ rest)) closing_field_count (count_shifted front ∙ add-zero (count_at_lem s)) framed
 
   end_same : end_at (s ++ rest) ≡ end_at s

@@ -183,7 +183,7 @@ module _ {d : ℕ} {s t : List ℕ} (all : FieldsShifted d s (count_at_lem s) t 
   positions_field_lem : FieldShifted d s (positions_at s) t (positions_at t)
   positions_field_lem = all.1.0
 
-  pub ratios_field_lem : FieldShifted d s (ratios_at s) t (ratios_at t)
+  ratios_field_lem : FieldShifted d s (ratios_at s) t (ratios_at t)
   ratios_field_lem = all.1.1.0
 
   pub end_shifted : end_at t ≡ end_at s + d

@@ -1,4 +1,4 @@
--- Bytes to which no test of reading applies: what that says of the front, of the positions past it, and of the whole record.
+-- Bytes to which no test of reading applies: what that says of the front, and of the whole record.
 use mathlib.Core.Path.{◌≡◌, sym, ap, ◌∙◌}
 use mathlib.Core.Bool.{true, false, not}
 use mathlib.Core.List.{List, [], ◌∷◌, ◌++◌}
@@ -51,44 +51,32 @@ rate_expected e s ts clear =
     let a13 = first_of_clear _ _ (lit< tt) a.1 in
     (first_of_clear _ _ (lit< tt) a13.1).0
 
--- ---- the front and the positions
-
--- what their tests say of bytes to which none applies
-pub record LeadSound (s : List ℕ) : Type 0 where
-  pub front : FrontSound s
-  pub positions : FieldSound s (positions_tag (form_in s) ∷ []) none (positions_at s)
-  pub few : count_in s ≤ points_of (form_in s)
-  pub points : (ts : List ℕ) × (positions_in s ≡ some ts)
-
--- and which others are left
-pub lead_clear : (e : ℕ) (s : List ℕ) (ts : List Test) → (first_of (front_tests e s ++ (positions_tests s ++ ts))).number ≡ 0 → LeadSound s × ((first_of ts).number ≡ 0)
-lead_clear e s ts clear =
-    let f = front_clear e s (positions_tests s ++ ts) clear in
-    let head = first_of_clear _ _ (lit< tt) f.1 in
-    let tag = first_of_clear _ _ (lit< tt) head.1 in
-    let c15 = first_of_clear _ _ (lit< tt) tag.1 in
-    let body = first_of_clear _ _ (lit< tt) c15.1 in
-    let c17 = first_of_clear _ _ (lit< tt) body.1 in (
-      record {
-        front = f.0;
-        positions = record { head_whole = ltb-false _ _ head.0; tagged = tag_named (tag_at s (positions_at s)) (not-false _ tag.0); stated = tt; whole = ltb-false _ _ body.0 };
-        few = ltb-false _ _ c15.0;
-        points = missing-some (positions_in s) c17.0;
-      },
-      c17.1,
-    )
-
 -- ---- the record
 
 -- what the tests of reading say of bytes to which none applies, by the reading k of the ratios' field
 pub record RecordSound (k : ℕ → List ℕ → Option (List ℕ)) (s : List ℕ) : Type 0 where
-  pub lead : LeadSound s
+  pub front : FrontSound s
+  pub positions : FieldSound s (positions_tag (form_in s) ∷ []) none (positions_at s)
+  pub few : count_in s ≤ points_of (form_in s)
+  pub points : (ts : List ℕ) × (positions_in s ≡ some ts)
   pub ratios : FieldSound s (ratios_tag ∷ []) none (ratios_at s)
   pub values : (vs : List ℕ) × (ratios_in k s ≡ some vs)
 
 pub record_clear : (k : ℕ → List ℕ → Option (List ℕ)) (e : ℕ) (s : List ℕ) → (first_of (record_tests k e s)).number ≡ 0 → RecordSound k s
 record_clear k e s clear =
-    let l = lead_clear e s (ratios_tests k s) clear in
-    let d = field_clear s (ratios_tag ∷ []) none (ratios_at s) (test (missing (ratios_in k s)) 18 (ratios_at s) ∷ []) l.1 in
+    let f = front_clear e s (positions_tests s ++ ratios_tests k s) clear in
+    let head = first_of_clear _ _ (lit< tt) f.1 in
+    let tag = first_of_clear _ _ (lit< tt) head.1 in
+    let c15 = first_of_clear _ _ (lit< tt) tag.1 in
+    let body = first_of_clear _ _ (lit< tt) c15.1 in
+    let c17 = first_of_clear _ _ (lit< tt) body.1 in
+    let d = field_clear s (ratios_tag ∷ []) none (ratios_at s) (test (missing (ratios_in k s)) 18 (ratios_at s) ∷ []) c17.1 in
     let d18 = first_of_clear _ _ (lit< tt) d.1 in
-    record { lead = l.0; ratios = d.0; values = missing-some (ratios_in k s) d18.0 }
+    record {
+      front = f.0;
+      positions = record { head_whole = ltb-false _ _ head.0; tagged = tag_named (tag_at s (positions_at s)) (not-false _ tag.0); stated = tt; whole = ltb-false _ _ body.0 };
+      few = ltb-false _ _ c15.0;
+      points = missing-some (positions_in s) c17.0;
+      ratios = d.0;
+      values = missing-some (ratios_in k s) d18.0;
+    }

@@ -1,24 +1,38 @@
 -- Laws of positions that are recoded as a part of some bytes: what stands there, or a step outside the table, which is told whatever the room.
-use mathlib.Core.Path.{◌≡◌, sym, subst}
+use mathlib.Core.Path.{◌≡◌, refl, sym, subst}
+use mathlib.Core.Bool.{false}
 use mathlib.Core.List.{List, [], ◌∷◌}
+use mathlib.Core.Option.{Option, none, some}
 use Prim.Native.Nat.{ℕ, ◌+◌, ◌-◌, ◌≤◌, ◌<◌}
+use native.Mathlib.Omega.{arith}
 use lib.ListN.{length, take, drop}
 use borrow.Rule.Slice.PartMut.{put_mid}
+use Rattle.lists.specs.Optional.{missing, list_of}
 use Rattle.bits.specs.Digits.{bytes_of}
 use Rattle.outputs.specs.Outputs.{over, Placed}
 use Rattle.outputs.specs.declared.Wrote.{Wrote}
 use Rattle.outputs.specs.declared.Wrote.TheVariants.{Done, NoRoom}
 use Rattle.position_format.specs.declared.Form.{Form}
 use Rattle.position_format.specs.Tables.{table_of}
-use Rattle.position_format.specs.Positions.{coded_positions}
+use Rattle.position_format.specs.Positions.{coded_positions, read_positions}
+use Rattle.position_format.proofs.Positions.{read_only}
 use Rattle.position_codec.specs.Codes.{CodablePositions}
 use Rattle.position_codec.specs.Recoding.{RecodedInto}
 use Rattle.position_codec.specs.declared.recode.Recoded.{Recoded}
 use Rattle.position_codec.specs.declared.recode.Recoded.TheVariants.{Outside, Put}
 use Rattle.record_format.specs.Fields.{length_size, head_size, laid}
 use Rattle.record_format.specs.Runs.{positions_tag, positions_field}
-use Rattle.record_parts.specs.Recodings.{RecodedAs, RecodedNowhere}
+use Rattle.record_parts.specs.Leads.{RecodedAs, RecodedNowhere}
 use Rattle.record_parts.proofs.putting.Writings.{field_none, field_fits, field_done}
+
+-- as many are read as are asked for
+pub length-read : (f : Form) (n : ℕ) (body : List ℕ) → missing (read_positions (table_of f) n body) ≡ false
+    → n ≡ length (list_of (read_positions (table_of f) n body))
+length-read f n body sound = go (read_positions (table_of f) n body) refl sound
+  where
+    go : (x : Option (List ℕ)) → read_positions (table_of f) n body ≡ x → missing x ≡ false → n ≡ length (list_of x)
+    go none e h = absurd (let z : ◌≡◌ {A = ℕ} 0 1 = cc in omega arith)
+    go (some ts) e h = sym (read_only (table_of f) n body ts e).2
 
 module _ (f : Form) (ts : List ℕ) where
   -- as a body

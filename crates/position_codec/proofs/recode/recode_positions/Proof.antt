@@ -1,5 +1,5 @@
 -- `recode_positions` meets its contract. The loop's invariant: the bits of the points passed are copied with the other form's prefixes, and none of their
--- steps is outside. The measure is how many are left. Since the body begins with the coding of the positions each code is there.
+-- steps is outside. The measure is how many are left. Since the body is the coding of positions each code is there.
 use mathlib.Core.Bool.{true}
 use mathlib.Core.List.{List, ◌++◌}
 use mathlib.Core.Path.{◌≡◌, sym, ap, ap₂, ◌∙◌}
@@ -11,6 +11,7 @@ use lib.Dec.{ltb}
 use lib.IntN.{ℤ}
 use lib.ListN.{length, get_or, take, drop}
 use lib.Seq.{take_all}
+use Rattle.lists.specs.Optional.{list_of}
 use Rattle.lists.proofs.Below.{below_of}
 use Rattle.bits.specs.Digits.{bits_of}
 use Rattle.bits.specs.Packing.{bits}
@@ -18,30 +19,30 @@ use Rattle.bits.specs.Sinks.{Held, PlacedBits}
 use Rattle.position_format.specs.Rows.{Row, wide_rows, in_table, code, no_row, row_of}
 use Rattle.position_format.specs.Steps.{step_here}
 use Rattle.position_format.specs.Tables.{table_of}
-use Rattle.position_format.specs.Positions.{position_bits, coded_positions, decoded}
+use Rattle.position_format.specs.Positions.{position_bits, coded_positions, read_positions}
 use Rattle.position_format.proofs.Rows.Codes.{code_within}
 use Rattle.position_format.proofs.Tables.{most_bits, form_sound, table_good}
 use Rattle.position_format.proofs.Points.{point_step, outside_here, outside_later}
-use Rattle.position_format.proofs.Positions.{positions_below}
+use Rattle.position_format.proofs.Positions.{Coding, positions_below}
 use Rattle.position_codec.specs.Codes.{CodablePositions}
-use Rattle.position_codec.specs.Recoding.{Gives, CodeStands, Shared}
+use Rattle.position_codec.specs.Recoding.{CodeStands, Shared}
 use Rattle.position_codec.proofs.Codes.{codable_valid, inside_codable}
-use Rattle.position_codec.proofs.Recoding.{gives_range}
+use Rattle.position_codec.proofs.Recoding.{sound_coding, sound-range, sound_short}
 use Rattle.position_codec.proofs.recode.Copying.{fore_front, row-test, recoded_at}
-use Rattle.position_codec.proofs.recode.State.{Recoding, gives_many, raw_length, raw_front, raw_inside, place_inside, code_rest, code_stands, code_ends}
+use Rattle.position_codec.proofs.recode.State.{Recoding, raw_length, raw_front, raw_inside, place_inside, code_rest, code_stands, code_ends}
 use Rattle.position_codec.proofs.recode.State.{three_bits, three_inside, three_length, three_stand, three_ends, three_front}
 use Rattle.position_codec.proofs.recode.recode_positions.Statement.{statement}
 use Rattle.position_codec.proofs.recode.recode_positions.Tie as tie
 
 abbrev invariant-loop : tie.invariant-loop
 invariant-loop from to body count out₀ i₀ at₀ s₀ out i at s =
-    (o : List ℕ) → PlacedBits (position_bits (table_of to) (take i₀ (decoded (table_of from) count body))) s₀.at o out₀
-    → Recoding from to count (decoded (table_of from) count body) o out i at s
+    (o : List ℕ) → PlacedBits (position_bits (table_of to) (take i₀ (list_of (read_positions (table_of from) count body)))) s₀.at o out₀
+    → Recoding from to count (list_of (read_positions (table_of from) count body)) o out i at s
 
 abbrev decreases-loop : tie.decreases-loop
 decreases-loop from to body count out₀ i₀ at₀ s₀ out i at s = count - i
 
--- the start: the two tables, the body and the positions that it gives
+-- the start: the two tables, the body and the positions that it is the coding of
 module _ (s : tie.Start invariant-loop decreases-loop) where
   abbrev source : List Row
   source = table_of s.args.from
@@ -53,10 +54,13 @@ module _ (s : tie.Start invariant-loop decreases-loop) where
   body = s.args.body.now
 
   abbrev positions : List ℕ
-  positions = decoded source s.args.count body
+  positions = list_of (read_positions source s.args.count body)
 
-  abbrev given : Gives s.args.from s.args.count body
-  given = s.pre.0
+  coding : Coding source s.args.count body positions
+  coding = sound_coding s.args.from s.args.count body s.pre.0
+
+  short : length body ≤ 35327
+  short = sound_short s.args.from s.args.count body s.pre.0 s.pre.1
 
 raw-points-requires : tie.Need-raw-points-requires invariant-loop decreases-loop
 raw-points-requires c κs = search rules
@@ -73,7 +77,7 @@ copy-first-requires c κs =
     let k = c.before in
     let s = begin k in
     let e = k.raw-points.ensures in
-    (e.0, raw_inside (given s) k.raw-points.result e.0 e.1, omega (arith, (given s).short))
+    (e.0, raw_inside (source s) (table_good s.args.from) s.args.count (body s) (positions s) (coding s) k.raw-points.result e.0 e.1, omega (arith, short s))
 
 -- where their bits are copied
 module _ (c : tie.After-copy-first invariant-loop decreases-loop) where
@@ -90,7 +94,7 @@ module _ (c : tie.After-copy-first invariant-loop decreases-loop) where
       let s = begin counted in
       let e = counted.raw-points.ensures in
       let f = c.copy-first.ensures in
-      let same = raw_front (given s) (target s) raws e.0 e.1 in
+      let same = raw_front (source s) (table_good s.args.from) s.args.count (body s) (positions s) (coding s) (target s) raws e.0 e.1 in
       (rw same at f.2, rw same at f.3)
 
 loop-holds : tie.Need-loop-init invariant-loop decreases-loop
@@ -104,7 +108,7 @@ loop-holds c =
     record {
       few = e.1;
       two = λ h. omega (arith, e.2 h);
-      place = sym (raw_length (source s) (positions s) (raws copied) e.0 (omega (arith, e.1, gives_many (given s))));
+      place = sym (raw_length (source s) (positions s) (raws copied) e.0 (omega (arith, e.1, (coding s).many)));
       inside = omega (arith, e.0);
       small = omega (arith, f.0);
       sound = f.1;
@@ -137,18 +141,18 @@ module _ (c : tie.In-loop invariant-loop decreases-loop) where
   stands : CodeStands (source (start turn)) (drop turn.loop.at (bits (body (start turn)))) step
   stands =
       let s = start turn in
-      code_stands (given s) turn.loop.i both c.loop-test.true turn.loop.at (now_here turn).place
+      code_stands (source s) (table_good s.args.from) s.args.count (body s) (positions s) (coding s) turn.loop.i both c.loop-test.true turn.loop.at (now_here turn).place
 
   -- where it ends
   ends : turn.loop.at + length (code (source (start turn)) step) ≡ length (position_bits (source (start turn)) (take (turn.loop.i + 1) (positions (start turn))))
   ends =
       let s = start turn in
-      code_ends (given s) turn.loop.i both c.loop-test.true turn.loop.at (now_here turn).place
+      code_ends (source s) (table_good s.args.from) s.args.count (body s) (positions s) (coding s) turn.loop.i both c.loop-test.true turn.loop.at (now_here turn).place
 
   room : turn.loop.at + length (code (source (start turn)) step) ≤ 8 * length (body (start turn))
   room =
       let s = start turn in
-      omega (arith, ends, place_inside (given s) (turn.loop.i + 1) (omega (arith, c.loop-test.true)))
+      omega (arith, ends, place_inside (source s) (table_good s.args.from) s.args.count (body s) (positions s) (coding s) (turn.loop.i + 1) (omega (arith, c.loop-test.true)))
 
   -- it has a bit
   some_bits : 0 < length (code (source (start turn)) step)
@@ -158,9 +162,10 @@ module _ (c : tie.In-loop invariant-loop decreases-loop) where
 
 get-ahead-requires : tie.Need-get-ahead-requires invariant-loop decreases-loop
 get-ahead-requires c κs =
-    let s = start (turn c) in (
-      omega (arith, raw_inside (given s) 2 (omega arith) (omega (arith, both c, c.loop-test.true))),
-      omega (arith, (given s).short),
+    let s = start (turn c) in
+    let f = s.args.from in (
+      omega (arith, raw_inside (source s) (table_good f) s.args.count (body s) (positions s) (coding s) 2 (omega arith) (omega (arith, both c, c.loop-test.true))),
+      omega (arith, short s),
       omega (arith, room c, some_bits c),
     )
 
@@ -203,9 +208,9 @@ module _ (c : tie.Then1 invariant-loop decreases-loop) where
   shared =
       let s = start run_turn in
       let l = run_turn.loop in
-      let m = three_stand (given s) l.i (both run_point) left_three l.at (now_here run_turn).place in
+      let m = three_stand (source s) (table_good s.args.from) s.args.count (body s) (positions s) (coding s) l.i (both run_point) left_three l.at (now_here run_turn).place in
       let r = (run.three-at.ensures.1 c.if1.true).1 (body s) l.at run.before.get-ahead.ensures s.args.to (step run_point) next last m in
-      let n = three_length (given s) l.i (both run_point) left_three (source s) in
+      let n = three_length (source s) (table_good s.args.from) s.args.count (body s) (positions s) (coding s) l.i (both run_point) left_three (source s) in
       (r.0 ∙ sym n, r.1, r.2, r.3)
 
   -- where they end
@@ -214,12 +219,12 @@ module _ (c : tie.Then1 invariant-loop decreases-loop) where
       let s = start run_turn in
       let l = run_turn.loop in
       ap (λ (n : ℕ). l.at + n) shared.0
-      ∙ three_ends (given s) l.i (both run_point) left_three l.at (now_here run_turn).place
+      ∙ three_ends (source s) (table_good s.args.from) s.args.count (body s) (positions s) (coding s) l.i (both run_point) left_three l.at (now_here run_turn).place
 
   run_room : run_turn.loop.at + many ≤ 8 * length (body (start run_turn))
   run_room =
       let s = start run_turn in
-      omega (arith, run_ends, place_inside (given s) (run_turn.loop.i + 3) left_three)
+      omega (arith, run_ends, place_inside (source s) (table_good s.args.from) s.args.count (body s) (positions s) (coding s) (run_turn.loop.i + 3) left_three)
 
   -- and the word begins with them
   run-front : take many (bits_of 64 run.before.get-ahead.result) ≡ codes (target (start run_turn))
@@ -228,7 +233,7 @@ module _ (c : tie.Then1 invariant-loop decreases-loop) where
       let l = run_turn.loop in
       fore_front (body s) l.at run.before.get-ahead.result many run.before.get-ahead.ensures (omega (arith, run.three-at.ensures.0)) run_room
       ∙ ap (λ (n : ℕ). take n (drop l.at (bits (body s)))) shared.0
-      ∙ three_front (given s) l.i (both run_point) left_three l.at (now_here run_turn).place
+      ∙ three_front (source s) (table_good s.args.from) s.args.count (body s) (positions s) (coding s) l.i (both run_point) left_three l.at (now_here run_turn).place
       ∙ sym (ap₂ (λ (d e : List ℕ). d ++ e) shared.1.alike (ap₂ (λ (d e : List ℕ). d ++ e) shared.2.alike shared.3.alike))
 
 put-front-requires : tie.Need-put-front-requires invariant-loop decreases-loop
@@ -243,7 +248,7 @@ abbrev taken : tie.After-put-front invariant-loop decreases-loop → tie.Then1 i
 taken c = c.before.before
 
 add_at : tie.Need-overflow-add-at invariant-loop decreases-loop
-add_at c = let k = taken c.before.before in record { fits = omega (arith, run_room k, (given (start (run_turn k))).short) }
+add_at c = let k = taken c.before.before in record { fits = omega (arith, run_room k, short (start (run_turn k))) }
 
 add-i : tie.Need-overflow-add-i invariant-loop decreases-loop
 add-i c = let k = taken c.before.before in record { fits = omega (arith, left_three k, (start (run_turn k)).pre.1) }
@@ -263,13 +268,13 @@ loop-again c =
     let told = shared k in
     λ o x.
     let r = l.inv o x in
-    let more = three_bits (given s) l.i (both p) (left_three k) (target s) in
+    let more = three_bits (source s) (table_good s.args.from) s.args.count (body s) (positions s) (coding s) l.i (both p) (left_three k) (target s) in
     let f = rw (run-front k, ← more) at (e.2 (position_bits (target s) (take l.i (positions s))) r.held) in
     record {
       few = left_three k;
       two = λ h. omega (arith, both p);
       place = run_ends k;
-      inside = three_inside (given s) l.i (both p) (left_three k) (target s) r.inside
+      inside = three_inside (source s) (table_good s.args.from) s.args.count (body s) (positions s) (coding s) l.i (both p) (left_three k) (target s) r.inside
           told.1.held told.2.held told.3.held;
       small = omega (arith, e.0, r.small);
       sound = e.1;
@@ -313,7 +318,7 @@ returns c =
     let p = point k in
     let t = turn p in
     let s = start t in
-    let here : t.loop.i < length (positions s) = omega (arith, gives_many (given s), p.loop-test.taken) in
+    let here : t.loop.i < length (positions s) = omega (arith, (coding s).many, p.loop-test.taken) in
     (outside_here (target s) (positions s) t.loop.i (both p) here (now_here t).inside k.has-row.result (tested k) c.if2.true, here)
 
 -- where the other table has the row: it holds the step, and the bits after the prefix are the same
@@ -344,7 +349,7 @@ module _ (c : tie.Else2 invariant-loop decreases-loop) where
   copy =
       let s = start at_turn in
       let l = at_turn.loop in
-      let r = code_rest (given s) l.i (both at_point) at_point.loop-test.taken l.at (now_here at_turn).place in
+      let r = code_rest (source s) (table_good s.args.from) s.args.count (body s) (positions s) (coding s) l.i (both at_point) at_point.loop-test.taken l.at (now_here at_turn).place in
       recoded_at s.args.from s.args.to (step at_point) (stands at_point).held held (body s) r.0 l.at row size r.1 (lead asked).0 (lead asked).1
 
 put-code-requires : tie.Need-put-code-requires invariant-loop decreases-loop
@@ -356,7 +361,7 @@ put-code-requires c κs =
       ltb-true (row k) (length (target s)) (sym (asked k).has-row.ensures ∙ not-false (asked k).has-row.result k.if2.false),
       (copy k).0,
       omega (arith, (lead (asked k)).1, room (at_point k)),
-      omega (arith, (given s).short),
+      omega (arith, short s),
       omega (arith, r.small, r.few, s.pre.1),
       r.sound,
       (viewed (asked k)).get-ahead.ensures,
@@ -368,7 +373,7 @@ abbrev left : tie.After-put-code invariant-loop decreases-loop → tie.Else2 inv
 left c = c.before.before
 
 add-at-2 : tie.Need-overflow-add-at-2 invariant-loop decreases-loop
-add-at-2 c = let k = left c.before.before in omega (arith, (lead (asked k)).1, room (at_point k), (given (start (at_turn k))).short)
+add-at-2 c = let k = left c.before.before in omega (arith, (lead (asked k)).1, room (at_point k), short (start (at_turn k)))
 
 add-i-2 : tie.Need-overflow-add-i-2 invariant-loop decreases-loop
 add-i-2 c = let t = at_turn (left c.before.before) in omega (arith, (now_here t).few, (start t).pre.1)
@@ -385,7 +390,7 @@ loop-again-2 c =
     let l = t.loop in
     let s = start t in
     let e = put.put-code.ensures in
-    let here : l.i < length (positions s) = omega (arith, gives_many (given s), p.loop-test.taken) in
+    let here : l.i < length (positions s) = omega (arith, (coding s).many, p.loop-test.taken) in
     λ o x.
     let r = l.inv o x in
     let f = rw ((copy k).1, ← point_step (target s) (positions s) l.i (both p) here) at (e.2 (position_bits (target s) (take l.i (positions s))) r.held) in
@@ -412,13 +417,13 @@ same-length-2 c = let put = c.before.before in put.put_last.auto.0 ∙ (now_here
 -- all points are passed
 module _ (c : tie.After-loop invariant-loop decreases-loop) where
   all : take c.before.loop.i (positions (start c.before)) ≡ positions (start c.before)
-  all = let s = start c.before in take_all c.before.loop.i (positions s) (omega (arith, gives_many (given s), c.loop-test.false))
+  all = let s = start c.before in take_all c.before.loop.i (positions s) (omega (arith, (coding s).many, c.loop-test.false))
 
   codable : CodablePositions (start c.before).args.to (positions (start c.before))
   codable =
       let s = start c.before in
-      inside_codable s.args.to (positions s) (gives_range (given s))
-      (omega (arith, gives_many (given s), c.loop-test.false, (now_here c.before).inside))
+      inside_codable s.args.to (positions s) (sound-range s.args.from s.args.count (body s) s.pre.0)
+      (omega (arith, (coding s).many, c.loop-test.false, (now_here c.before).inside))
 
 returns-2 : tie.Need-returns-2 invariant-loop decreases-loop
 unfolding coded_positions

@@ -2,13 +2,14 @@
 use mathlib.Core.List.{List}
 use Prim.Native.Nat.{ℕ}
 use borrow.Author.Rules.{rules}
+use Rattle.lists.specs.Optional.{list_of}
 use Rattle.outputs.specs.Outputs.{Placed}
 use Rattle.outputs.proofs.Outputs.Writers.{rest_left}
-use Rattle.position_format.specs.Positions.{decoded}
+use Rattle.position_format.specs.Positions.{read_positions}
 use Rattle.position_format.specs.Tables.{table_of}
 use Rattle.position_codec.specs.Codes.{CodablePositions}
 use Rattle.record_format.specs.Fields.{laid}
-use Rattle.record_format.specs.Runs.{lead_fields}
+use Rattle.record_parts.specs.Leads.{lead_fields}
 use Rattle.record_parts.proofs.putting.Recodings.{recoded_put, outside_as}
 use Rattle.record_codec.proofs.mover.put_moved.Statement.{statement}
 use Rattle.record_codec.proofs.mover.put_moved.Tie as tie
@@ -24,10 +25,10 @@ entry k = (lent k).before.before.before
 abbrev led : tie.After-lead → tie.After-put-recoded-lead
 led k = k.before.before.before.before
 
--- the positions that the body gives, and the bytes before the ratios' field
+-- the positions in the body, and the bytes before the ratios' field
 module _ (e : tie.Start) where
   abbrev points : List ℕ
-  points = decoded (table_of e.args.from) e.args.count e.args.body.now
+  points = list_of (read_positions (table_of e.args.from) e.args.count e.args.body.now)
 
   abbrev lead : List ℕ
   lead = laid (lead_fields e.args.rate e.args.side e.args.to points)

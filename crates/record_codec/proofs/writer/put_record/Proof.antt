@@ -6,7 +6,8 @@ use native.Mathlib.Omega.{arith}
 use borrow.Author.Rules.{rules}
 use lib.ListN.{length}
 use Rattle.record_format.specs.Fields.{Field}
-use Rattle.record_format.specs.Runs.{Run, run, front_fields, lead_fields, fields_of, record_of, positions_field, ratios_field}
+use Rattle.record_format.specs.Runs.{Run, run, front_fields, fields_of, record_of, positions_field, ratios_field}
+use Rattle.record_parts.specs.Leads.{lead_fields}
 use Rattle.record_parts.proofs.putting.Writings.{FirstLaid, first-laid_short, first-laid_inside, first-laid_fits, first-laid_done}
 use Rattle.record_codec.proofs.writer.put_record.Statement.{statement}
 use Rattle.record_codec.proofs.writer.put_record.Tie as tie

@@ -5,7 +5,8 @@ use Prim.Native.Nat.{ℕ, ◌≤◌}
 use native.Mathlib.Omega.{arith}
 use borrow.Author.Rules.{rules}
 use lib.ListN.{length}
-use Rattle.record_format.specs.Runs.{front_fields, positions_field, lead_fields}
+use Rattle.record_format.specs.Runs.{front_fields, positions_field}
+use Rattle.record_parts.specs.Leads.{lead_fields}
 use Rattle.record_parts.proofs.putting.Writings.{FirstLaid, first-laid_short, first-laid_inside, first-laid_fits, first-laid_done}
 use Rattle.record_parts.proofs.putting.put_lead.Statement.{statement}
 use Rattle.record_parts.proofs.putting.put_lead.Tie as tie

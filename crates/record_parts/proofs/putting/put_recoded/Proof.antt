@@ -3,7 +3,8 @@ use mathlib.Core.List.{List, [], ◌∷◌}
 use Prim.Native.Nat.{ℕ}
 use native.Mathlib.Omega.{arith}
 use borrow.Author.Rules.{rules}
-use Rattle.position_format.specs.Positions.{decoded}
+use Rattle.lists.specs.Optional.{list_of}
+use Rattle.position_format.specs.Positions.{read_positions}
 use Rattle.position_format.specs.Tables.{table_of}
 use Rattle.record_format.specs.Fields.{laid}
 use Rattle.record_format.specs.Runs.{positions_field}
@@ -29,9 +30,9 @@ put k = k.before.before.before
 abbrev headed : tie.After-put-head → tie.After-wrote
 headed k = k.before.before.before.before
 
--- the positions that the body gives
+-- the positions in the body
 abbrev points : tie.Start → List ℕ
-points e = decoded (table_of e.args.from) e.args.count e.args.body.now
+points e = list_of (read_positions (table_of e.args.from) e.args.count e.args.body.now)
 
 -- what recoding leaves in the rest
 abbrev body_out : tie.After-recode-positions → List ℕ

@@ -1,17 +1,18 @@
 -- `put_recoded_lead` meets its contract: the front, and the field of the recoded positions past it.
 use mathlib.Core.List.{List, [], ◌∷◌, ◌++◌}
-use mathlib.Core.Path.{ap}
+use mathlib.Core.Path.{sym, ap}
 use Prim.Native.Nat.{ℕ, ◌≤◌}
 use native.Mathlib.Omega.{arith}
 use borrow.Author.Rules.{rules}
 use lib.ListN.{length}
-use Rattle.position_format.specs.Positions.{decoded}
+use Rattle.lists.specs.Optional.{list_of}
+use Rattle.position_format.specs.Positions.{read_positions}
 use Rattle.position_format.specs.Tables.{table_of}
-use Rattle.position_format.proofs.Positions.{length-decoded}
 use Rattle.record_format.specs.Fields.{Field, laid}
-use Rattle.record_format.specs.Runs.{front_fields, positions_field, lead_fields}
+use Rattle.record_format.specs.Runs.{front_fields, positions_field}
+use Rattle.record_parts.specs.Leads.{lead_fields}
 use Rattle.record_parts.proofs.putting.Writings.{FirstLaid, first-laid_short, first-laid_inside, first-laid_fits, first-laid_done}
-use Rattle.record_parts.proofs.putting.Recodings.{recoded_put, outside_as}
+use Rattle.record_parts.proofs.putting.Recodings.{length-read, recoded_put, outside_as}
 use Rattle.record_parts.proofs.putting.put_recoded_lead.Statement.{statement}
 use Rattle.record_parts.proofs.putting.put_recoded_lead.Tie as tie
 
@@ -29,10 +30,10 @@ recoding k = k.before.before.before
 abbrev put : tie.After-recoded → tie.After-put-recoded
 put k = k.before.before.before.before
 
--- the positions that the body gives, their field, and all fields
+-- the positions in the body, their field, and all fields
 module _ (e : tie.Start) where
   abbrev points : List ℕ
-  points = decoded (table_of e.args.from) e.args.count e.args.body.now
+  points = list_of (read_positions (table_of e.args.from) e.args.count e.args.body.now)
 
   abbrev field : List Field
   field = positions_field e.args.to points ∷ []
@@ -57,7 +58,7 @@ front-first k =
     let e = entry k in
     let a = e.args in
     record {
-      both = ap (λ (n : ℕ). front_fields a.rate a.side n ++ field e) (length-decoded (table_of a.from) a.count a.body.now);
+      both = ap (λ (n : ℕ). front_fields a.rate a.side n ++ field e) (sym (length-read a.from a.count a.body.now e.pre.0));
       put = k.put_front.ensures;
     }
 

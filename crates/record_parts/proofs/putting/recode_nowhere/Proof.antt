@@ -2,7 +2,8 @@
 use mathlib.Core.List.{List}
 use Prim.Native.Nat.{ℕ}
 use borrow.Author.Rules.{rules}
-use Rattle.position_format.specs.Positions.{decoded}
+use Rattle.lists.specs.Optional.{list_of}
+use Rattle.position_format.specs.Positions.{read_positions}
 use Rattle.position_format.specs.Tables.{table_of}
 use Rattle.record_parts.proofs.putting.Recodings.{nowhere_outside, nowhere_put}
 use Rattle.record_parts.proofs.putting.recode_nowhere.Statement.{statement}
@@ -13,9 +14,9 @@ use Rattle.record_parts.proofs.putting.recode_nowhere.Tie as tie
 abbrev entry : tie.After-recode-positions → tie.Start
 entry k = k.before.before.before
 
--- the positions that the body gives
+-- the positions in the body
 abbrev points : tie.After-recode-positions → List ℕ
-points k = decoded (table_of (entry k).args.from) (entry k).args.count (entry k).args.body.now
+points k = list_of (read_positions (table_of (entry k).args.from) (entry k).args.count (entry k).args.body.now)
 
 -- ---- the needs
 

@@ -1,5 +1,7 @@
 // Numbers as digits, bytes and bits of a slice, most significant first.
 // The definitions stand in specs/, their laws in proofs/. Internal: callers meet each `requires`.
+#![tactic(auto)]
+
 ghost use Rattle.std.specs.Prelude.{◌≡◌, ◌+◌, ◌*◌, ◌^◌, ◌≤◌, ◌<◌, length, take, drop};
 ghost use Rattle.bits.specs.Digits.{bytes_of, byte_of, number_of};
 ghost use Rattle.outputs.specs.Outputs.{over_at};

@@ -6,7 +6,7 @@ use borrow.Author.Tests.{eq-eqb, ne_eqb}
 use lib.ListN.{length, take}
 use lib.Seq.{take_all}
 use Rattle.record_format.specs.Runs.{Run}
-use Rattle.record_format.specs.Checking.{run_in_lem, checked}
+use Rattle.record_format.specs.Checking.{run_in, checked}
 use Rattle.record_format.specs.declared.CheckAnswer.{CheckAnswer}
 use Rattle.inputs.specs.Inputs.{input_limit}
 use Rattle.inputs.specs.Readings.{InputRead}
@@ -48,12 +48,12 @@ module _ {s t : List ℕ} {a b : CheckAnswer} {ts vs us ws : List ℕ} (x : Inpu
   second_is : b ≡ checked 0 t
   second_is = y.answered ∙ (reads_whole t y.whole).0
 
-  made : MakeUp h (run_in_lem s) (run_in_lem t) a.count b.count (comparison s t)
+  made : MakeUp h (run_in s) (run_in t) a.count b.count (comparison s t)
   made =
-      subst (λ (o : OverallDifferences). MakeUp o (run_in_lem s) (run_in_lem t) a.count b.count (comparison s t)) (sym (is ∙ ap₂ overall_of first_is second_is))
-      (subst (λ (m : ℕ). MakeUp (overall_of (checked 0 s) (checked 0 t)) (run_in_lem s) (run_in_lem t) m b.count (comparison s t)) (sym (ap (λ (z : CheckAnswer). z.count) first_is))
-      (subst (λ (n : ℕ). MakeUp (overall_of (checked 0 s) (checked 0 t)) (run_in_lem s) (run_in_lem t) (checked 0 s).count n (comparison s t)) (sym (ap (λ (z : CheckAnswer). z.count) second_is))
-      (made_up s t x.bytes y.bytes (run_in_lem s) (run_in_lem t) (λ _. refl) (λ _. refl))))
+      subst (λ (o : OverallDifferences). MakeUp o (run_in s) (run_in t) a.count b.count (comparison s t)) (sym (is ∙ ap₂ overall_of first_is second_is))
+      (subst (λ (m : ℕ). MakeUp (overall_of (checked 0 s) (checked 0 t)) (run_in s) (run_in t) m b.count (comparison s t)) (sym (ap (λ (z : CheckAnswer). z.count) first_is))
+      (subst (λ (n : ℕ). MakeUp (overall_of (checked 0 s) (checked 0 t)) (run_in s) (run_in t) (checked 0 s).count n (comparison s t)) (sym (ap (λ (z : CheckAnswer). z.count) second_is))
+      (made_up s t x.bytes y.bytes (run_in s) (run_in t) (λ _. refl) (λ _. refl))))
 
   -- a refusal
   pub refused_text_lem : (h.number ≡ 0 → ⊥) → refused_in_line h.number h.place h.which ≡ printed s t
@@ -64,12 +64,12 @@ module _ {s t : List ℕ} {a b : CheckAnswer} {ts vs us ws : List ℕ} (x : Inpu
 
   -- two runs, and k points that both have
   run_lines : h.number ≡ 0 → (k : ℕ) → k ≡ min a.count b.count
-      → let r = run_in_lem s in
-      let q = run_in_lem t in
+      → let r = run_in s in
+      let q = run_in t in
       properties_text h ++ (lines_below r.positions r.ratios q.positions q.ratios k ++ line_of h.more) ≡ printed s t
   run_lines ok k few =
-      let r = run_in_lem s in
-      let q = run_in_lem t in
+      let r = run_in s in
+      let q = run_in t in
       let points = lines_below r.positions r.ratios q.positions q.ratios k ++ line_of h.more in
       let points-are : differences_text (points_to r q k ++ listed h.more) ≡ points =
       text_append (points_to r q k) (listed h.more) ∙ ap₂ (λ (l m : List ℕ). l ++ m) (text_below r q k) (text_listed h.more) in

@@ -1,5 +1,7 @@
 // The comparing program: reads the records in the files that its two arguments name, with no rate expected, and prints what differs between them,
 // a line for each difference and nothing for equal records; or the refusal, and which record it was.
+#![tactic(auto)]
+
 ghost use Rattle.std.specs.Prelude.{◌≡◌, ◌+◌, ◌*◌, ◌≤◌, min, length, take};
 ghost use Rattle.limits.specs.Points.{max_points};
 ghost use Rattle.text.specs.PlacedAt.{PlacedAt};

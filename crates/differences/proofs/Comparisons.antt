@@ -10,7 +10,7 @@ use lib.Dec.{eqb}
 use lib.ListN.{length, take}
 use Rattle.position_format.specs.declared.Form as form
 use Rattle.record_format.specs.Claims.{Accepted, Beginning, Bytes}
-use Rattle.record_format.specs.Checking.{run_in_lem, checked}
+use Rattle.record_format.specs.Checking.{run_in, checked}
 use Rattle.record_format.specs.CheckClaims.{run_check}
 use Rattle.record_format.specs.Fetching.{fetched}
 use Rattle.record_format.specs.FetchClaims.{run_fetch}
@@ -59,10 +59,10 @@ module _ (a : CheckAnswer) (r : Run) (b : CheckAnswer) (q : Run) where
 -- ---- of two records
 
 -- what a check finds in two strings of bytes, of which neither is refused
-module _ (s t : List ℕ) (r q : Run) (e : checked 0 s ≡ run_check r) (is : run_in_lem s ≡ r) (k : checked 0 t ≡ run_check q) (are : run_in_lem t ≡ q) where
+module _ (s t : List ℕ) (r q : Run) (e : checked 0 s ≡ run_check r) (is : run_in s ≡ r) (k : checked 0 t ≡ run_check q) (are : run_in t ≡ q) where
   compared_own : comparison s t ≡ record { number = 0; place = 0; which = 0; list = differences r q }
   compared_own =
-      compared-both (checked 0 s) (run_in_lem s) (checked 0 t) (run_in_lem t) (ap (λ (x : CheckAnswer). x.number) e) (ap (λ (x : CheckAnswer). x.number) k)
+      compared-both (checked 0 s) (run_in s) (checked 0 t) (run_in t) (ap (λ (x : CheckAnswer). x.number) e) (ap (λ (x : CheckAnswer). x.number) k)
       ∙ ap₂ (λ (x y : Run). record { number = 0; place = 0; which = 0; list = differences x y }) is are
 
 pub compares : Compares
@@ -73,7 +73,7 @@ compares r q a b x y =
 
 pub compares_only : ComparesOnly
 compares_only s t u v e =
-    let h = compared_clear (checked 0 s) (run_in_lem s) (checked 0 t) (run_in_lem t) e in
+    let h = compared_clear (checked 0 s) (run_in s) (checked 0 t) (run_in t) e in
     let r = checks_only 0 s u h.0 in
     let q = checks_only 0 t v h.1 in
     (r.0, q.0, r.1, q.1, r.2, q.2, compared_own s t r.0 q.0 r.3 r.4 q.3 q.4)
@@ -105,7 +105,7 @@ module _ (s : List ℕ) where
 pub refuses-first : RefusesFirst
 refuses-first s t u never =
     let n = refused-some s u never in
-    (n, (check_refusals 0 s).1, refused_sixteen s, compared-first (checked 0 s) (run_in_lem s) (checked 0 t) (run_in_lem t) n)
+    (n, (check_refusals 0 s).1, refused_sixteen s, compared-first (checked 0 s) (run_in s) (checked 0 t) (run_in t) n)
 
 pub refuses-second : RefusesSecond
 refuses-second r a x t u never =
@@ -114,7 +114,7 @@ refuses-second r a x t u never =
       n,
       (check_refusals 0 t).1,
       refused_sixteen t,
-      compared-second (checked 0 s) (run_in_lem s) (checked 0 t) (run_in_lem t) (ap (λ (b : CheckAnswer). b.number) ((checks_record r a 0 x).1 (inl refl))) n,
+      compared-second (checked 0 s) (run_in s) (checked 0 t) (run_in t) (ap (λ (b : CheckAnswer). b.number) ((checks_record r a 0 x).1 (inl refl))) n,
     )
 
 -- ---- by what the calls answer
@@ -132,14 +132,14 @@ unfolding differences
 made_own r q = (refl, refl, refl, λ d. absurd (d refl), λ _. refl)
 
 -- any two strings of bytes, by the answers of their checks and, where these accept, by the runs in their fields
-module _ (s t : List ℕ) (u : Bytes s) (v : Bytes t) (x y : Run) (is : (checked 0 s).number ≡ 0 → x ≡ run_in_lem s) (are : (checked 0 t).number ≡ 0 → y ≡ run_in_lem t) where
+module _ (s t : List ℕ) (u : Bytes s) (v : Bytes t) (x y : Run) (is : (checked 0 s).number ≡ 0 → x ≡ run_in s) (are : (checked 0 t).number ≡ 0 → y ≡ run_in t) where
   abbrev a : CheckAnswer
   a = checked 0 s
 
   abbrev b : CheckAnswer
   b = checked 0 t
 
-  made-sound : (r q : Run) → a ≡ run_check r → run_in_lem s ≡ r → b ≡ run_check q → run_in_lem t ≡ q → x ≡ run_in_lem s → y ≡ run_in_lem t
+  made-sound : (r q : Run) → a ≡ run_check r → run_in s ≡ r → b ≡ run_check q → run_in t ≡ q → x ≡ run_in s → y ≡ run_in t
       → MakeUp (overall_sound a b) x y a.count b.count (comparison s t)
   made-sound r q e i k j f g = rw (compared_own s t r q e i k j, f ∙ i, g ∙ j, e, k) (made_own r q)
 
@@ -149,11 +149,11 @@ module _ (s t : List ℕ) (u : Bytes s) (v : Bytes t) (x y : Run) (is : (checked
       go : (o : Bool) → eqb a.number 0 ≡ o → (p : Bool) → eqb b.number 0 ≡ p → MakeUp (overall_of a b) x y a.count b.count (comparison s t)
       go false w p z =
           let no = eqb-false _ _ w in
-          made-refused x y a.count b.count a 1 no (sym (overall_first a b no)) (compared-first a (run_in_lem s) b (run_in_lem t) no)
+          made-refused x y a.count b.count a 1 no (sym (overall_first a b no)) (compared-first a (run_in s) b (run_in t) no)
       go true w false z =
           let ok = eqb-true _ _ w in
           let no = eqb-false _ _ z in
-          made-refused x y a.count b.count b 2 no (sym (overall_second a b ok no)) (compared-second a (run_in_lem s) b (run_in_lem t) ok no)
+          made-refused x y a.count b.count b 2 no (sym (overall_second a b ok no)) (compared-second a (run_in s) b (run_in t) ok no)
       go true w true z =
           let ok = eqb-true _ _ w in
           let fine = eqb-true _ _ z in
@@ -173,7 +173,7 @@ own_called r a ts vs =
 
 -- so does the run in bytes that a check accepts
 run_called_lem : (s ts vs : List ℕ) → Bytes s → (checked 0 s).count ≤ length ts → (checked 0 s).count ≤ length vs → (checked 0 s).number ≡ 0
-    → run_called (checked 0 s) (fetched 0 s ts vs) ≡ run_in_lem s
+    → run_called (checked 0 s) (fetched 0 s ts vs) ≡ run_in s
 run_called_lem s ts vs bytes m n ok =
     let h = checks_only 0 s bytes ok in
     let r : Run = h.0 in
@@ -188,17 +188,17 @@ by_calls s t ts vs us ws u v m n k l =
 -- ---- bytes behind
 
 -- what a check finds decides
-module _ (s t u : List ℕ) (e : checked 0 s ≡ checked 0 t) (is : run_in_lem s ≡ run_in_lem t) where
+module _ (s t u : List ℕ) (e : checked 0 s ≡ checked 0 t) (is : run_in s ≡ run_in t) where
   comparison-same : (comparison s u ≡ comparison t u) × (comparison u s ≡ comparison u t)
   comparison-same = (
-    ap₂ (λ (a : CheckAnswer) (r : Run). compared a r (checked 0 u) (run_in_lem u)) e is,
-    ap₂ (compared (checked 0 u) (run_in_lem u)) e is,
+    ap₂ (λ (a : CheckAnswer) (r : Run). compared a r (checked 0 u) (run_in u)) e is,
+    ap₂ (compared (checked 0 u) (run_in u)) e is,
   )
 
 pub comparison_trailing : ComparisonTrailing
 comparison_trailing r a rest s =
     comparison-same (record_of r ++ rest) (record_of r) s (trailing_bytes r a 0 rest [] []).0
-    ((checks_record r a 0 rest).2 ∙ sym (checks_record r a 0 []).2 ∙ ap run_in_lem (append-nil (record_of r)))
+    ((checks_record r a 0 rest).2 ∙ sym (checks_record r a 0 []).2 ∙ ap run_in (append-nil (record_of r)))
 
 pub comparison_followed : ComparisonFollowed
 comparison_followed t rest s whole = let h = followed strict_ratios 0 t rest whole in comparison-same (t ++ rest) t s h.0 h.1

@@ -5,7 +5,7 @@
 --   comparison s t          that of the records that the bytes s and t begin with: each is checked, with no rate expected
 use Rattle.std.specs.Prelude.{cond, List, [], ℕ, eqb}
 use Rattle.record_format.specs.Runs.{Run}
-use Rattle.record_format.specs.Checking.{run_in_lem, checked}
+use Rattle.record_format.specs.Checking.{run_in, checked}
 use Rattle.record_format.specs.declared.CheckAnswer.{CheckAnswer}
 use Rattle.differences.specs.declared.Difference.{Difference}
 use Rattle.differences.specs.Differences.{differences}
@@ -32,4 +32,4 @@ compared a r b q =
 
 -- of two strings of bytes
 abbrev pub comparison : List ℕ → List ℕ → Comparison
-comparison s t = compared (checked 0 s) (run_in_lem s) (checked 0 t) (run_in_lem t)
+comparison s t = compared (checked 0 s) (run_in s) (checked 0 t) (run_in t)

@@ -1,5 +1,7 @@
 // What differs between two records (document 02, No. 7), by what a check answered of each and the points that a fetch left: all but the points in
 // one call, and the points one index at a time, so that no call needs room for the differences; and each difference in numbers.
+#![tactic(auto)]
+
 ghost use Rattle.std.specs.Prelude.{◌≡◌};
 ghost use Rattle.differences.specs.Differences.{values_at, property_difference, more_difference, position_at, ratio_at};
 ghost use Rattle.differences.specs.Overall.{refused_overall, overall_of};

@@ -20,7 +20,7 @@ use Rattle.ratio_format.specs.RatioForms.{written, coded}
 use Rattle.ratio_format.specs.Zeros.{zeros_at, lead_zeros, trail_zeros, sum_of}
 use Rattle.record_format.specs.Claims.{Accepted}
 use Rattle.record_format.specs.Fields.{field_bytes, laid, tag_at, length_at, next_at}
-use Rattle.record_format.specs.Reading.{count_at_lem}
+use Rattle.record_format.specs.Reading.{count_at}
 use Rattle.record_format.specs.Runs.{record_of}
 use Rattle.record_format.proofs.Writing.{fitting_accepted}
 use Rattle.text.specs.Numbers.{trimmed, decimal, hex16}
@@ -49,5 +49,5 @@ prints d h o e =
     ∙ e
 
 pub prints_example : PrintsExample
-unfolding digits_of number_of eights pack rows code steps_from step_bits position_bits coded_positions zeros_at lead_zeros trail_zeros sum_of find best ratio_form written coded coded_from field_bytes laid record_of tag_at length_at next_at count_at_lem first_of reason_of explained trimmed decimal hex16 cost_line xor_line reason_line
+unfolding digits_of number_of eights pack rows code steps_from step_bits position_bits coded_positions zeros_at lead_zeros trail_zeros sum_of find best ratio_form written coded coded_from field_bytes laid record_of tag_at length_at next_at count_at first_of reason_of explained trimmed decimal hex16 cost_line xor_line reason_line
 prints_example = (prints 0 (lit≤ tt) (52 ∷ 51 ∷ []) refl, prints 4 (lit≤ tt) (52 ∷ 55 ∷ []) refl)

@@ -1,5 +1,7 @@
 // The explaining program: reads the record in the file that its first argument names, with no rate expected, and prints what the ratio whose index
 // is the second argument costs, and why; or the refusal.
+#![tactic(auto)]
+
 ghost use Rattle.std.specs.Prelude.{◌≡◌, true, ◌+◌, ◌*◌, ◌≤◌, ◌<◌, min, length, take};
 ghost use Rattle.limits.specs.Points.{max_points};
 ghost use Rattle.ratio_format.specs.Bodies.{coded_ratios};

@@ -1,5 +1,7 @@
 // The calls for a host program in C; include/farigolenc.h declares them. Each passes a call of the library on: what that answers by an enum it answers
 // in numbers, and a form is named by its tag.
+#![tactic(auto)]
+
 ghost use Rattle.std.specs.Prelude.{◌≡◌};
 ghost use Rattle.kind.specs.Kinds.{kind_of};
 ghost use Rattle.kind.specs.Numbers.{kind_numbers};

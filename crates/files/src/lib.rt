@@ -1,5 +1,7 @@
 // A named file read into lent bytes, and the front of lent bytes written to an open file or to a new one, for programs. Internal.
 // No contract can say which bytes a file holds: what is proved of a reading is that the number that it returns lies within the buffer.
+#![tactic(auto)]
+
 ghost use Rattle.std.specs.Prelude.{◌≤◌, length};
 ghost use Rattle.io.specs.Counts.{IsPrefixLen};
 

@@ -8,7 +8,7 @@ use lib.ListN.{length, take, drop, take-append-drop}
 use lib.Seq.{take_all, take_at, take-append-add}
 use Rattle.lists.proofs.Below.{below_take}
 use Rattle.record_format.specs.Claims.{Accepted, Beginning, Bytes}
-use Rattle.record_format.specs.Checking.{run_in_lem, checked}
+use Rattle.record_format.specs.Checking.{run_in, checked}
 use Rattle.record_format.specs.CheckClaims.{run_check}
 use Rattle.record_format.specs.Runs.{Run, record_of}
 use Rattle.record_format.proofs.Sizes.{within}
@@ -28,7 +28,7 @@ pub reads_record : (r : Run) → Accepted r → (rest : List ℕ) → (check_inp
 reads_record r a rest =
     let cut = record_uncut r a rest in
     let c = checks_record r a 0 (take (input_limit - length (record_of r)) rest) in
-    (ap (checked 0) cut ∙ c.1 (inl refl), ap run_in_lem cut ∙ c.2)
+    (ap (checked 0) cut ∙ c.1 (inl refl), ap run_in cut ∙ c.2)
 
 -- what the bytes that a program reads begin with the whole input begins with
 pub begins-whole : (a s : List ℕ) → Beginning a (take input_limit s) → Beginning a s
@@ -43,13 +43,13 @@ reads_no_other s b never e =
 -- ---- how far
 
 -- what is no longer than a program reads is read whole
-pub reads_whole : (s : List ℕ) → length s ≤ input_limit → (check_input s ≡ checked 0 s) × (run_input s ≡ run_in_lem s)
-reads_whole s h = let all = take_all input_limit s h in (ap (checked 0) all, ap run_in_lem all)
+pub reads_whole : (s : List ℕ) → length s ≤ input_limit → (check_input s ≡ checked 0 s) × (run_input s ≡ run_in s)
+reads_whole s h = let all = take_all input_limit s h in (ap (checked 0) all, ap run_in all)
 
 pub reads_far : ReadsFar
 reads_far s = (
   reads_whole s,
   λ rest h.
       let cut : take input_limit (s ++ rest) ≡ take input_limit s = take_at s rest input_limit h ∙ sym (take_all input_limit s (omega (arith, h))) in
-      (ap (checked 0) cut, ap run_in_lem cut),
+      (ap (checked 0) cut, ap run_in cut),
 )

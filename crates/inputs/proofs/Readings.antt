@@ -8,7 +8,7 @@ use lib.ListN.{length, take, drop, length-append}
 use lib.Seq.{take_at}
 use Rattle.limits.specs.Points.{max_points}
 use Rattle.record_format.specs.Claims.{Accepted, Beginning, Bytes}
-use Rattle.record_format.specs.Checking.{run_in_lem, checked}
+use Rattle.record_format.specs.Checking.{run_in, checked}
 use Rattle.record_format.specs.CheckClaims.{run_check}
 use Rattle.record_format.specs.Fetching.{Fetched, fetched}
 use Rattle.record_format.specs.FetchClaims.{run_fetch}
@@ -35,7 +35,7 @@ module _ {s : List ℕ} {r : CheckAnswer} (bytes : Bytes s) (whole : length s �
   }
 
   -- the points of a run at the front of the outputs
-  reading-run : (q : Run) → Fitting q → r ≡ run_check q → run_in_lem s ≡ q → (ps qs : List ℕ) {ts vs : List ℕ}
+  reading-run : (q : Run) → Fitting q → r ≡ run_check q → run_in s ≡ q → (ps qs : List ℕ) {ts vs : List ℕ}
       → ts ≡ (run_fetch q ps qs).positions → vs ≡ (run_fetch q ps qs).ratios → InputRead s r ts vs
   reading-run q fit e is ps qs {ts} {vs} left more =
       let n = length q.positions in

@@ -1,4 +1,6 @@
 // What every program that reads a record shares: room for as many bytes as it reads, and for the numbers of every run; and the reading. Internal.
+#![tactic(auto)]
+
 ghost use Rattle.std.specs.Prelude.{◌≡◌, ◌≤◌, length};
 ghost use Rattle.limits.specs.Points.{max_points};
 ghost use Rattle.inputs.specs.Inputs.{input_limit};

@@ -1,1 +1,2 @@
 // Laws of integers, and of how the machine holds them.
+#![tactic(auto)]

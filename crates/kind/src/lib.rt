@@ -1,4 +1,6 @@
 // What kind of IEEE 754 double a ratio's 64 bits are, and the kind in numbers.
+#![tactic(auto)]
+
 ghost use Rattle.std.specs.Prelude.{◌≡◌};
 ghost use Rattle.kind.specs.Kinds.{kind_of};
 ghost use Rattle.kind.specs.Numbers.{kind_numbers};

@@ -1,4 +1,6 @@
 // The limits of a run: rates, points, positions and sides.
+#![tactic(auto)]
+
 ghost use Rattle.std.specs.Prelude.{◌≡◌, ◌*◌, ◌^◌, ◌<◌};
 ghost use Rattle.lists.specs.Lists.{member};
 ghost use Rattle.limits.specs.Points.{first_high};

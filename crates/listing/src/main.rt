@@ -1,4 +1,6 @@
 // The listing program: reads a record from standard input, with no rate expected, and prints its run, or its refusal.
+#![tactic(auto)]
+
 ghost use Rattle.std.specs.Prelude.{◌≡◌, ◌+◌, ◌*◌, ◌≤◌, length};
 ghost use Rattle.inputs.specs.Inputs.{input_limit};
 ghost use Rattle.listing.specs.Lines.{rate_line, side_line, count_line, span_line, point_line, point_lines, listing};

@@ -6,7 +6,7 @@ use Rattle.lists.specs.Below.{Below}
 use Rattle.ratio_format.specs.Stepping.{made, made_body, made_cursor}
 use Rattle.ratio_format.specs.SteppingClaims.{StepsSo, step_answers}
 use Rattle.live.specs.declared.reader.Reader.{Reader}
-use Rattle.live.specs.Readers.{next_answer, next_reader, first_two_lem}
+use Rattle.live.specs.Readers.{next_answer, next_reader, first_two}
 
 -- of every reader: the three conditions are those of the types of its body and its window
 abbrev pub NextSteps : Type 0
@@ -19,4 +19,4 @@ NextSteps = (r : Reader) → Below 256 r.body.now → length r.window.ratios ≡
 -- of every body and count
 abbrev pub TwoSteps : Type 0
 TwoSteps = (b : List ℕ) (n : ℕ)
-    → ((first_two_lem b n).made ≡ made n) × ((first_two_lem b n).first ∷ (first_two_lem b n).second ∷ [] ≡ step_answers (made_body n b) (made_cursor n) 2)
+    → ((first_two b n).made ≡ made n) × ((first_two b n).first ∷ (first_two b n).second ∷ [] ≡ step_answers (made_body n b) (made_cursor n) 2)

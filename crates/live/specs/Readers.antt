@@ -3,7 +3,7 @@
 --   next_answer r    what its next call answers
 --   with_cursor r c  the reader r with another state
 --   next_reader r    the reader afterwards, over the same body
---   first_two_lem b n    the answers of making a reader of the body b with the count n, and of its first two steps
+--   first_two b n    the answers of making a reader of the body b with the count n, and of its first two steps
 use Rattle.std.specs.Prelude.{List, ℕ}
 use Rattle.ratio_format.specs.declared.Cursor.{Cursor}
 use Rattle.ratio_format.specs.declared.StepAnswer.{StepAnswer}
@@ -28,8 +28,8 @@ abbrev pub next_reader : Reader → Reader
 next_reader r = with_cursor r (step_cursor r.body.now (cursor_of r))
 
 -- the second step is taken from the state that the first left
-abbrev pub first_two_lem : List ℕ → ℕ → Two
-first_two_lem b n =
+abbrev pub first_two : List ℕ → ℕ → Two
+first_two b n =
     let k = made_body n b in
     let c = made_cursor n in
     record { made = made n; first = step_answer k c; second = step_answer k (step_cursor k c) }

@@ -11,7 +11,7 @@ use Rattle.outputs.specs.Outputs.{zeros, over}
 use Rattle.refusals.specs.Tests.{first_of}
 use Rattle.position_format.specs.declared.Form.{Form}
 use Rattle.record_format.specs.declared.MoveAnswer.{MoveAnswer}
-use Rattle.record_format.specs.Checking.{run_in_lem}
+use Rattle.record_format.specs.Checking.{run_in}
 use Rattle.record_format.specs.Moves.{Move, in_form, move_tests, move_of}
 use Rattle.record_format.specs.Runs.{record_of}
 use Rattle.record_format.specs.Sizes.{max_record}
@@ -56,7 +56,7 @@ left f s = go (eqb (first_of (move_tests f s blank_record)).number 0) refl
     go : (b : Bool) → eqb (first_of (move_tests f s blank_record)).number 0 ≡ b
         → (move_of f s blank_record).output ≡ over (take (move_of f s blank_record).answer.length (move_of f s blank_record).output) blank_record
     go true e =
-        let q = record_of (in_form f (run_in_lem s)) in
+        let q = record_of (in_form f (run_in s)) in
         rw e (sym (ap (λ (x : List ℕ). over x blank_record) (take_at q (drop (length q) blank_record) (length q) refl)))
     go false e = rw e blank_zeros
 

@@ -3,6 +3,8 @@
 // no file, and a line on standard error says how it is called.
 // Whether a file is read is answered by `is_call`, and all else that follows from the arguments and from the bytes read by `respond`. `main` and `save`
 // open, read and write, and decide by nothing but these answers and what failed.
+#![tactic(auto)]
+
 ghost use Rattle.std.specs.Prelude.{◌≡◌, false, ◌≤◌, length};
 ghost use Rattle.io.specs.Counts.{IsPrefixLen};
 ghost use Rattle.lists.specs.Compare.{same};

@@ -1,4 +1,6 @@
 // Outputs that a caller lends: what a call leaves in them.
+#![tactic(auto)]
+
 ghost use Rattle.std.specs.Prelude.{◌≡◌};
 ghost use Rattle.outputs.specs.Outputs.{zeros, Placed, Left, both_wrote, BothFit, Next};
 
@@ -38,8 +40,8 @@ pub fn put_copy(from: &[u8], out: &mut [u8]) -> Wrote
     if out.len() < from.len() {
         return Wrote::NoRoom;
     }
-    let n = bytes::copy(from, out);
-    Wrote::Done(n)
+    out[..from.len()].copy_from_slice(from);
+    Wrote::Done(from.len())
 }
 
 // What two writers wrote, the second in the rest that the first left: n bytes, and then what it says.

@@ -1,6 +1,8 @@
 // The coder and the reader of positions in either form (document 01, "Positions", and document 02, No. 3): the first two positions take 64 bits
 // each, every other point the code of its step by the first row of the form's table that holds it, and 0 bits fill the last byte. Internal: callers
 // meet each `requires`.
+#![tactic(auto)]
+
 mod table; // the tables of steps, and all that goes by their rows
 mod write; // positions written
 mod read; // positions read

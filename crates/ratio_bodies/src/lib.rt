@@ -19,6 +19,8 @@
 //
 // Ahead (ahead.rt): where ten bytes are left, the most that a form has, reading needs one test of room for a ratio, and takes an exception or
 // the middle of an xor form by one load of eight bytes.
+#![tactic(auto)]
+
 ghost use Rattle.std.specs.Prelude.{◌≡◌, [], ◌∷◌, ◌-◌, ◌≤◌, ◌<◌, eqb, length, take, get_or};
 ghost use Rattle.lists.specs.Compare.{both};
 ghost use Rattle.limits.specs.Points.{max_points};

@@ -1,5 +1,7 @@
 // One ratio of the ratios' field (document 01, "Ratios"): its form against the window, its bytes, and reading them back.
 // A window is a slice with the oldest ratio first; the definitions have the newest first. Internal: callers meet each `requires`.
+#![tactic(auto)]
+
 pub mod read;
 pub mod search;
 pub mod write;

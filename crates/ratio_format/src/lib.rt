@@ -1,4 +1,6 @@
 // The coding of ratios: the types that its calls answer, the window that is kept, definitions and laws.
+#![tactic(auto)]
+
 ghost use Rattle.std.specs.Prelude.{◌≡◌, [], ◌∷◌, ◌++◌, length, drop};
 ghost use Rattle.ratio_format.specs.Windows.{window_size, fresh_window, pushed};
 ghost use Rattle.ratio_format.specs.Lives.{fresh_live};

@@ -8,6 +8,8 @@
 // agrees. The search goes from the newest ratio to the oldest. 16 slots of the planes at a time are asked whether a ratio could beat the
 // best sum so far: two pairs of bytes, in vector code. A block without a suspect is passed over. In one with a suspect the xor with each
 // ratio is asked the same, and its zero bytes are counted only where it may beat the best. An equal ratio ends the search.
+#![tactic(auto)]
+
 mod pairs;
 mod planes;
 mod search;

@@ -1,5 +1,7 @@
 // What every search of a window shares: where the window of a ratio begins, the zero bytes of an xor and their sum, and a place with its
 // sum. A window is the part of a list before a ratio, oldest first; the definitions have the newest first.
+#![tactic(auto)]
+
 ghost use Rattle.std.specs.Prelude.{◌≡◌, ◌-◌, ◌≤◌};
 ghost use Rattle.ratio_format.specs.Windows.{window_size};
 ghost use Rattle.ratio_format.specs.Zeros.{lead_zeros, trail_zeros, sum_of};

@@ -1,5 +1,7 @@
 // Why a ratio of a run takes the bytes that it takes (document 02, No. 1): the form that the writer chooses for it, and what in the window
 // decides it.
+#![tactic(auto)]
+
 ghost use Rattle.std.specs.Prelude.{◌≡◌, reverse, ◌^◌, ◌<◌};
 ghost use Rattle.reasons.specs.Reasons.{reason_of, explained};
 ghost use Rattle.reasons.specs.Numbers.{reason_numbers};

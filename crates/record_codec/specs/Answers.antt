@@ -8,7 +8,7 @@ use Rattle.refusals.specs.Tests.{first_of}
 use Rattle.outputs.specs.Outputs.{over}
 use Rattle.record_format.specs.Reading.{count_in, front_tests}
 use Rattle.record_format.specs.Checking.{run_by, found}
-use Rattle.record_format.specs.Fetching.{as_read_lem, Answer}
+use Rattle.record_format.specs.Fetching.{as_read, Answer}
 use Rattle.record_format.specs.Moves.{Move}
 use Rattle.record_format.specs.declared.CheckAnswer.{CheckAnswer}
 use Rattle.record_format.specs.declared.MoveAnswer.{MoveAnswer}
@@ -21,7 +21,7 @@ pub record FoundPast (k : ℕ → List ℕ → Option (List ℕ)) (s ts vs : Lis
 
 -- of a reading
 abbrev pub Answered : Answer → CheckAnswer → List ℕ → List ℕ → Type 0
-Answered a r p q = (as_read_lem r ≡ a.answer) × (p ≡ a.positions) × (q ≡ a.ratios)
+Answered a r p q = (as_read r ≡ a.answer) × (p ≡ a.positions) × (q ≡ a.ratios)
 
 -- of a move
 abbrev pub Moved : Move → MoveAnswer → List ℕ → Type 0

@@ -1,4 +1,6 @@
 // Records of runs: writing, checking, fetching, open reading, and moving a record to the other form.
+#![tactic(auto)]
+
 mod mover;
 mod reader;
 mod writer;

@@ -20,7 +20,7 @@ use Rattle.record_format.specs.declared.CheckAnswer.{CheckAnswer}
 use Rattle.record_format.specs.Fields.{body_at}
 use Rattle.record_format.specs.Runs.{Run, record_of}
 use Rattle.record_format.specs.Reading.{positions_at, ratios_at, count_in, form_in, has_side, other_rate, rate_tests, count_tests, positions_tests, ratios_tests, record_tests}
-use Rattle.record_format.specs.Checking.{run_in_lem, checked}
+use Rattle.record_format.specs.Checking.{run_in, checked}
 use Rattle.record_format.specs.Claims.{Accepted, Bytes, Beginning}
 use Rattle.record_format.specs.CheckClaims.{Expects, ChecksRecord, ChecksExactly, ChecksOnly, RunCounted, ChecksWhole, CheckRefusals}
 use Rattle.record_format.proofs.Reading.{side_of, other_rate_not, other_rate_none}
@@ -60,7 +60,7 @@ checks_only e s bytes h =
     let r : Run = b.0 in
     let o = expected e r b.1 b.2.0 (ap (λ (l : List ℕ). (checked e l).number) (sym b.2.1) ∙ h) in
     let c = checks_record r b.1 e b.2.0 in
-    (r, b.1, b.2, ap (checked e) b.2.1 ∙ c.1 o, ap run_in_lem b.2.1 ∙ c.2)
+    (r, b.1, b.2, ap (checked e) b.2.1 ∙ c.1 o, ap run_in b.2.1 ∙ c.2)
 
 pub checks_exactly : ChecksExactly
 checks_exactly e s bytes = (

@@ -23,8 +23,8 @@ use Rattle.ratio_format.proofs.Bodies.Strict.{strict_coded}
 use Rattle.record_format.specs.Fields.{tag_at, field_tests}
 use Rattle.record_format.specs.Runs.{Run, positions_tags, count_size, record_of}
 use Rattle.record_format.specs.Reading.{positions_at, rate_in, side_in, count_in, form_in, positions_in, other_rate, front_tests, positions_tests, ratios_tests, record_tests}
-use Rattle.record_format.specs.Checking.{run_by, run_in_lem, refused_check, sound_check, found, checked}
-use Rattle.record_format.specs.Fetching.{lacks_room, read_tests, as_read_lem, refusal_answer, record_answer, read_with, Fetched, as_fetched, fetched}
+use Rattle.record_format.specs.Checking.{run_by, run_in, refused_check, sound_check, found, checked}
+use Rattle.record_format.specs.Fetching.{lacks_room, read_tests, as_read, refusal_answer, record_answer, read_with, Fetched, as_fetched, fetched}
 use Rattle.record_format.specs.Claims.{Accepted, Bytes, Beginning, count_place}
 use Rattle.record_format.specs.CheckClaims.{Expects}
 use Rattle.record_format.specs.PointClaims.{front_bytes}
@@ -63,7 +63,7 @@ module _ (k : ℕ → List ℕ → Option (List ℕ)) (e : ℕ) (s ts vs : List 
       ((a.number ≡ 0 → ⊥) → read_with k e s ts vs ≡ refused_by a.number a.place ts vs)
       × (a.number ≡ 0
       → read_with k e s ts vs
-      ≡ record { answer = as_read_lem a; positions = r.positions ++ drop (length r.positions) ts; ratios = r.ratios ++ drop (length r.ratios) vs })
+      ≡ record { answer = as_read a; positions = r.positions ++ drop (length r.positions) ts; ratios = r.ratios ++ drop (length r.ratios) vs })
   unfolding read_with
   as_found d =
       let q = not_sixteen k e s (length ts) (length vs) (λ z. d (read_number ∙ z)) in (
@@ -188,7 +188,7 @@ agrees_with_check e s ts vs d =
     (λ n. ap as_fetched (h.0 n), λ z. ap as_fetched (h.1 z) ∙ ap₂ (λ (n p : ℕ). numbered n p) (z) (sound_place z))
   where
     numbered : ℕ → ℕ → Fetched
-    numbered n p = record { answer = record { number = n; place = p; count = (checked e s).count }; positions = (run_in_lem s).positions ++ drop (length (run_in_lem s).positions) ts; ratios = (run_in_lem s).ratios ++ drop (length (run_in_lem s).ratios) vs }
+    numbered n p = record { answer = record { number = n; place = p; count = (checked e s).count }; positions = (run_in s).positions ++ drop (length (run_in s).positions) ts; ratios = (run_in s).ratios ++ drop (length (run_in s).ratios) vs }
 
     sound_place : (checked e s).number ≡ 0 → (checked e s).place ≡ 0
     sound_place z = rw (found-sound strict_ratios e s (found_clear strict_ratios e s z))

@@ -11,7 +11,7 @@ use lib.ListN.{length}
 use Rattle.refusals.specs.declared.Refusal.{Refusal}
 use Rattle.refusals.specs.Tests.{Test, refusal, first_of, refused}
 use Rattle.refusals.proofs.Tests.{never, first_of_here, first_of_skip, first_of_end, first_of-append-none, first_of-append_cong, first_of_never}
-use Rattle.record_format.specs.Reading.{rate_tests, count_tests, count_at_lem, count_in, has_side, front_tests, positions_tests, ratios_tests, record_tests}
+use Rattle.record_format.specs.Reading.{rate_tests, count_tests, count_at, count_in, has_side, front_tests, positions_tests, ratios_tests, record_tests}
 use Rattle.record_format.specs.Fetching.{lacks_room, read_tests, Answer, refusal_answer, record_answer, answer_by, read_with}
 use Rattle.record_format.proofs.Reading.{side_of, front-numbered}
 
@@ -57,7 +57,7 @@ module _ (k : ℕ → List ℕ → Option (List ℕ)) (e : ℕ) (s : List ℕ) (
   with_room h = first_of-append_cong (front_tests e s) _ _ (front-numbered e s) (λ clear. first_of_skip _ _ (h clear))
 
   -- without, 16 at the count's field
-  pub without_room : (first_of (front_tests e s)).number ≡ 0 → lacks_room m n (count_in s) ≡ true → first_of (read_tests k e s m n) ≡ refusal 16 (count_at_lem s)
+  pub without_room : (first_of (front_tests e s)).number ≡ 0 → lacks_room m n (count_in s) ≡ true → first_of (read_tests k e s m n) ≡ refusal 16 (count_at s)
   without_room clear h = first_of-append-none (front_tests e s) _ (front-numbered e s) clear ∙ first_of_here _ _ h
 
   -- so 16 is given there only

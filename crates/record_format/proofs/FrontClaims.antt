@@ -25,7 +25,7 @@ use Rattle.refusals.specs.Tests.{Test, test, refusal, first_of, refused}
 use Rattle.refusals.proofs.Tests.{first_of_here, first_of_skip, further, further_append, Further, first_of_further}
 use Rattle.record_format.specs.Fields.{Field, field_of, length_size, head_size, tag_at, length_at, body_at, next_at, field_tests}
 use Rattle.record_format.specs.Runs.{run, rate_tag, side_tag, count_tag, positions_tags, rate_size, side_size, count_size, rate_field}
-use Rattle.record_format.specs.Reading.{rate_at, side_at, has_side, count_at_lem, rate_in, side_in, count_in, other_rate, side_tests, count_tests, positions_tests, ratios_tests, record_tests}
+use Rattle.record_format.specs.Reading.{rate_at, side_at, has_side, count_at, rate_in, side_in, count_in, other_rate, side_tests, count_tests, positions_tests, ratios_tests, record_tests}
 use Rattle.record_format.specs.declared.CheckAnswer.{CheckAnswer}
 use Rattle.record_format.specs.Checking.{run_by, refused_check, sound_check, found}
 use Rattle.record_format.specs.CheckClaims.{Expects, refused_found}
@@ -163,8 +163,8 @@ module _ (k : ℕ → List ℕ → Option (List ℕ)) (e r : ℕ) (rest : List �
       where
         go : (b : Bool) → has_side s ≡ b → first_of tests ≡ refusal 10 side_place
         go false a =
-            let at : count_at_lem s ≡ side_place = absent_count s a ∙ at_side in
-            past_absent a ∙ sym (head_short s (count_tag ∷ []) (some count_size) (count_at_lem s) _ (omega (arith, length_all))) ∙ ap (refusal 10) at
+            let at : count_at s ≡ side_place = absent_count s a ∙ at_side in
+            past_absent a ∙ sym (head_short s (count_tag ∷ []) (some count_size) (count_at s) _ (omega (arith, length_all))) ∙ ap (refusal 10) at
         go true a =
             past_rate
             ∙ ap (λ (l : List Test). first_of (l ++ from_count)) (present_tests s a)
@@ -174,11 +174,11 @@ module _ (k : ℕ → List ℕ → Option (List ℕ)) (e r : ℕ) (rest : List �
     eleven : head_size ≤ length rest → (tag_at rest 0 ≡ count_tag → ⊥) → (tag_at rest 0 ≡ side_tag → ⊥) → found k e s ≡ refused_found 11 side_place
     eleven h count side =
         let absent : has_side s ≡ false = ne_eqb _ _ (λ z. side (sym tag_rest ∙ z)) in
-        let at : count_at_lem s ≡ side_at s = absent_count s absent in
+        let at : count_at s ≡ side_at s = absent_count s absent in
         refuses 11 side_place (λ z. omega arith)
         (past_absent absent
         ∙ sym
-        (tag_other s (count_tag ∷ []) (some count_size) (count_at_lem s) _ (omega (arith, at, at_side, length_all))
+        (tag_other s (count_tag ∷ []) (some count_size) (count_at s) _ (omega (arith, at, at_side, length_all))
         (not_one _ _ (λ z. count (sym tag_rest ∙ ap (tag_at s) (sym at) ∙ z))))
         ∙ ap (refusal 11) (at ∙ at_side))
 
@@ -236,14 +236,14 @@ module _ (k : ℕ → List ℕ → Option (List ℕ)) (e r : ℕ) (rest : List �
       no_side : has_side s ≡ false
       no_side = ap (λ (x : ℕ). eqb x side_tag) (tag_is count_tag l t is small)
 
-      here : count_at_lem s ≡ side_at s
+      here : count_at s ≡ side_at s
       here = absent_count s no_side
 
       -- they are made at the side's offset
-      count_decides : first_of tests ≡ first_of (field_tests s (count_tag ∷ []) (some count_size) (side_at s) ++ (test (ltb max_points (count_in s)) 15 (count_at_lem s) ∷ (positions_tests s ++ ratios_tests k s)))
+      count_decides : first_of tests ≡ first_of (field_tests s (count_tag ∷ []) (some count_size) (side_at s) ++ (test (ltb max_points (count_in s)) 15 (count_at s) ∷ (positions_tests s ++ ratios_tests k s)))
       count_decides =
           past_absent no_side
-          ∙ ap (λ (p : ℕ). first_of (field_tests s (count_tag ∷ []) (some count_size) p ++ (test (ltb max_points (count_in s)) 15 (count_at_lem s) ∷ (positions_tests s ++ ratios_tests k s)))) here
+          ∙ ap (λ (p : ℕ). first_of (field_tests s (count_tag ∷ []) (some count_size) p ++ (test (ltb max_points (count_in s)) 15 (count_at s) ∷ (positions_tests s ++ ratios_tests k s)))) here
 
       twelve_count : (l ≡ count_size → ⊥) → found k e s ≡ refused_found 12 side_place
       twelve_count d =
@@ -291,7 +291,7 @@ module _ (k : ℕ → List ℕ → Option (List ℕ)) (e r d : ℕ) (rest : List
   stored_is : number_of 256 (body_at sided (side_at sided)) ≡ d
   stored_is = ap (number_of 256) side_stands.within ∙ number_digits_lt (lit< tt) side_size (omega arith)
 
-  count_past : count_at_lem sided ≡ side_place + side_takes
+  count_past : count_at sided ≡ side_place + side_takes
   count_past = present_count sided present ∙ side_stands.next ∙ omega (arith, at_sided, length_field side_field, length_digits 256 side_size d)
 
   -- the number in it decides
@@ -338,14 +338,14 @@ module _ (k : ℕ → List ℕ → Option (List ℕ)) (e r d : ℕ) (rest : List
   length_side : length (side_bytes d) ≡ side_takes
   length_side = length_field (field_of side_tag (bytes_of side_size d)) ∙ ap (λ (n : ℕ). head_size + n) (length_digits 256 side_size d)
 
-  at_count : count_at_lem with_side ≡ side_place + side_takes
+  at_count : count_at with_side ≡ side_place + side_takes
   at_count = count_past k e r d rest listed o small
 
   length_both : length with_side ≡ side_place + side_takes + length rest
   length_both = omega (arith, length_all k e r (side_bytes d ++ rest), length-append (side_bytes d) rest, length_side)
 
   -- what follows both
-  rest_past : drop (count_at_lem with_side) with_side ≡ rest
+  rest_past : drop (count_at with_side) with_side ≡ rest
   rest_past =
       ap (λ (p : ℕ). drop p with_side) at_count ∙ sym (drop-drop side_takes side_place with_side)
       ∙ ap (drop side_takes) (rest_here k e r (side_bytes d ++ rest)) ∙ drop_at (side_bytes d) rest side_takes length_side
@@ -357,11 +357,11 @@ module _ (k : ℕ → List ℕ → Option (List ℕ)) (e r d : ℕ) (rest : List
   eleven_past : head_size ≤ length rest → (tag_at rest 0 ≡ count_tag → ⊥) → found k e with_side ≡ refused_found 11 (side_place + side_takes)
   unfolding tag_at
   eleven_past h count =
-      let tag : tag_at with_side (count_at_lem with_side) ≡ tag_at rest 0 =
-      ap (λ (p : ℕ). get_or with_side p 0) (sym (add-zero (count_at_lem with_side))) ∙ sym (get_or-drop (count_at_lem with_side) with_side 0 0) ∙ ap (λ (l : List ℕ). get_or l 0 0) rest_past in
+      let tag : tag_at with_side (count_at with_side) ≡ tag_at rest 0 =
+      ap (λ (p : ℕ). get_or with_side p 0) (sym (add-zero (count_at with_side))) ∙ sym (get_or-drop (count_at with_side) with_side 0 0) ∙ ap (λ (l : List ℕ). get_or l 0 0) rest_past in
       refuses k e r (side_bytes d ++ rest) 11 (side_place + side_takes) (λ z. omega arith)
       (from_here
-      ∙ sym (tag_other with_side (count_tag ∷ []) (some count_size) (count_at_lem with_side) _ (omega (arith, at_count, length_both)) (not_one _ _ (λ z. count (sym tag ∙ z))))
+      ∙ sym (tag_other with_side (count_tag ∷ []) (some count_size) (count_at with_side) _ (omega (arith, at_count, length_both)) (not_one _ _ (λ z. count (sym tag ∙ z))))
       ∙ ap (refusal 11) at_count)
 
   -- fewer bytes than a head
@@ -369,7 +369,7 @@ module _ (k : ℕ → List ℕ → Option (List ℕ)) (e r d : ℕ) (rest : List
   ten_past h =
       refuses k e r (side_bytes d ++ rest) 10 (side_place + side_takes) (λ z. omega arith)
       (from_here
-      ∙ sym (head_short with_side (count_tag ∷ []) (some count_size) (count_at_lem with_side) _ (omega (arith, at_count, length_both)))
+      ∙ sym (head_short with_side (count_tag ∷ []) (some count_size) (count_at with_side) _ (omega (arith, at_count, length_both)))
       ∙ ap (refusal 10) at_count)
 
   -- where what follows is no side's field, its fields are those of the record without the side, further on
@@ -380,12 +380,12 @@ module _ (k : ℕ → List ℕ → Option (List ℕ)) (e r d : ℕ) (rest : List
     absent : has_side without ≡ false
     absent = ne_eqb _ _ (λ z. other (sym (tag_rest k e r rest) ∙ z))
 
-    count_here : count_at_lem without ≡ side_place
+    count_here : count_at without ≡ side_place
     count_here = absent_count without absent ∙ at_side k e r rest
 
-    points : FieldsShifted side_takes without (count_at_lem without) with_side (count_at_lem with_side) closing_field_count
+    points : FieldsShifted side_takes without (count_at without) with_side (count_at with_side) closing_field_count
     points =
-        later_fields side_takes without with_side (omega (arith, length_both, length_all k e r rest)) (count_at_lem without) (count_at_lem with_side) closing_field_count (at_count ∙ omega (arith, count_here))
+        later_fields side_takes without with_side (omega (arith, length_both, length_all k e r rest)) (count_at without) (count_at with_side) closing_field_count (at_count ∙ omega (arith, count_here))
         (rest_past ∙ sym (ap (λ (p : ℕ). drop p without) count_here ∙ rest_here k e r rest))
 
     tests_further : from_count k e r (side_bytes d ++ rest) ≡ map (further side_takes) (from_count k e r rest)

@@ -23,7 +23,7 @@ use Rattle.ratio_format.specs.Bodies.{strict_ratios}
 use Rattle.record_format.specs.Fields.{head_size, tag_at}
 use Rattle.record_format.specs.Runs.{Run, positions_tag, record_of}
 use Rattle.record_format.specs.Reading.{positions_at, rate_in, side_in, count_in, other_rate, front_tests, record_tests}
-use Rattle.record_format.specs.Checking.{run_in_lem, checked}
+use Rattle.record_format.specs.Checking.{run_in, checked}
 use Rattle.record_format.specs.Fetching.{lacks_room, fetched}
 use Rattle.record_format.specs.Moves.{Move, other_form, in_form, source_tests, target_tests, move_tests, move_of}
 use Rattle.record_format.specs.Claims.{Accepted, Bytes, Beginning}
@@ -258,7 +258,7 @@ pub short_only : (f : Form) (s o : List ℕ) → Bytes s → (move_of f s o).ans
     → (r : Run) × Accepted r × (r.form ≡ other_form f) × Beginning (record_of r) s × Accepted (in_form f r) × (length o < length (record_of (in_form f r)))
 short_only f s o bytes e =
     let h = move_short f s o e in
-    let large = record_of (in_form f (run_in_lem s)) in
+    let large = record_of (in_form f (run_in s)) in
     let c = move_done f s large h.0 h.1 (omega arith) in
     let m = moves_only f s large bytes (sym (ap (λ (x : Move). x.answer.number) c)) in
     let is : length (record_of (in_form f m.0)) ≡ length large = sym (ap (λ (x : Move). x.answer.length) (c ∙ m.6)) in
@@ -271,9 +271,9 @@ moved_within f s o = go (move_of f s o).answer.number refl
   where
     go : (n : ℕ) → (move_of f s o).answer.number ≡ n → (move_of f s o).answer.length ≤ length o
     go zero e =
-        let c = first_of-append_clear (target_tests f (run_in_lem s).positions) (test (ltb (length o) (length (record_of (in_form f (run_in_lem s))))) 6 0 ∷ [])
-        (target_numbered f (run_in_lem s).positions) (move_clear f s o e).1 in
-        let room = ltb-false (length o) (length (record_of (in_form f (run_in_lem s)))) (first_of_clear (test (ltb (length o) (length (record_of (in_form f (run_in_lem s))))) 6 0) [] (lit< tt) c.1).0 in
+        let c = first_of-append_clear (target_tests f (run_in s).positions) (test (ltb (length o) (length (record_of (in_form f (run_in s))))) 6 0 ∷ [])
+        (target_numbered f (run_in s).positions) (move_clear f s o e).1 in
+        let room = ltb-false (length o) (length (record_of (in_form f (run_in s)))) (first_of_clear (test (ltb (length o) (length (record_of (in_form f (run_in s))))) 6 0) [] (lit< tt) c.1).0 in
         subst (λ (m : Move). m.answer.length ≤ length o) (move_done f s o (move_clear f s o e).0 c.0 room) room
     go (suc n) e =
         let q = moves-whole f s o (λ z. omega arith) in

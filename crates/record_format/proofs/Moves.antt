@@ -31,7 +31,7 @@ use Rattle.ratio_format.proofs.Bodies.Strict.{strict_coded}
 use Rattle.record_format.specs.Fields.{Field, head_size, field_bytes, laid, tag_at, body_tests}
 use Rattle.record_format.specs.Runs.{Run, positions_tag, positions_tags, count_size, positions_field, ratios_field, front_fields, record_of}
 use Rattle.record_format.specs.Reading.{positions_at, ratios_at, end_at, count_in, positions_in, front_tests, many_tests, positions_tests_by, positions_tests, ratios_tests, record_tests}
-use Rattle.record_format.specs.Checking.{run_in_lem}
+use Rattle.record_format.specs.Checking.{run_in}
 use Rattle.record_format.specs.Moves.{other_form, in_form, source_tests, target_tests, move_tests, Move, refused_move, record_move, move_of}
 use Rattle.record_format.specs.Claims.{positions_place}
 use Rattle.record_format.specs.MoveClaims.{not_moved, moved_to, FormFirst}
@@ -149,28 +149,28 @@ module _ (f : Form) (s o : List ℕ) where
   source_refused g e d = refuses g (first_of-append-some (source_tests f s) _ (λ z. d (ap (λ (x : Refusal). x.number) e ∙ z)) ∙ sym e) d
 
   module _ (clear : (first_of (source_tests f s)).number ≡ 0) where
-    past_source : first_of (move_tests f s o) ≡ first_of (run_move_tests f (run_in_lem s) o)
+    past_source : first_of (move_tests f s o) ≡ first_of (run_move_tests f (run_in s) o)
     past_source = first_of-append-none (source_tests f s) _ (source_numbered f s) clear
 
-    pub target_refused : (g : Refusal) → g ≡ first_of (target_tests f (run_in_lem s).positions) → (g.number ≡ 0 → ⊥) → refused_move g o ≡ move_of f s o
+    pub target_refused : (g : Refusal) → g ≡ first_of (target_tests f (run_in s).positions) → (g.number ≡ 0 → ⊥) → refused_move g o ≡ move_of f s o
     target_refused g e d =
-        refuses g (past_source ∙ first_of-append-some (target_tests f (run_in_lem s).positions) _ (λ z. d (ap (λ (x : Refusal). x.number) e ∙ z)) ∙ sym e) d
+        refuses g (past_source ∙ first_of-append-some (target_tests f (run_in s).positions) _ (λ z. d (ap (λ (x : Refusal). x.number) e ∙ z)) ∙ sym e) d
 
-    module _ (fits : (first_of (target_tests f (run_in_lem s).positions)).number ≡ 0) where
-      past_target : first_of (move_tests f s o) ≡ first_of (test (ltb (length o) (length (record_of (in_form f (run_in_lem s))))) 6 0 ∷ [])
-      past_target = past_source ∙ first_of-append-none (target_tests f (run_in_lem s).positions) _ (target_numbered f (run_in_lem s).positions) fits
+    module _ (fits : (first_of (target_tests f (run_in s).positions)).number ≡ 0) where
+      past_target : first_of (move_tests f s o) ≡ first_of (test (ltb (length o) (length (record_of (in_form f (run_in s))))) 6 0 ∷ [])
+      past_target = past_source ∙ first_of-append-none (target_tests f (run_in s).positions) _ (target_numbered f (run_in s).positions) fits
 
-      pub room-refused : length o < length (record_of (in_form f (run_in_lem s))) → refused_move (refusal 6 0) o ≡ move_of f s o
+      pub room-refused : length o < length (record_of (in_form f (run_in s))) → refused_move (refusal 6 0) o ≡ move_of f s o
       room-refused h = refuses (refusal 6 0) (past_target ∙ first_of_here _ _ (lt-ltb _ _ h)) (λ z. omega arith)
 
-      pub move_done : length (record_of (in_form f (run_in_lem s))) ≤ length o → record_move f s o ≡ move_of f s o
+      pub move_done : length (record_of (in_form f (run_in s))) ≤ length o → record_move f s o ≡ move_of f s o
       unfolding move_of
       move_done h =
-          let e : first_of (move_tests f s o) ≡ refusal 0 0 = past_target ∙ first_of_skip _ _ (le-ltb (length o) (length (record_of (in_form f (run_in_lem s)))) h) ∙ first_of_end in
+          let e : first_of (move_tests f s o) ≡ refusal 0 0 = past_target ∙ first_of_skip _ _ (le-ltb (length o) (length (record_of (in_form f (run_in s)))) h) ∙ first_of_end in
           rw e
 
 -- a move with number 0 comes of no refusal
-pub move_clear : (f : Form) (s o : List ℕ) → (move_of f s o).answer.number ≡ 0 → ((first_of (source_tests f s)).number ≡ 0) × ((first_of (run_move_tests f (run_in_lem s) o)).number ≡ 0)
+pub move_clear : (f : Form) (s o : List ℕ) → (move_of f s o).answer.number ≡ 0 → ((first_of (source_tests f s)).number ≡ 0) × ((first_of (run_move_tests f (run_in s) o)).number ≡ 0)
 unfolding move_of
 move_clear f s o e = first_of-append_clear (source_tests f s) _ (source_numbered f s) (go (first_of (move_tests f s o)).number refl e)
   where
@@ -180,25 +180,25 @@ move_clear f s o e = first_of-append_clear (source_tests f s) _ (source_numbered
 
 -- a move that is refused by 6 finds too little room, and nothing else
 pub move_short : (f : Form) (s o : List ℕ) → (move_of f s o).answer.number ≡ 6
-    → ((first_of (source_tests f s)).number ≡ 0) × ((first_of (target_tests f (run_in_lem s).positions)).number ≡ 0) × (length o < length (record_of (in_form f (run_in_lem s))))
+    → ((first_of (source_tests f s)).number ≡ 0) × ((first_of (target_tests f (run_in s).positions)).number ≡ 0) × (length o < length (record_of (in_form f (run_in s))))
 move_short f s o e = go (first_of (source_tests f s)).number refl
   where
-    by_target : (first_of (source_tests f s)).number ≡ 0 → (n : ℕ) → (first_of (target_tests f (run_in_lem s).positions)).number ≡ n
-        → ((first_of (source_tests f s)).number ≡ 0) × ((first_of (target_tests f (run_in_lem s).positions)).number ≡ 0) × (length o < length (record_of (in_form f (run_in_lem s))))
-    by_target clear zero q = (clear, q, by_room (leb (length (record_of (in_form f (run_in_lem s)))) (length o)) refl)
+    by_target : (first_of (source_tests f s)).number ≡ 0 → (n : ℕ) → (first_of (target_tests f (run_in s).positions)).number ≡ n
+        → ((first_of (source_tests f s)).number ≡ 0) × ((first_of (target_tests f (run_in s).positions)).number ≡ 0) × (length o < length (record_of (in_form f (run_in s))))
+    by_target clear zero q = (clear, q, by_room (leb (length (record_of (in_form f (run_in s)))) (length o)) refl)
       where
-        by_room : (b : Bool) → leb (length (record_of (in_form f (run_in_lem s)))) (length o) ≡ b → length o < length (record_of (in_form f (run_in_lem s)))
+        by_room : (b : Bool) → leb (length (record_of (in_form f (run_in s)))) (length o) ≡ b → length o < length (record_of (in_form f (run_in s)))
         by_room true h = absurd (let z : ◌≡◌ {A = ℕ} 0 6 = ap (λ (m : Move). m.answer.number) (move_done f s o clear q (leb-true _ _ h)) ∙ e in omega arith)
         by_room false h = leb-false _ _ h
     by_target clear (suc n) q =
         absurd
-        (let d : ((first_of (target_tests f (run_in_lem s).positions)).number ≡ 0 → ⊥) = λ z. omega arith in
-        first_of_never 6 (lit< tt) (target_tests f (run_in_lem s).positions) (target_never_six f (run_in_lem s).positions)
-        (ap (λ (m : Move). m.answer.number) (target_refused f s o clear (first_of (target_tests f (run_in_lem s).positions)) refl d) ∙ e))
+        (let d : ((first_of (target_tests f (run_in s).positions)).number ≡ 0 → ⊥) = λ z. omega arith in
+        first_of_never 6 (lit< tt) (target_tests f (run_in s).positions) (target_never_six f (run_in s).positions)
+        (ap (λ (m : Move). m.answer.number) (target_refused f s o clear (first_of (target_tests f (run_in s).positions)) refl d) ∙ e))
 
     go : (n : ℕ) → (first_of (source_tests f s)).number ≡ n
-        → ((first_of (source_tests f s)).number ≡ 0) × ((first_of (target_tests f (run_in_lem s).positions)).number ≡ 0) × (length o < length (record_of (in_form f (run_in_lem s))))
-    go zero q = by_target q (first_of (target_tests f (run_in_lem s).positions)).number refl
+        → ((first_of (source_tests f s)).number ≡ 0) × ((first_of (target_tests f (run_in s).positions)).number ≡ 0) × (length o < length (record_of (in_form f (run_in s))))
+    go zero q = by_target q (first_of (target_tests f (run_in s).positions)).number refl
     go (suc n) q =
         absurd
         (let d : ((first_of (source_tests f s)).number ≡ 0 → ⊥) = λ z. omega arith in
@@ -261,7 +261,7 @@ module _ (f : Form) (r : Run) (fit : Fitting r) (words : Below (2 ^ 64) r.ratios
   own_source =
       source_check f s (λ _. other_head) ∙ all_clear r fit rest strict_ratios (strict_coded r.ratios words) 0 (inl refl)
 
-  pub own_run : run_in_lem s ≡ r
+  pub own_run : run_in s ≡ r
   own_run = run_is r fit rest strict_ratios (strict_coded r.ratios words)
 
   -- and the run decides
@@ -343,10 +343,10 @@ moved-laid f r =
 
 -- the run in them, and the bytes of its ratios' field
 pub record SourceSound (s : List ℕ) : Type 0 where
-  pub fits : Fitting (run_in_lem s)
-  pub many : count_in s ≡ length (run_in_lem s).positions
+  pub fits : Fitting (run_in s)
+  pub many : count_in s ≡ length (run_in s).positions
   pub order : ratios_at s ≤ end_at s
-  pub ratios : take (end_at s - ratios_at s) (drop (ratios_at s) s) ≡ laid (ratios_field (run_in_lem s).ratios ∷ [])
+  pub ratios : take (end_at s - ratios_at s) (drop (ratios_at s) s) ≡ laid (ratios_field (run_in s).ratios ∷ [])
 
 module _ (r : Run) (fit : Fitting r) (words : Below (2 ^ 64) r.ratios) (rest : List ℕ) where
   abbrev here : List ℕ
@@ -361,7 +361,7 @@ module _ (r : Run) (fit : Fitting r) (words : Below (2 ^ 64) r.ratios) (rest : L
   split : record_of r ≡ laid points ++ laid values
   split = moved-laid r.form r
 
-  run_here : run_in_lem here ≡ r
+  run_here : run_in here ≡ r
   run_here = run_is r fit rest strict_ratios (strict_coded r.ratios words)
 
   record_sound : SourceSound here

@@ -25,7 +25,7 @@ use Rattle.record_format.specs.declared.CheckAnswer.{CheckAnswer}
 use Rattle.record_format.specs.Runs.{Run, ratios_tag}
 use Rattle.record_format.specs.Reading.{count_in, ratios_at, ratios_in, front_tests, positions_tests}
 use Rattle.record_format.specs.Checking.{checked}
-use Rattle.record_format.specs.Fetching.{room_tests, read_tests, as_read_lem, Answer, refusal_answer, record_answer, read_with, read_open, as_fetched, fetched}
+use Rattle.record_format.specs.Fetching.{room_tests, read_tests, as_read, Answer, refusal_answer, record_answer, read_with, read_open, as_fetched, fetched}
 use Rattle.record_format.specs.Claims.{Bytes}
 use Rattle.record_format.specs.CheckClaims.{run_check}
 use Rattle.record_format.specs.OpenReading.{refused_by, run_answer, OpensRecord, OpensWhole, OpenRoomFirst, OpenAsFound, ReadsOpenly, DiffersInRatios}
@@ -70,7 +70,7 @@ reads-openly e r d f ps body rest ts vs listed o sided points valid first second
           let h = by.1 qs ((rule qs).1 (many, read)) in
           rw many at
           (like.1 (ap (λ (a : CheckAnswer). a.number) h.0)
-          ∙ ap₂ (λ (a : CheckAnswer) (q : Run). record { answer = as_read_lem a; positions = over q.positions ts; ratios = over q.ratios vs }) h.0 h.1),
+          ∙ ap₂ (λ (a : CheckAnswer) (q : Run). record { answer = as_read a; positions = over q.positions ts; ratios = over q.ratios vs }) h.0 h.1),
       λ never.
           let h = by.0 (none_read (open_ratios n body) (λ qs e. let x = (rule qs).0 e in never qs x.0 x.1)) in
           like.0 (λ z. let y = sym (ap (λ (a : CheckAnswer). a.number) h) ∙ z in omega arith) ∙ ap (λ (a : CheckAnswer). refused_by a.number a.place ts vs) h,
@@ -130,7 +130,7 @@ module _ (e : ℕ) (s ts vs : List ℕ) where
           absurd (false≢true (sym (ap missing r) ∙ m))
 
   -- what a fetch accepts open reading answers alike, and returns what a check does
-  open_agrees : Bytes s → (fetched e s ts vs).answer.number ≡ 0 → (read_open e s ts vs ≡ read_with strict_ratios e s ts vs) × ((read_open e s ts vs).answer ≡ as_read_lem (checked e s))
+  open_agrees : Bytes s → (fetched e s ts vs).answer.number ≡ 0 → (read_open e s ts vs ≡ read_with strict_ratios e s ts vs) × ((read_open e s ts vs).answer ≡ as_read (checked e s))
   open_agrees bytes h =
       let b = fetches_only e s ts vs bytes h in
       let r : Run = b.0 in
@@ -143,7 +143,7 @@ module _ (e : ℕ) (s ts vs : List ℕ) where
       ap (λ (l : List ℕ). read_with strict_ratios e l ts vs) b.2.1
       ∙ read_own r (accepted_fits r b.1.passes) b.2.0 strict_ratios (strict_coded r.ratios b.1.words) e ts vs o m.0 m.1 in
       let c : checked e s ≡ run_check r = ap (checked e) b.2.1 ∙ (checks_record r b.1 e b.2.0).1 o in
-      (q ∙ sym p, ap (λ (a : Answer). a.answer) q ∙ ap as_read_lem (sym c))
+      (q ∙ sym p, ap (λ (a : Answer). a.answer) q ∙ ap as_read (sym c))
 
   abbrev Alike : Type 0
   Alike =

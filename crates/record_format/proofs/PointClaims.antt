@@ -29,7 +29,7 @@ use Rattle.ratio_format.specs.Bodies.{strict_ratios}
 use Rattle.ratio_format.proofs.Bodies.Strict.{strict_coded, strict_only_body, strict_below}
 use Rattle.record_format.specs.Fields.{Field, field_of, length_size, head_size, field_bytes, laid, tag_at, length_at, body_at, next_at, field_tests}
 use Rattle.record_format.specs.Runs.{run, positions_tag, positions_tags, form_of, ratios_tag, count_size, positions_field, front_fields}
-use Rattle.record_format.specs.Reading.{rate_at, count_at_lem, positions_at, ratios_at, end_at, count_in, form_in, positions_in, ratios_in, positions_tests, ratios_tests, record_tests}
+use Rattle.record_format.specs.Reading.{rate_at, count_at, positions_at, ratios_at, end_at, count_in, form_in, positions_in, ratios_in, positions_tests, ratios_tests, record_tests}
 use Rattle.record_format.specs.Checking.{run_by, found}
 use Rattle.record_format.specs.Claims.{count_place, positions_place}
 use Rattle.record_format.specs.CheckClaims.{Expects, refused_found}
@@ -48,7 +48,7 @@ module _ (k : ℕ → List ℕ → Option (List ℕ)) (e r d n : ℕ) (s : List 
   abbrev tests : List Test
   tests = record_tests k e s
 
-  at_count : count_at_lem s ≡ count_place d
+  at_count : count_at s ≡ count_place d
   at_count = count_at_lem s r d n listed sided counts all
 
   at_positions : positions_at s ≡ positions_place d
@@ -60,7 +60,7 @@ module _ (k : ℕ → List ℕ → Option (List ℕ)) (e r d n : ℕ) (s : List 
   abbrev refuses : (x p : ℕ) → (x ≡ 0 → ⊥) → first_of tests ≡ refusal x p → found k e s ≡ refused_found x p
   refuses x p z q = found-refused k e s x p z q
 
-  past_rate : first_of tests ≡ first_of (test (ltb max_points n) 15 (count_at_lem s) ∷ (positions_tests s ++ ratios_tests k s))
+  past_rate : first_of tests ≡ first_of (test (ltb max_points n) 15 (count_at s) ∷ (positions_tests s ++ ratios_tests k s))
   past_rate = front_pass s r d n listed sided counts all e (positions_tests s ++ ratios_tests k s) ∙ first_of_skip _ _ (other_rate_not e r o)
 
   fifteen : max_points < n → found k e s ≡ refused_found 15 (count_place d)

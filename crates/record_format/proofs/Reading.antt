@@ -26,7 +26,7 @@ use Rattle.refusals.proofs.Tests.{numbered, never, first_of_here, first_of_skip,
 use Rattle.position_format.specs.declared.Form.TheVariants.{Wide}
 use Rattle.position_format.specs.Tables.{points_of}
 use Rattle.record_format.specs.Fields.{Field, field_of, head_size, field_bytes, tag_at, length_at, body_at, next_at, length_tests, field_tests}
-use Rattle.record_format.specs.Reading.{side_at, has_side, count_at_lem, positions_at, side_in, count_in, form_in, positions_in, other_rate, rate_tests, side_tests, count_tests, front_tests, positions_tests, ratios_tests, record_tests}
+use Rattle.record_format.specs.Reading.{side_at, has_side, count_at, positions_at, side_in, count_in, form_in, positions_in, other_rate, rate_tests, side_tests, count_tests, front_tests, positions_tests, ratios_tests, record_tests}
 use Rattle.record_format.specs.Runs.{side_tag, positions_tag, positions_tags, form_of, side_size}
 use Rattle.record_format.proofs.Fields.{FieldStands, length-body, field_here, below_body}
 
@@ -152,7 +152,7 @@ positions_few s ts few = rw few
 
 -- and where there are, past a good tag, they are refused before the body
 pub positions_many : (s : List ℕ) (ts : List Test) → positions_at s + head_size ≤ length s → member (tag_at s (positions_at s)) positions_tags ≡ true
-    → ltb (points_of (form_in s)) (count_in s) ≡ true → refusal 15 (count_at_lem s) ≡ first_of (positions_tests s ++ ts)
+    → ltb (points_of (form_in s)) (count_in s) ≡ true → refusal 15 (count_at s) ≡ first_of (positions_tests s ++ ts)
 positions_many s ts head tagged many = sym (first_of_skip _ _ (le-ltb _ _ head) ∙ first_of_skip _ _ (ap not tagged) ∙ first_of_here _ _ many)
 
 -- which is so in the wide form alone, whose tag is good

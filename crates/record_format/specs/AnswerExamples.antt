@@ -14,7 +14,7 @@ use Rattle.record_format.specs.declared.WriteAnswer.{WriteAnswer}
 use Rattle.record_format.specs.Runs.{Run}
 use Rattle.record_format.specs.Writing.{write_answer}
 use Rattle.record_format.specs.Checking.{checked}
-use Rattle.record_format.specs.Fetching.{as_read_lem, read_open, fetched}
+use Rattle.record_format.specs.Fetching.{as_read, read_open, fetched}
 
 -- a rate's field
 abbrev pub given_rate : List ℕ
@@ -51,11 +51,11 @@ counted a = record { number = a.number; place = a.place; count = a.count }
 
 -- all three answer alike
 abbrev pub alike : ℕ → ℕ → List ℕ → CheckAnswer → ReadExample
-alike e m s a = record { expected = e; room = m; input = s; checks = a; fetches = counted a; opens = as_read_lem a }
+alike e m s a = record { expected = e; room = m; input = s; checks = a; fetches = counted a; opens = as_read a }
 
 -- only open reading accepts
 abbrev pub open_only : ℕ → List ℕ → CheckAnswer → CheckAnswer → ReadExample
-open_only m s a b = record { expected = 0; room = m; input = s; checks = a; fetches = counted a; opens = as_read_lem b }
+open_only m s a b = record { expected = 0; room = m; input = s; checks = a; fetches = counted a; opens = as_read b }
 
 -- there is no room: 16 at the place p, whatever a check finds
 abbrev pub no_room : ℕ → List ℕ → ℕ → CheckAnswer → ReadExample

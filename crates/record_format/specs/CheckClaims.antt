@@ -17,7 +17,7 @@ use Rattle.lists.specs.Among.{Among}
 use Rattle.record_format.specs.declared.CheckAnswer.{CheckAnswer}
 use Rattle.record_format.specs.Runs.{Run, positions_tag, record_of}
 use Rattle.record_format.specs.Reading.{count_in}
-use Rattle.record_format.specs.Checking.{run_in_lem, checked, check_number}
+use Rattle.record_format.specs.Checking.{run_in, checked, check_number}
 use Rattle.record_format.specs.Claims.{Accepted, Bytes, Beginning}
 
 -- 0 expects none
@@ -42,7 +42,7 @@ run_check r = record {
 
 -- of bytes s that begin with the record of r
 abbrev pub ChecksBack : Run → ℕ → List ℕ → Type 0
-ChecksBack r e s = ((Expects e r.rate → ⊥) → checked e s ≡ refused_found 14 0) × (Expects e r.rate → checked e s ≡ run_check r) × (run_in_lem s ≡ r)
+ChecksBack r e s = ((Expects e r.rate → ⊥) → checked e s ≡ refused_found 14 0) × (Expects e r.rate → checked e s ≡ run_check r) × (run_in s ≡ r)
 
 -- demand 2: every accepted run, and whatever follows its record
 abbrev pub ChecksRecord : Type 0
@@ -56,12 +56,12 @@ ChecksExactly = (e : ℕ) (s : List ℕ) → Bytes s
 -- demand 2: the answer is a run's
 abbrev pub ChecksOnly : Type 0
 ChecksOnly = (e : ℕ) (s : List ℕ) → Bytes s → (checked e s).number ≡ 0
-    → (r : Run) × Accepted r × Beginning (record_of r) s × (checked e s ≡ run_check r) × (run_in_lem s ≡ r)
+    → (r : Run) × Accepted r × Beginning (record_of r) s × (checked e s ≡ run_check r) × (run_in s ≡ r)
 
 -- of any numbers, bytes or not
 abbrev pub RunCounted : Type 0
 RunCounted = (e : ℕ) (s : List ℕ) → (checked e s).number ≡ 0
-    → ((checked e s).count ≡ count_in s) × (length (run_in_lem s).positions ≡ count_in s) × (length (run_in_lem s).ratios ≡ count_in s)
+    → ((checked e s).count ≡ count_in s) × (length (run_in s).positions ≡ count_in s) × (length (run_in s).ratios ≡ count_in s)
 
 -- demand 1
 abbrev pub ChecksWhole : Type 0

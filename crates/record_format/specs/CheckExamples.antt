@@ -19,7 +19,7 @@ use Rattle.ratio_format.specs.RatioForms.{written, coded}
 use Rattle.ratio_format.specs.Open.{open_one, open_xor}
 use Rattle.ratio_format.specs.Bodies.{coded_from, open_from, strict_ratios}
 use Rattle.record_format.specs.Fields.{tag_at, length_at, body_at, next_at}
-use Rattle.record_format.specs.Reading.{count_at_lem, side_in}
+use Rattle.record_format.specs.Reading.{count_at, side_in}
 use Rattle.record_format.specs.Checking.{found, checked, check_number}
 use Rattle.record_format.specs.Fetching.{read_with, Fetched, fetched}
 use Rattle.position_format.specs.Rows.{rows, wide_rows, in_table, code}
@@ -71,7 +71,7 @@ numbers =
 
 -- each number, computed from the definitions, is the one that is given
 pub numbers_hold : map (λ x. check_number (checked x.expected x.input)) numbers ≡ map (λ x. x.number) numbers
-unfolding numbers member first_index begins same digits_of number_of bits eights pack rates is_rate is_side first_of rows wide_rows in_table code steps_from steps step_bits position_bits coded_positions valid_positions step_at decoded_steps decoded_bits decoded read_positions zeros_at lead_zeros trail_zeros sum_of find best ratio_form written coded coded_from open_xor open_one open_from strict_ratios tag_at length_at body_at next_at count_at_lem side_in found
+unfolding numbers member first_index begins same digits_of number_of bits eights pack rates is_rate is_side first_of rows wide_rows in_table code steps_from steps step_bits position_bits coded_positions valid_positions step_at decoded_steps decoded_bits decoded read_positions zeros_at lead_zeros trail_zeros sum_of find best ratio_form written coded coded_from open_xor open_one open_from strict_ratios tag_at length_at body_at next_at count_at side_in found
 numbers_hold = refl
 
 -- into outputs of sevens and of eights
@@ -90,5 +90,5 @@ pub fetch_points :
     × (into 0 sided_bytes 3 2 ≡ refused_fetch 16 11 (replicate 3 7) (replicate 2 8))
     × (into 48000 listed_bytes 2 2 ≡ refused_fetch 14 0 (replicate 2 7) (replicate 2 8))
     × (into 0 (given_rate ++ (given_count 2 ++ two_open 3)) 3 3 ≡ refused_fetch 18 31 (replicate 3 7) (replicate 3 8))
-unfolding member first_index begins same digits_of number_of bits eights pack rates is_rate is_side first_of rows wide_rows in_table code steps_from steps step_bits position_bits coded_positions valid_positions step_at decoded_steps decoded_bits decoded read_positions zeros_at lead_zeros trail_zeros sum_of find best ratio_form written coded coded_from open_xor open_one open_from strict_ratios tag_at length_at body_at next_at count_at_lem side_in read_with
+unfolding member first_index begins same digits_of number_of bits eights pack rates is_rate is_side first_of rows wide_rows in_table code steps_from steps step_bits position_bits coded_positions valid_positions step_at decoded_steps decoded_bits decoded read_positions zeros_at lead_zeros trail_zeros sum_of find best ratio_form written coded coded_from open_xor open_one open_from strict_ratios tag_at length_at body_at next_at count_at side_in read_with
 fetch_points = (refl, refl, refl, refl, refl)

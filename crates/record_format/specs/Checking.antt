@@ -1,7 +1,7 @@
 -- Document 02, No. 8: what a check finds in bytes; the standard term is validation. It needs no output, and every reading into outputs, every move and
 -- every comparison is defined over it.
 --   run_by k s            the run in the fields of the bytes s, its ratios by the reading k; where the bytes are refused, a run that no answer shows
---   run_in_lem s              the same, its ratios read strictly
+--   run_in s              the same, its ratios read strictly
 --   refused_check f       the answer of the refusal f
 --   sound_check s         the answer of a record: its rate, its side (0 for none), its count, the tag of its form, and its size
 --   found k e s          what the reading k finds in the bytes s, with the rate e expected (0 for none): the refusal, or the record's numbers
@@ -25,8 +25,8 @@ abbrev pub run_by : (ℕ → List ℕ → Option (List ℕ)) → List ℕ → Ru
 run_by k s = run (rate_in s) (side_in s) (form_in s) (list_of (positions_in s)) (list_of (ratios_in k s))
 
 -- read strictly
-abbrev pub run_in_lem : List ℕ → Run
-run_in_lem s = run_by strict_ratios s
+abbrev pub run_in : List ℕ → Run
+run_in s = run_by strict_ratios s
 
 -- ---- the answer
 

@@ -21,7 +21,7 @@ use Rattle.limits.specs.Rates.{is_rate}
 use Rattle.record_format.specs.Fields.{tag_at}
 use Rattle.record_format.specs.Runs.{Run, record_of}
 use Rattle.record_format.specs.Reading.{positions_at, count_in}
-use Rattle.record_format.specs.Checking.{run_in_lem, checked}
+use Rattle.record_format.specs.Checking.{run_in, checked}
 use Rattle.record_format.specs.Fetching.{Fetched, fetched}
 use Rattle.record_format.specs.Claims.{Accepted, Bytes, Beginning, count_place}
 use Rattle.record_format.specs.CheckClaims.{Expects, run_check}
@@ -92,8 +92,8 @@ AgreesWithCheck = (e : ℕ) (s ts vs : List ℕ) → ((fetched e s ts vs).answer
     → fetched e s ts vs
     ≡ record {
       answer = record { number = 0; place = 0; count = a.count };
-      positions = (run_in_lem s).positions ++ drop (length (run_in_lem s).positions) ts;
-      ratios = (run_in_lem s).ratios ++ drop (length (run_in_lem s).ratios) vs;
+      positions = (run_in s).positions ++ drop (length (run_in s).positions) ts;
+      ratios = (run_in s).ratios ++ drop (length (run_in s).ratios) vs;
     })
 
 -- a caller who lends room for 4,096 numbers in each output

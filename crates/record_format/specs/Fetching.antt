@@ -2,7 +2,7 @@
 -- check, and 16 among them; what it leaves in the outputs is the run that is found.
 --   lacks_room m n c        an output lacks room for c numbers, in the standard term capacity; room_tests s m n: the test of it
 --   read_tests k e s m n    the tests in their order: those of a record, with that of the room after the front
---   as_read_lem a               what a check answers, as open reading returns it
+--   as_read a               what a check answers, as open reading returns it
 --   Answer                 what a reading returns, and both outputs afterwards
 --   refusal_answer, record_answer, answer_by   that of a refusal, of a record, and by a list of tests
 --   read_with k e s ts vs   reading the bytes s into the outputs ts and vs, with the reading k of the ratios' field and the rate e expected (0 for none)
@@ -18,7 +18,7 @@ use Rattle.ratio_format.specs.Bodies.{open_ratios, strict_ratios}
 use Rattle.record_format.specs.declared.CheckAnswer.{CheckAnswer}
 use Rattle.record_format.specs.declared.ReadAnswer.{ReadAnswer}
 use Rattle.record_format.specs.declared.FetchAnswer.{FetchAnswer}
-use Rattle.record_format.specs.Reading.{count_at_lem, count_in, front_tests, points_tests}
+use Rattle.record_format.specs.Reading.{count_at, count_in, front_tests, points_tests}
 use Rattle.record_format.specs.Checking.{run_by, refused_check, sound_check}
 
 -- ---- the tests
@@ -29,7 +29,7 @@ lacks_room m n c = cond (ltb m c) true (ltb n c)
 
 -- the room that is lent: 16, at the count's field
 abbrev pub room_tests : List ℕ → ℕ → ℕ → List Test
-room_tests s m n = test (lacks_room m n (count_in s)) 16 (count_at_lem s) ∷ []
+room_tests s m n = test (lacks_room m n (count_in s)) 16 (count_at s) ∷ []
 
 -- a record's, and 16 once the count is known
 abbrev pub read_tests : (ℕ → List ℕ → Option (List ℕ)) → ℕ → List ℕ → ℕ → ℕ → List Test
@@ -38,8 +38,8 @@ read_tests k e s m n = front_tests e s ++ (room_tests s m n ++ points_tests k s)
 -- ---- the answer
 
 -- the size is the bytes used
-abbrev pub as_read_lem : CheckAnswer → ReadAnswer
-as_read_lem a = record { number = a.number; place = a.place; rate = a.rate; side = a.side; count = a.count; form = a.form; used = a.size }
+abbrev pub as_read : CheckAnswer → ReadAnswer
+as_read a = record { number = a.number; place = a.place; rate = a.rate; side = a.side; count = a.count; form = a.form; used = a.size }
 
 -- the whole answer of a reading into outputs
 pub record Answer : Type 0 where
@@ -49,11 +49,11 @@ pub record Answer : Type 0 where
 
 -- of a refusal: outputs that are 0 from end to end
 abbrev pub refusal_answer : Refusal → List ℕ → List ℕ → Answer
-refusal_answer f ts vs = record { answer = as_read_lem (refused_check f); positions = zeros ts; ratios = zeros vs }
+refusal_answer f ts vs = record { answer = as_read (refused_check f); positions = zeros ts; ratios = zeros vs }
 
 -- of a record: the points of its run at the front of the outputs
 abbrev pub record_answer : (ℕ → List ℕ → Option (List ℕ)) → List ℕ → List ℕ → List ℕ → Answer
-record_answer k s ts vs = record { answer = as_read_lem (sound_check s); positions = over (run_by k s).positions ts; ratios = over (run_by k s).ratios vs }
+record_answer k s ts vs = record { answer = as_read (sound_check s); positions = over (run_by k s).positions ts; ratios = over (run_by k s).ratios vs }
 
 -- the refusal of the first test that applies, or else the answer a
 abbrev pub answer_by : List Test → Answer → List ℕ → List ℕ → Answer

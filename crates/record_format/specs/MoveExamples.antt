@@ -29,7 +29,7 @@ use Rattle.ratio_format.specs.Bodies.{coded_from, open_from, strict_ratios}
 use Rattle.record_format.specs.Fields.{field_bytes, laid, tag_at, length_at, body_at, next_at}
 use Rattle.record_format.specs.Examples.{listed_bytes, sided_bytes, paused_bytes}
 use Rattle.record_format.specs.Runs.{Run, run, record_of}
-use Rattle.record_format.specs.Reading.{count_at_lem, side_in}
+use Rattle.record_format.specs.Reading.{count_at, side_in}
 use Rattle.record_format.specs.Moves.{Move, move_of}
 use Rattle.record_format.specs.AnswerExamples.{given_rate, given_side, given_count, two_open}
 
@@ -140,5 +140,5 @@ move_rows =
 
 -- each, computed from the definitions, is the one that is given
 pub moves_hold : map (λ x. move_of x.to x.input (replicate x.room 7)) move_rows ≡ map (λ x. x.result) move_rows
-unfolding move_rows member first_index begins same digits_of number_of bits eights pack rates is_rate is_side first_of rows wide_rows in_table code steps_from steps step_bits position_bits coded_positions valid_positions step_at decoded_steps decoded_bits decoded read_positions zeros_at lead_zeros trail_zeros sum_of find best ratio_form written coded coded_from open_xor open_one open_from strict_ratios field_bytes laid record_of tag_at length_at body_at next_at count_at_lem side_in move_of
+unfolding move_rows member first_index begins same digits_of number_of bits eights pack rates is_rate is_side first_of rows wide_rows in_table code steps_from steps step_bits position_bits coded_positions valid_positions step_at decoded_steps decoded_bits decoded read_positions zeros_at lead_zeros trail_zeros sum_of find best ratio_form written coded coded_from open_xor open_one open_from strict_ratios field_bytes laid record_of tag_at length_at body_at next_at count_at side_in move_of
 moves_hold = refl

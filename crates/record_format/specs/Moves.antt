@@ -22,7 +22,7 @@ use Rattle.record_format.specs.declared.MoveAnswer.{MoveAnswer}
 use Rattle.record_format.specs.Runs.{Run, run, positions_tag, record_of}
 use Rattle.record_format.specs.Writing.{outside_tests}
 use Rattle.record_format.specs.Reading.{end_at, record_tests_by}
-use Rattle.record_format.specs.Checking.{run_in_lem}
+use Rattle.record_format.specs.Checking.{run_in}
 
 -- ---- forms
 
@@ -50,8 +50,8 @@ target_tests Old ts = outside_tests Old ts
 abbrev pub move_tests : Form → List ℕ → List ℕ → List Test
 move_tests f s o =
     source_tests f s
-    ++ (target_tests f (run_in_lem s).positions
-    ++ (test (ltb (length o) (length (record_of (in_form f (run_in_lem s))))) 6 0 ∷ []))
+    ++ (target_tests f (run_in s).positions
+    ++ (test (ltb (length o) (length (record_of (in_form f (run_in s))))) 6 0 ∷ []))
 
 -- ---- the answer
 
@@ -67,8 +67,8 @@ refused_move g o = record { answer = record { number = g.number; place = g.place
 -- of a record: the length of the one written and the bytes of the one read; what is written stands at the front of the output
 abbrev pub record_move : Form → List ℕ → List ℕ → Move
 record_move f s o = record {
-  answer = record { number = 0; place = 0; length = length (record_of (in_form f (run_in_lem s))); used = end_at s };
-  output = over (record_of (in_form f (run_in_lem s))) o;
+  answer = record { number = 0; place = 0; length = length (record_of (in_form f (run_in s))); used = end_at s };
+  output = over (record_of (in_form f (run_in s))) o;
 }
 
 -- the refusal of the first test that applies, or else the record in the form f

@@ -24,7 +24,7 @@ use Rattle.record_format.specs.declared.ReadAnswer.{ReadAnswer}
 use Rattle.record_format.specs.Fields.{field_of, field_bytes, laid}
 use Rattle.record_format.specs.Runs.{Run, positions_tag, positions_field, front_fields, record_of}
 use Rattle.record_format.specs.Checking.{run_by, found, checked}
-use Rattle.record_format.specs.Fetching.{Answer, as_read_lem, read_open, as_fetched, fetched}
+use Rattle.record_format.specs.Fetching.{Answer, as_read, read_open, as_fetched, fetched}
 use Rattle.record_format.specs.Claims.{Accepted, Bytes, count_place}
 use Rattle.record_format.specs.CheckClaims.{Expects}
 use Rattle.record_format.specs.PointClaims.{front_bytes}
@@ -77,7 +77,7 @@ OpenAsFound = (e : ℕ) (s ts vs : List ℕ) → ((read_open e s ts vs).answer.n
     ((a.number ≡ 0 → ⊥) → read_open e s ts vs ≡ refused_by a.number a.place ts vs)
     × (a.number ≡ 0
     → read_open e s ts vs
-    ≡ record { answer = as_read_lem a; positions = r.positions ++ drop (length r.positions) ts; ratios = r.ratios ++ drop (length r.ratios) vs })
+    ≡ record { answer = as_read a; positions = r.positions ++ drop (length r.positions) ts; ratios = r.ratios ++ drop (length r.ratios) vs })
 
 -- a record with the ratios' field at the offset b; what follows it plays no part
 abbrev pub ReadsOpenly : Type 0
@@ -102,4 +102,4 @@ abbrev pub DiffersInRatios : Type 0
 DiffersInRatios = (e : ℕ) (s ts vs : List ℕ) → Bytes s
     → (((read_open e s ts vs).answer.number ≡ 0 → ⊥) → fetched e s ts vs ≡ as_fetched (read_open e s ts vs))
     × (((fetched e s ts vs).answer.number ≡ 18 → ⊥) → as_fetched (read_open e s ts vs) ≡ fetched e s ts vs)
-    × ((fetched e s ts vs).answer.number ≡ 0 → (read_open e s ts vs).answer ≡ as_read_lem (checked e s))
+    × ((fetched e s ts vs).answer.number ≡ 0 → (read_open e s ts vs).answer ≡ as_read (checked e s))

@@ -23,7 +23,7 @@ use Rattle.ratio_format.specs.OpenExamples.{one}
 use Rattle.record_format.specs.Fields.{tag_at, length_at, body_at, next_at}
 use Rattle.record_format.specs.CheckClaims.{refused_found}
 use Rattle.record_format.specs.AnswerExamples.{given_rate, given_count, sound, ReadExample, alike, open_only, ReadsSo}
-use Rattle.record_format.specs.Reading.{count_at_lem, side_in}
+use Rattle.record_format.specs.Reading.{count_at, side_in}
 use Rattle.record_format.specs.Checking.{found}
 use Rattle.record_format.specs.Fetching.{read_with, read_open}
 
@@ -56,7 +56,7 @@ open_reads =
 
 -- each answer, computed from the definitions, is the one that is given
 pub open_reads_hold : ReadsSo open_reads
-unfolding open_reads member first_index begins same digits_of number_of bits eights pack rates is_rate is_side first_of rows wide_rows in_table code steps_from steps step_bits position_bits coded_positions valid_positions step_at decoded_steps decoded_bits decoded read_positions zeros_at lead_zeros trail_zeros sum_of find best ratio_form written coded coded_from open_xor open_one open_from strict_ratios tag_at length_at body_at next_at count_at_lem side_in read_with found
+unfolding open_reads member first_index begins same digits_of number_of bits eights pack rates is_rate is_side first_of rows wide_rows in_table code steps_from steps step_bits position_bits coded_positions valid_positions step_at decoded_steps decoded_bits decoded read_positions zeros_at lead_zeros trail_zeros sum_of find best ratio_form written coded coded_from open_xor open_one open_from strict_ratios tag_at length_at body_at next_at count_at side_in read_with found
 open_reads_hold = (refl, refl, refl)
 
 -- of the first two rows, the ratios at the front, and the rest as it was
@@ -64,5 +64,5 @@ pub open_ratios_lem :
     map (λ body. (read_open 0 (two_with body) (replicate 3 7) (replicate 3 8)).ratios)
     ((one ++ (0x80 ∷ 0x00 ∷ [])) ∷ (one ++ (0x80 ∷ 0x17 ∷ 0x01 ∷ 0x02 ∷ 0x03 ∷ 0x04 ∷ 0x05 ∷ 0x06 ∷ 0x07 ∷ [])) ∷ [])
     ≡ (1 ∷ 1 ∷ 8 ∷ []) ∷ (1 ∷ 0x0102030405060701 ∷ 8 ∷ []) ∷ []
-unfolding member first_index begins same digits_of number_of bits eights pack rates is_rate is_side first_of rows wide_rows in_table code steps_from steps step_bits position_bits coded_positions valid_positions step_at decoded_steps decoded_bits decoded read_positions open_xor open_one open_from tag_at length_at body_at next_at count_at_lem side_in read_with
+unfolding member first_index begins same digits_of number_of bits eights pack rates is_rate is_side first_of rows wide_rows in_table code steps_from steps step_bits position_bits coded_positions valid_positions step_at decoded_steps decoded_bits decoded read_positions open_xor open_one open_from tag_at length_at body_at next_at count_at side_in read_with
 open_ratios_lem = refl

@@ -24,7 +24,7 @@ use Rattle.position_format.specs.Tables.{table_of, points_of}
 use Rattle.ratio_format.specs.Bodies.{coded_ratios}
 use Rattle.record_format.specs.Fields.{field_of, field_bytes, laid, tag_at}
 use Rattle.record_format.specs.Runs.{run, positions_tag, positions_field, front_fields}
-use Rattle.record_format.specs.Checking.{run_by, run_in_lem, found, checked}
+use Rattle.record_format.specs.Checking.{run_by, run_in, found, checked}
 use Rattle.record_format.specs.Claims.{Bytes, Beginning, count_place, positions_place}
 use Rattle.record_format.specs.CheckClaims.{Expects, refused_found}
 
@@ -88,5 +88,5 @@ ChecksStrictly = (e r d : ℕ) (f : Form) (ps body rest : List ℕ) → is_rate 
     let b = length before in
     let s = before ++ (field_bytes (field_of 4 body) ++ rest) in
     ((qs : List ℕ) → length qs ≡ n → Below (2 ^ 64) qs → body ≡ coded_ratios qs
-    → (checked e s ≡ record { number = 0; place = 0; rate = r; side = d; count = n; form = positions_tag f; size = b + 3 + length body }) × (run_in_lem s ≡ run r d f ps qs))
+    → (checked e s ≡ record { number = 0; place = 0; rate = r; side = d; count = n; form = positions_tag f; size = b + 3 + length body }) × (run_in s ≡ run r d f ps qs))
     × (((qs : List ℕ) → length qs ≡ n → Below (2 ^ 64) qs → body ≡ coded_ratios qs → ⊥) → checked e s ≡ refused_found 18 b)

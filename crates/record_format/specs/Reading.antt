@@ -1,6 +1,6 @@
 -- Document 01, "The record" and "Numbers that come back", with the side and the form of document 02, No. 2 and No. 3: where the fields of a record stand,
 -- what they hold, and the tests of reading. No output has a part in them.
---   rate_at, side_at s, count_at_lem s, positions_at s, ratios_at s   the offset of each field, by what it holds
+--   rate_at, side_at s, count_at s, positions_at s, ratios_at s   the offset of each field, by what it holds
 --   has_side s              a side's field stands past the rate's
 --   end_at s                the offset past the record
 --   rate_in, side_in, count_in   the numbers in the fields of the rate, of the side (0 where there is none) and of the count
@@ -47,12 +47,12 @@ abbrev pub has_side : List ℕ → Bool
 has_side s = eqb (tag_at s (side_at s)) side_tag
 
 -- the count's past that, or else in its place
-unfoldable pub count_at_lem : List ℕ → ℕ
-count_at_lem s = cond (has_side s) (next_at s (side_at s)) (side_at s)
+unfoldable pub count_at : List ℕ → ℕ
+count_at s = cond (has_side s) (next_at s (side_at s)) (side_at s)
 
 -- the positions' past that
 abbrev pub positions_at : List ℕ → ℕ
-positions_at s = next_at s (count_at_lem s)
+positions_at s = next_at s (count_at s)
 
 -- and then the ratios'
 abbrev pub ratios_at : List ℕ → ℕ
@@ -72,7 +72,7 @@ side_in s = cond (has_side s) (number_of 256 (body_at s (side_at s))) 0
 
 -- the count
 abbrev pub count_in : List ℕ → ℕ
-count_in s = number_of 256 (body_at s (count_at_lem s))
+count_in s = number_of 256 (body_at s (count_at s))
 
 -- the form of the positions
 abbrev pub form_in : List ℕ → Form
@@ -107,7 +107,7 @@ side_tests s =
 
 -- the count's: 15
 abbrev pub count_tests : List ℕ → List Test
-count_tests s = field_tests s (count_tag ∷ []) (some count_size) (count_at_lem s) ++ (test (ltb max_points (count_in s)) 15 (count_at_lem s) ∷ [])
+count_tests s = field_tests s (count_tag ∷ []) (some count_size) (count_at s) ++ (test (ltb max_points (count_in s)) 15 (count_at s) ∷ [])
 
 -- rate, side and count
 abbrev pub front_tests : ℕ → List ℕ → List Test
@@ -115,7 +115,7 @@ front_tests e s = rate_tests e s ++ (side_tests s ++ count_tests s)
 
 -- more points than a run in the form has: 15, at the count's field. In the old form it never applies, since the count's own test stands before it
 abbrev pub many_tests : List ℕ → List Test
-many_tests s = test (ltb (points_of (form_in s)) (count_in s)) 15 (count_at_lem s) ∷ []
+many_tests s = test (ltb (points_of (form_in s)) (count_in s)) 15 (count_at s) ∷ []
 
 -- the positions' field, where some tags are good: 17. 15 stands between its head and its body, so that they are not those of field_tests in a row
 abbrev pub positions_tests_by : List ℕ → List ℕ → List Test

@@ -25,7 +25,7 @@ use Rattle.record_format.specs.Runs.{run, record_of}
 use Rattle.record_format.specs.Writing.{write_refusal, write_answer}
 use Rattle.record_format.specs.CheckClaims.{refused_found}
 use Rattle.record_format.specs.AnswerExamples.{given_rate, given_side, given_count, two_open, sound, ReadExample, alike, open_only, no_room, ReadsSo, WriteExample, wrote, WritesSo}
-use Rattle.record_format.specs.Reading.{count_at_lem, side_in}
+use Rattle.record_format.specs.Reading.{count_at, side_in}
 use Rattle.record_format.specs.Checking.{found}
 use Rattle.record_format.specs.Fetching.{read_with}
 
@@ -72,7 +72,7 @@ reads =
 
 -- each answer, computed from the definitions, is the one that is given
 pub reads_hold : ReadsSo reads
-unfolding reads member first_index same digits_of number_of bits eights pack rates is_rate is_side first_of steps_from steps step_bits position_bits coded_positions valid_positions decoded_steps decoded_bits decoded read_positions zeros_at lead_zeros trail_zeros sum_of find best ratio_form written coded coded_from open_one open_from strict_ratios tag_at length_at body_at next_at count_at_lem side_in read_with found
+unfolding reads member first_index same digits_of number_of bits eights pack rates is_rate is_side first_of steps_from steps step_bits position_bits coded_positions valid_positions decoded_steps decoded_bits decoded read_positions zeros_at lead_zeros trail_zeros sum_of find best ratio_form written coded coded_from open_one open_from strict_ratios tag_at length_at body_at next_at count_at side_in read_with found
 reads_hold = (refl, refl, refl)
 
 -- ---- writing

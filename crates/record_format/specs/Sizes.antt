@@ -76,12 +76,12 @@ swing f i = i % 2 * far_of f
 
 -- i modulo 128, one more than a window holds, in the top byte and in the lowest: any two of 128 in a row differ in both bytes, so that each is an
 -- exception
-abbrev pub two_ends_lem : ℕ → ℕ
-two_ends_lem i = i % (window_size + 1) * (2 ^ 56 + 1)
+abbrev pub two_ends : ℕ → ℕ
+two_ends i = i % (window_size + 1) * (2 ^ 56 + 1)
 
 -- as many points as a run can have, each as long as it can be
 unfoldable pub longest : Form → ℕ → Run
-longest f d = run 44100 d f (first_values (swing f) (points_of f)) (first_values two_ends_lem (points_of f))
+longest f d = run 44100 d f (first_values (swing f) (points_of f)) (first_values two_ends (points_of f))
 
 -- the upper bounds are reached
 abbrev pub Reached : Type 0

@@ -31,7 +31,7 @@ use Rattle.record_format.specs.Runs.{run, record_of}
 use Rattle.record_format.specs.Writing.{write_refusal, write_answer}
 use Rattle.record_format.specs.CheckClaims.{refused_found}
 use Rattle.record_format.specs.AnswerExamples.{given_rate, given_side, given_count, two_open, sound, ReadExample, alike, open_only, no_room, ReadsSo, WriteExample, wrote, WritesSo}
-use Rattle.record_format.specs.Reading.{count_at_lem, side_in}
+use Rattle.record_format.specs.Reading.{count_at, side_in}
 use Rattle.record_format.specs.Checking.{found}
 use Rattle.record_format.specs.Fetching.{read_with, read_open}
 
@@ -131,14 +131,14 @@ reads =
 
 -- each answer, computed from the definitions, is the one that is given
 pub reads_hold : ReadsSo reads
-unfolding reads member first_index begins same digits_of number_of bits eights pack rates is_rate is_side first_of rows wide_rows in_table code steps_from steps step_bits position_bits coded_positions valid_positions step_at decoded_steps decoded_bits decoded read_positions zeros_at lead_zeros trail_zeros sum_of find best ratio_form written coded coded_from open_one open_from strict_ratios tag_at length_at body_at next_at count_at_lem side_in read_with found
+unfolding reads member first_index begins same digits_of number_of bits eights pack rates is_rate is_side first_of rows wide_rows in_table code steps_from steps step_bits position_bits coded_positions valid_positions step_at decoded_steps decoded_bits decoded read_positions zeros_at lead_zeros trail_zeros sum_of find best ratio_form written coded coded_from open_one open_from strict_ratios tag_at length_at body_at next_at count_at side_in read_with found
 reads_hold = (refl, refl, refl)
 
 -- the points at the front of both outputs, which keep the rest
 pub open_points :
     ((read_open 0 (front 2 ++ two_open 5) (replicate 3 7) (replicate 3 8)).positions ≡ 0 ∷ 0 ∷ 7 ∷ [])
     × ((read_open 0 (front 2 ++ two_open 5) (replicate 3 7) (replicate 3 8)).ratios ≡ 0 ∷ 1 ∷ 8 ∷ [])
-unfolding member first_index begins same digits_of number_of bits eights pack rates is_rate is_side first_of rows wide_rows in_table code steps_from steps step_bits position_bits coded_positions valid_positions step_at decoded_steps decoded_bits decoded read_positions open_one open_from tag_at length_at body_at next_at count_at_lem side_in read_with
+unfolding member first_index begins same digits_of number_of bits eights pack rates is_rate is_side first_of rows wide_rows in_table code steps_from steps step_bits position_bits coded_positions valid_positions step_at decoded_steps decoded_bits decoded read_positions open_one open_from tag_at length_at body_at next_at count_at side_in read_with
 open_points = (refl, refl)
 
 -- ---- writing

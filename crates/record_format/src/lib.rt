@@ -1,4 +1,5 @@
 // The record of a run: the types that its calls answer, the numbers of its layout, definitions and laws.
+#![tactic(auto)]
 
 // The answer of writing: number and place of the refusal, or 0 and 0 with the record's length.
 #[repr(C)]

@@ -11,7 +11,7 @@
 --   CountFound s c q p  of the bytes s: the count c, the place q of its field, and the offset p past it
 --   FrontFound s f      the front f of the bytes s: these, rate and side
 --   FrontRead e s f     the same, or its refusal
---   tag_of, coded_by_lem      of a coding: its field's tag, and the body of numbers
+--   tag_of, coded_by      of a coding: its field's tag, and the body of numbers
 --   Codable c ns        the numbers ns can be coded so
 --   ratios_by r          the ratios of a body, strictly or by the open rule
 --   FoundInto ..        whether there is a list of c numbers, and where the output has room for them they stand at its front
@@ -34,7 +34,7 @@ use Rattle.position_format.specs.Tables.{table_of}
 use Rattle.ratio_format.specs.Bodies.{coded_ratios, open_ratios, strict_ratios}
 use Rattle.record_format.specs.Fields.{head_size, max_body, body_at, next_at}
 use Rattle.record_format.specs.Runs.{positions_tag, ratios_tag, side_size}
-use Rattle.record_format.specs.Reading.{side_at, count_at_lem, positions_at, ratios_at, end_at, rate_in, side_in, count_in, form_in, side_tests, front_tests, positions_tests, ratios_tests}
+use Rattle.record_format.specs.Reading.{side_at, count_at, positions_at, ratios_at, end_at, rate_in, side_in, count_in, form_in, side_tests, front_tests, positions_tests, ratios_tests}
 use Rattle.record_format.specs.Checking.{run_by}
 use Rattle.record_parts.specs.declared.field.FieldBody.{FieldBody}
 use Rattle.record_parts.specs.declared.field.Length.{Length}
@@ -95,9 +95,9 @@ pub record SideRead (s : List ℕ) (f : Number) : Type 0 where
   pub refuses : f.refusal ≡ first_of (side_tests s)
   pub value : f.refusal.number ≡ 0 → f.value ≡ side_in s
   pub small : f.value < 256 ^ side_size
-  pub next : f.refusal.number ≡ 0 → f.end ≡ count_at_lem s
-  pub inside : f.refusal.number ≡ 0 → count_at_lem s ≤ length s
-  pub near : f.refusal.number ≡ 0 → count_at_lem s ≤ side_at s + longest_field
+  pub next : f.refusal.number ≡ 0 → f.end ≡ count_at s
+  pub inside : f.refusal.number ≡ 0 → count_at s ≤ length s
+  pub near : f.refusal.number ≡ 0 → count_at s ≤ side_at s + longest_field
 
 -- of a refused front nothing is left but the refusal
 abbrev pub no_front : Refusal → Front
@@ -107,7 +107,7 @@ no_front g = record { refusal = g; rate = 0; side = 0; count = 0; place = 0; end
 pub record CountFound (s : List ℕ) (c q p : ℕ) : Type 0 where
   pub counted : c ≡ count_in s
   pub few : count_in s ≤ max_points
-  pub stands : q ≡ count_at_lem s
+  pub stands : q ≡ count_at s
   pub next : p ≡ positions_at s
   pub inside : positions_at s ≤ length s
   pub near : positions_at s ≤ farthest 3
@@ -131,9 +131,9 @@ tag_of (Positions f) = positions_tag f
 tag_of Ratios = ratios_tag
 
 -- numbers as a body
-abbrev pub coded_by_lem : Coding → List ℕ → List ℕ
-coded_by_lem (Positions f) ns = coded_positions (table_of f) ns
-coded_by_lem Ratios ns = coded_ratios ns
+abbrev pub coded_by : Coding → List ℕ → List ℕ
+coded_by (Positions f) ns = coded_positions (table_of f) ns
+coded_by Ratios ns = coded_ratios ns
 
 -- not too many, and positions that the form can code
 abbrev pub Codable : Coding → List ℕ → Type 0

@@ -128,19 +128,19 @@ never_append n (s ∷ ss) ts a b =
 -- ---- numbers that tests give
 
 -- every test's number is one of a list: of tests with literal numbers, by refl
-abbrev pub is_one_lem : ℕ → List ℕ → Bool
-is_one_lem n [] = false
-is_one_lem n (m ∷ l) = cond (eqb n m) true (is_one_lem n l)
+abbrev pub is_one : ℕ → List ℕ → Bool
+is_one n [] = false
+is_one n (m ∷ l) = cond (eqb n m) true (is_one n l)
 
 abbrev pub numbered_by : List ℕ → List Test → Bool
-numbered_by ns ts = every (λ t. is_one_lem t.number ns) ts
+numbered_by ns ts = every (λ t. is_one t.number ns) ts
 
-one_among : (n : ℕ) (l : List ℕ) → is_one_lem n l ≡ true → Among n l
+one_among : (n : ℕ) (l : List ℕ) → is_one n l ≡ true → Among n l
 unfolding Among
 one_among n [] e = absurd (false≢true e)
 one_among n (m ∷ l) e = go (eqb n m) refl e (one_among n l)
   where
-    go : (b : Bool) → eqb n m ≡ b → cond b true (is_one_lem n l) ≡ true → (is_one_lem n l ≡ true → Among n l) → (n ≡ m) ⊎ Among n l
+    go : (b : Bool) → eqb n m ≡ b → cond b true (is_one n l) ≡ true → (is_one n l ≡ true → Among n l) → (n ≡ m) ⊎ Among n l
     go true q h f = inl (eqb-true n m q)
     go false q h f = inr (f h)
 
@@ -148,7 +148,7 @@ pub first_of_among : (ns : List ℕ) (ts : List Test) → numbered_by ns ts ≡ 
 unfolding Among
 first_of_among ns [] w = inl (ap (λ (r : Refusal). r.number) first_of_end)
 first_of_among ns (t ∷ ts) w =
-    let h = every_cons (λ (t : Test). is_one_lem t.number ns) t ts w in
+    let h = every_cons (λ (t : Test). is_one t.number ns) t ts w in
     go t.applies refl (one_among t.number ns h.0) (first_of_among ns ts h.1)
   where
     go : (b : Bool) → t.applies ≡ b → Among t.number ns → Among (first_of ts).number (0 ∷ ns) → Among (first_of (t ∷ ts)).number (0 ∷ ns)

@@ -1,5 +1,7 @@
 // Numbers and lines of text put into a lent output at an index, for the programs that print.
 // Internal: callers meet each `requires`. Each function returns the index after its text.
+#![tactic(auto)]
+
 ghost use Rattle.std.specs.Prelude.{◌≡◌, ◌++◌, ◌+◌, ◌≤◌, nat_abs, length};
 ghost use Rattle.text.specs.Lines.{newline, space, refused_line};
 ghost use Rattle.text.specs.Numbers.{decimal, hex16, signed};

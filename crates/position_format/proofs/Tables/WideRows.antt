@@ -43,10 +43,10 @@ ranges_same : map ranged (take (length rows) wide_rows) ≡ map ranged rows
 unfolding wide_rows rows
 ranges_same = refl
 
-abbrev last_row_lem : Row
-last_row_lem = get_or wide_rows 5 no_row
+abbrev last_row : Row
+last_row = get_or wide_rows 5 no_row
 
-last_alone : drop (length rows) wide_rows ≡ last_row_lem ∷ []
+last_alone : drop (length rows) wide_rows ≡ last_row ∷ []
 unfolding wide_rows rows
 last_alone = refl
 
@@ -119,7 +119,7 @@ last_holds (negsuc n) h = rw (neg_le_neg (2 ^ 63) n h)
 pub last_row_lem : (z : ℤ) → mag z < 2 ^ 63 → in_table rows z ≡ false → row_of wide_rows z ≡ 5
 unfolding first_index
 last_row_lem z h e =
-    let one : row_of (last_row_lem ∷ []) z ≡ 0 = ap (λ (t : Bool). cond t zero (suc zero)) (last_holds z h) in
+    let one : row_of (last_row ∷ []) z ≡ 0 = ap (λ (t : Bool). cond t zero (suc zero)) (last_holds z h) in
     omega (arith, extended_past rows wide_rows ranges_same z e, ap (λ (l : List Row). row_of l z) last_alone, rows_count)
 
 -- and there is one in the wide table
@@ -137,7 +137,7 @@ pub every_step : EveryStep
 every_step = (step-held wide_rows wide-holds, wide_valid)
 
 -- and what document 01's table does not hold is escaped
-escaped-code : (z : ℤ) → code_in last_row_lem z ≡ (1 ∷ 1 ∷ 1 ∷ 1 ∷ 1 ∷ []) ++ bits_of 64 (residue 64 z)
+escaped-code : (z : ℤ) → code_in last_row z ≡ (1 ∷ 1 ∷ 1 ∷ 1 ∷ 1 ∷ []) ++ bits_of 64 (residue 64 z)
 unfolding wide_rows rows
 escaped-code z = refl
 

@@ -30,7 +30,7 @@ use Rattle.ratio_format.specs.Bodies.{strict_ratios}
 use Rattle.record_format.specs.Fields.{head_size, length_at, body_at, next_at, laid}
 use Rattle.record_format.specs.Runs.{record_of}
 use Rattle.record_format.specs.Reading.{positions_at, rate_in, side_in, count_in, form_in, positions_in, front_tests, record_tests}
-use Rattle.record_format.specs.Checking.{run_in_lem}
+use Rattle.record_format.specs.Checking.{run_in}
 use Rattle.record_format.specs.Moves.{Move, in_form, source_tests, target_tests, refused_move, move_of}
 use Rattle.record_format.specs.declared.MoveAnswer.{MoveAnswer}
 use Rattle.record_format.proofs.Reading.Sound.{record_clear}
@@ -164,7 +164,7 @@ module _ {f : Form} {s : List ℕ} {h : Front} {g : Points} (i : PointsFound f s
         ap₂ (λ (x : Form) (n : ℕ). read_positions (table_of x) n body) (i.read.form good) front.count.counted
         ∙ ap (λ (l : List ℕ). read_positions (table_of (form_in s)) (count_in s) l) body_is
 
-    run_are : list_of points ≡ (run_in_lem s).positions
+    run_are : list_of points ≡ (run_in s).positions
     run_are = ap list_of points-are
 
     -- the positions are there, and not too many
@@ -173,51 +173,51 @@ module _ {f : Form} {s : List ℕ} {h : Front} {g : Points} (i : PointsFound f s
         let checked : (first_of (record_tests strict_ratios 0 s)).number ≡ 0 = sym (ap (λ (x : Refusal). x.number) (source_check f s (λ _. elsewhere.1))) ∙ clear in
         (ap missing (points-are ∙ (record_clear strict_ratios 0 s checked).points.1), omega (arith, front.count.counted, front.count.few))
 
-    many_is : h.count ≡ length (run_in_lem s).positions
+    many_is : h.count ≡ length (run_in s).positions
     many_is = front.count.counted ∙ sound.many
 
-    low : length (run_in_lem s).positions ≤ first_high (run_in_lem s).positions
-    low = omega (arith, (valid_parts (table_of (run_in_lem s).form) (run_in_lem s).positions sound.fits.valid).0)
+    low : length (run_in s).positions ≤ first_high (run_in s).positions
+    low = omega (arith, (valid_parts (table_of (run_in s).form) (run_in s).positions sound.fits.valid).0)
 
     pub many_stop : points_of f < h.count → (o : List ℕ) → refused_move (refusal 3 0) o ≡ move_of f s o
     many_stop many o =
-        target_refused f s o clear (refusal 3 0) (target_many f (run_in_lem s).positions (fitting_few (run_in_lem s) sound.fits) (omega (arith, many_is))) (λ z. omega arith)
+        target_refused f s o clear (refusal 3 0) (target_many f (run_in s).positions (fitting_few (run_in s) sound.fits) (omega (arith, many_is))) (λ z. omega arith)
 
     -- what the writer of the record says
     module _ (o p : List ℕ) (r : Recoded) (put : RecodedAs f (list_of points) (laid (lead_fields h.rate h.side f (list_of points)) ++ field) r o p) where
       abbrev moved : List ℕ
-      moved = record_of (in_form f (run_in_lem s))
+      moved = record_of (in_form f (run_in s))
 
       bytes_are : laid (lead_fields h.rate h.side f (list_of points)) ++ field ≡ moved
       bytes_are =
           ap₂ (λ (x y : List ℕ). x ++ y)
           (ap₂ (λ (x y : ℕ). laid (lead_fields x y f (list_of points))) front.rate front.side ∙ ap (λ (l : List ℕ). laid (lead_fields (rate_in s) (side_in s) f l)) run_are)
           (ap₂ (λ (a b : ℕ). take (b - a) (drop a s)) (i.read.from good) (i.read.next good) ∙ sound.ratios)
-          ∙ sym (moved-laid f (run_in_lem s))
+          ∙ sym (moved-laid f (run_in s))
 
-      put_record : RecodedAs f (run_in_lem s).positions moved r o p
-      put_record = subst (λ (l : List ℕ). RecodedAs f (run_in_lem s).positions l r o p) bytes_are (subst (λ (l : List ℕ). RecodedAs f l (laid (lead_fields h.rate h.side f (list_of points)) ++ field) r o p) run_are put)
+      put_record : RecodedAs f (run_in s).positions moved r o p
+      put_record = subst (λ (l : List ℕ). RecodedAs f (run_in s).positions l r o p) bytes_are (subst (λ (l : List ℕ). RecodedAs f l (laid (lead_fields h.rate h.side f (list_of points)) ++ field) r o p) run_are put)
 
       -- a step outside
       module _ (k : ℕ) (e : r ≡ Outside k) where
-        outside_is : (k ≡ first_outside (table_of f) (run_in_lem s).positions) × (k < length (run_in_lem s).positions)
-        outside_is = recoded_outside f (run_in_lem s).positions moved o p r put_record e moved o p
+        outside_is : (k ≡ first_outside (table_of f) (run_in s).positions) × (k < length (run_in s).positions)
+        outside_is = recoded_outside f (run_in s).positions moved o p r put_record e moved o p
 
         pub outside_low : k ≤ max_points
-        outside_low = omega (arith, outside_is.1, fitting_few (run_in_lem s) sound.fits)
+        outside_low = omega (arith, outside_is.1, fitting_few (run_in s) sound.fits)
 
         pub outside_stop : refused_move (refusal 5 k) o ≡ move_of f s o
         outside_stop =
             target_refused f s o clear (refusal 5 k)
-            (ap (refusal 5) outside_is.0 ∙ target_outside f (run_in_lem s).positions low (omega (arith, outside_is.0, outside_is.1))) (λ z. omega arith)
+            (ap (refusal 5) outside_is.0 ∙ target_outside f (run_in s).positions low (omega (arith, outside_is.0, outside_is.1))) (λ z. omega arith)
 
       -- or none: the record, or no room for it
       module _ (few : h.count ≤ points_of f) (w : Wrote) (e : r ≡ Put w) where
-        wrote : CodablePositions f (run_in_lem s).positions × Placed moved w o p
-        wrote = recoded_put f (run_in_lem s).positions moved o p r put_record e
+        wrote : CodablePositions f (run_in s).positions × Placed moved w o p
+        wrote = recoded_put f (run_in s).positions moved o p r put_record e
 
-        target_clear : (first_of (target_tests f (run_in_lem s).positions)).number ≡ 0
-        target_clear = target_good f (run_in_lem s).positions (omega (arith, many_is)) wrote.0
+        target_clear : (first_of (target_tests f (run_in s).positions)).number ≡ 0
+        target_clear = target_good f (run_in s).positions (omega (arith, many_is)) wrote.0
 
         pub move_ends : length p ≡ length o → ended_move w g.end p ≡ move_of f s o
         move_ends same = go w refl

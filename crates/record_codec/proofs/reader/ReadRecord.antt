@@ -13,7 +13,7 @@ use Rattle.record_format.specs.Runs.{positions_tag}
 use Rattle.record_format.specs.declared.CheckAnswer.{CheckAnswer}
 use Rattle.record_format.specs.Reading.{count_in, front_tests, positions_tests, ratios_tests, record_tests}
 use Rattle.record_format.specs.Checking.{refused_check, sound_check, found}
-use Rattle.record_format.specs.Fetching.{lacks_room, read_tests, as_read_lem, Answer, refusal_answer, record_answer, read_with}
+use Rattle.record_format.specs.Fetching.{lacks_room, read_tests, as_read, Answer, refusal_answer, record_answer, read_with}
 use Rattle.record_format.proofs.Reading.{front-numbered}
 use Rattle.record_format.proofs.Checking.{found-refusal, found-sound}
 use Rattle.record_format.proofs.Fetching.{room_enough, without_room, answer_refused, read_refused}
@@ -69,7 +69,7 @@ answered_as {a} {b} {r} {p} {q} e h = subst (λ (x : Answer). Answered x r p q) 
 
 -- zeros, by the length alone
 pub refusal_as : (f : Refusal) (ts us vs ws : List ℕ) → length us ≡ length ts → length ws ≡ length vs → refusal_answer f us ws ≡ refusal_answer f ts vs
-refusal_as f ts us vs ws a b = ap₂ (λ (m n : ℕ). record { answer = as_read_lem (refused_check f); positions = replicate m 0; ratios = replicate n 0 }) a b
+refusal_as f ts us vs ws a b = ap₂ (λ (m n : ℕ). record { answer = as_read (refused_check f); positions = replicate m 0; ratios = replicate n 0 }) a b
 
 module _ (k : ℕ → List ℕ → Option (List ℕ)) (e : ℕ) (s ts vs : List ℕ) (f : Front) (h : FrontRead e s f) where
   abbrev tests : List Test
@@ -118,4 +118,4 @@ module _ (k : ℕ → List ℕ → Option (List ℕ)) (e : ℕ) (s ts vs : List 
         pub read_found : r.number ≡ 0 → Answered (read_with k e s ts vs) r us ws
         read_found z =
             let own = (as_found k e s ts vs (never_short k e s ts vs rooms.0 rooms.1)).1 (ap (λ (a : CheckAnswer). a.number) found_is ∙ z) in
-            answered_as (sym own) (ap as_read_lem (sym found_is), i.positions z rooms.0, i.ratios z rooms.1)
+            answered_as (sym own) (ap as_read (sym found_is), i.positions z rooms.0, i.ratios z rooms.1)

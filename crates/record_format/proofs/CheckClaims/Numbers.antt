@@ -24,7 +24,7 @@ use Rattle.ratio_format.specs.Bodies.{strict_ratios}
 use Rattle.record_format.specs.declared.CheckAnswer.{CheckAnswer}
 use Rattle.record_format.specs.Fields.{head_size, length_at, body_at, next_at, field_tests}
 use Rattle.record_format.specs.Runs.{rate_tag, side_tag, count_tag, ratios_tag, rate_size, side_size, count_size}
-use Rattle.record_format.specs.Reading.{rate_at, side_at, has_side, count_at_lem, positions_at, ratios_at, rate_in, count_in, form_in, positions_in, other_rate, rate_tests, side_tests, count_tests, front_tests, positions_tests, ratios_tests, record_tests}
+use Rattle.record_format.specs.Reading.{rate_at, side_at, has_side, count_at, positions_at, ratios_at, rate_in, count_in, form_in, positions_in, other_rate, rate_tests, side_tests, count_tests, front_tests, positions_tests, ratios_tests, record_tests}
 use Rattle.record_format.specs.Checking.{checked, check_number}
 use Rattle.record_format.specs.Claims.{Bytes}
 use Rattle.record_format.specs.CheckClaims.{TellsAnswer, NumberTells}
@@ -89,25 +89,25 @@ module _ (s : List ℕ) where
       go false e = rw (absent_tests s e) (end_near b)
 
   -- past the side
-  count_at_lem : (first_of (side_tests s)).number ≡ 0 → count_at_lem s ≤ side_at s + 4
+  count_at_lem : (first_of (side_tests s)).number ≡ 0 → count_at s ≤ side_at s + 4
   unfolding next_at
   count_at_lem z = go (side_clear s [] (ap (λ (l : List Test). (first_of l).number) (append-nil (side_tests s)) ∙ z)).0
     where
-      go : SideSound s → count_at_lem s ≤ side_at s + 4
+      go : SideSound s → count_at s ≤ side_at s + 4
       go (inl e) = omega (arith, absent_count s e)
       go (inr h) = omega (arith, present_count s h.0, h.1.stated)
 
-  count_near : (b : ℕ) → count_at_lem s ≤ b → (first_of (count_tests s)).place ≤ b
-  count_near b h = field_near b s (count_tag ∷ []) (some count_size) (count_at_lem s) _ h (first_near b _ _ h (end_near b))
+  count_near : (b : ℕ) → count_at s ≤ b → (first_of (count_tests s)).place ≤ b
+  count_near b h = field_near b s (count_tag ∷ []) (some count_size) (count_at s) _ h (first_near b _ _ h (end_near b))
 
   -- past the count
-  positions_at_lem : (first_of (count_tests s)).number ≡ 0 → positions_at s ≤ count_at_lem s + 5
+  positions_at_lem : (first_of (count_tests s)).number ≡ 0 → positions_at s ≤ count_at s + 5
   unfolding next_at
   positions_at_lem z =
-      let f = field_clear s (count_tag ∷ []) (some count_size) (count_at_lem s) (test (ltb max_points (count_in s)) 15 (count_at_lem s) ∷ []) z in
+      let f = field_clear s (count_tag ∷ []) (some count_size) (count_at s) (test (ltb max_points (count_in s)) 15 (count_at s) ∷ []) z in
       omega (arith, f.0.stated)
 
-  positions_near : (b : ℕ) → count_at_lem s ≤ b → positions_at s ≤ b → (first_of (positions_tests s)).place ≤ b
+  positions_near : (b : ℕ) → count_at s ≤ b → positions_at s ≤ b → (first_of (positions_tests s)).place ≤ b
   positions_near b g h = first_near b _ _ h (first_near b _ _ h (first_near b _ _ g (first_near b _ _ h (first_near b _ _ h (end_near b)))))
 
   -- past the positions, which take no more than a run in their form can have
@@ -149,12 +149,12 @@ module _ (s : List ℕ) where
       append_near 30206 (positions_tests s) _ refl (positions_near 30206 (omega (arith, g.0)) (omega (arith, g.1)))
       (λ p. ratios_near 30206 (omega (arith, g.1, ratios_at_lem p))))
     where
-      parts : (e : ℕ) → (first_of (front_tests e s)).number ≡ 0 → (count_at_lem s ≤ 11) × (positions_at s ≤ 16)
+      parts : (e : ℕ) → (first_of (front_tests e s)).number ≡ 0 → (count_at s ≤ 11) × (positions_at s ≤ 16)
       parts e f =
           let a = first_of-append_clear (rate_tests e s) (side_tests s ++ count_tests s) refl f in
           let b = first_of-append_clear (side_tests s) (count_tests s) (side_numbered s) a.1 in
           let n = positions_at_lem b.1 in
-          let k : count_at_lem s ≤ 11 = omega (arith, side_at_lem e a.0, count_at_lem b.0) in
+          let k : count_at s ≤ 11 = omega (arith, side_at_lem e a.0, count_at_lem b.0) in
           (k, omega (arith, n))
 
 -- ---- sizes and numbers

@@ -20,7 +20,7 @@ use Rattle.record_format.specs.Fields.{Field}
 use Rattle.record_format.specs.Runs.{Run, positions_tag, ratios_tag, count_size, positions_field, ratios_field, front_fields, fields_of, record_of}
 use Rattle.record_format.specs.Reading.{rate_at, positions_at, ratios_at, end_at, count_in, positions_in, ratios_in, other_rate, front_tests, positions_tests, ratios_tests, record_tests}
 use Rattle.record_format.specs.Checking.{run_by, sound_check, found}
-use Rattle.record_format.specs.Fetching.{lacks_room, read_tests, as_read_lem, record_answer, read_with}
+use Rattle.record_format.specs.Fetching.{lacks_room, read_tests, as_read, record_answer, read_with}
 use Rattle.record_format.specs.Claims.{count_place}
 use Rattle.record_format.specs.CheckClaims.{Expects, refused_found, run_check}
 use Rattle.record_format.specs.OpenReading.{refused_by, run_answer}
@@ -163,4 +163,4 @@ module _ (r : Run) (fit : Fitting r) (rest : List ℕ) where
             (with_room k e s (length ts) (length vs)
             (λ _. ap (lacks_room (length ts) (length vs)) count_read ∙ ap₂ (λ (a b : Bool). cond a true b) (le-ltb _ _ m) (le-ltb _ _ n))
             ∙ all_clear o)
-            ∙ ap₂ (λ (a : CheckAnswer) (q : Run). record { answer = as_read_lem a; positions = over q.positions ts; ratios = over q.ratios vs }) own run_is
+            ∙ ap₂ (λ (a : CheckAnswer) (q : Run). record { answer = as_read a; positions = over q.positions ts; ratios = over q.ratios vs }) own run_is

@@ -17,9 +17,9 @@ use Rattle.ratio_format.specs.Bodies.{strict_ratios}
 use Rattle.record_format.specs.declared.CheckAnswer.{CheckAnswer}
 use Rattle.record_format.specs.Fields.{next_at}
 use Rattle.record_format.specs.Runs.{Run, positions_tag, positions_tags, record_of}
-use Rattle.record_format.specs.Reading.{rate_at, side_at, has_side, count_at_lem, end_at, front_tests, positions_tests_by, positions_tests, ratios_tests, record_tests}
-use Rattle.record_format.specs.Checking.{run_by, run_in_lem, refused_check, sound_check, found}
-use Rattle.record_format.specs.Fetching.{room_tests, read_tests, as_read_lem, Answer, answer_by, read_with}
+use Rattle.record_format.specs.Reading.{rate_at, side_at, has_side, count_at, end_at, front_tests, positions_tests_by, positions_tests, ratios_tests, record_tests}
+use Rattle.record_format.specs.Checking.{run_by, run_in, refused_check, sound_check, found}
+use Rattle.record_format.specs.Fetching.{room_tests, read_tests, as_read, Answer, answer_by, read_with}
 use Rattle.record_format.specs.Moves.{other_form, in_form, source_tests, target_tests, move_tests, Move, refused_move, record_move, move_of}
 use Rattle.record_format.specs.Claims.{Followed, MoveFollowed}
 use Rattle.record_format.proofs.Fields.{first-whole, next_later}
@@ -28,23 +28,23 @@ use Rattle.record_format.proofs.Reading.Shifted.{FieldsShifted, whole_fields, ra
 use Rattle.record_format.proofs.Reading.Sides.{absent_count, present_count}
 
 module _ (s rest : List ℕ) (framed : end_at s ≤ length s) where
-  count_whole : next_at s (count_at_lem s) ≤ length s
-  count_whole = first-whole s (count_at_lem s) closing_field_count (lit< tt) framed
+  count_whole : next_at s (count_at s) ≤ length s
+  count_whole = first-whole s (count_at s) closing_field_count (lit< tt) framed
 
   -- the side's, or else the count's, which stands in its place
   side_whole : next_at s (side_at s) ≤ length s
   side_whole = go (has_side s) refl
     where
       go : (b : Bool) → has_side s ≡ b → next_at s (side_at s) ≤ length s
-      go true e = omega (arith, present_count s e, next_later s (count_at_lem s), count_whole)
+      go true e = omega (arith, present_count s e, next_later s (count_at s), count_whole)
       go false e = subst (λ (p : ℕ). next_at s p ≤ length s) (absent_count s e) count_whole
 
   -- the rate's field and the one past it, and those from the count's on
   front : FieldsShifted 0 s rate_at (s ++ rest) rate_at opening_field_count
   front = whole_fields s rest rate_at rate_at opening_field_count refl side_whole
 
-  points : FieldsShifted 0 s (count_at_lem s) (s ++ rest) (count_at_lem (s ++ rest)) closing_field_count
-  points = whole_fields s rest (count_at_lem s) (count_at_lem (s ++ rest)) closing_field_count (count_shifted front ∙ add-zero (count_at_lem s)) framed
+  points : FieldsShifted 0 s (count_at s) (s ++ rest) (count_at (s ++ rest)) closing_field_count
+  points = whole_fields s rest (count_at s) (count_at (s ++ rest)) closing_field_count (count_shifted front ∙ add-zero (count_at s)) framed
 
   end_same : end_at (s ++ rest) ≡ end_at s
   end_same = end_shifted points ∙ add-zero (end_at s)
@@ -100,7 +100,7 @@ module _ (k : ℕ → List ℕ → Option (List ℕ)) (e : ℕ) (s rest : List �
     unfolding read_with
     read_followed =
         ap₂ (λ (l : List Test) (a : Answer). answer_by l a ts vs) read_tests_same
-        (ap₂ (λ (a : CheckAnswer) (r : Run). record { answer = as_read_lem a; positions = over r.positions ts; ratios = over r.ratios vs }) sound-same run_followed)
+        (ap₂ (λ (a : CheckAnswer) (r : Run). record { answer = as_read a; positions = over r.positions ts; ratios = over r.ratios vs }) sound-same run_followed)
 
 -- whatever a reading makes of the ratios' field
 pub followed : Followed
@@ -109,7 +109,7 @@ followed k e s rest h = (found_followed k e s rest h, run_followed k e s rest h,
 -- ---- moves: the run that one finds, and its tests
 
 module _ (f : Form) (s rest o : List ℕ) (framed : end_at s ≤ length s) where
-  run_in_lem : run_in_lem (s ++ rest) ≡ run_in_lem s
+  run_in_lem : run_in (s ++ rest) ≡ run_in s
   run_in_lem = run_followed strict_ratios 0 s rest framed
 
   source_tests_lem : source_tests f (s ++ rest) ≡ source_tests f s

@@ -28,7 +28,7 @@ use Rattle.position_format.proofs.Positions.{read_coded}
 use Rattle.position_format.proofs.Tables.{table_good}
 use Rattle.record_format.specs.Fields.{Field, head_size, tag_at, body_at, next_at}
 use Rattle.record_format.specs.Runs.{rate_tag, count_tag, positions_tags, form_of, rate_size, count_size, rate_field, side_fields, side_length, count_field, positions_field, front_fields}
-use Rattle.record_format.specs.Reading.{rate_at, side_at, count_at_lem, positions_at, rate_in, side_in, count_in, form_in, positions_in, other_rate, side_tests, count_tests, front_tests, positions_tests}
+use Rattle.record_format.specs.Reading.{rate_at, side_at, count_at, positions_at, rate_in, side_in, count_in, form_in, positions_in, other_rate, side_tests, count_tests, front_tests, positions_tests}
 use Rattle.record_format.specs.PointClaims.{front_bytes}
 use Rattle.record_format.proofs.Fields.{FieldStands, StandAll, length_field, laid_stand, past_all, stand_past, stand_append, past_append}
 use Rattle.record_format.proofs.Reading.{field_passes, positions_few, front-flat}
@@ -47,19 +47,19 @@ module _ (s : List ℕ) (rate side count : ℕ) (listed : is_rate rate ≡ true)
   past_rate : StandAll s (side_at s) sides × StandAll s (past_all s (side_at s) sides) (count_field_lem ∷ [])
   past_rate = stand_append s (side_at s) sides (count_field_lem ∷ []) all.1
 
-  past_sides : past_all s (side_at s) sides ≡ count_at_lem s
+  past_sides : past_all s (side_at s) sides ≡ count_at s
   past_sides = stand_count s count_field_lem refl side past_rate.0 past_rate.1.0
 
-  count_stands : FieldStands s (count_at_lem s) count_field_lem
+  count_stands : FieldStands s (count_at s) count_field_lem
   count_stands = subst (λ (p : ℕ). FieldStands s p count_field_lem) past_sides past_rate.1.0
 
   -- where what follows stands
-  pub count_at_lem : count_at_lem s ≡ head_size + rate_size + side_length side
+  pub count_at_lem : count_at s ≡ head_size + rate_size + side_length side
   count_at_lem =
       sym past_sides ∙ stand_past s (side_at s) sides past_rate.0
       ∙ omega (arith, all.0.next, length_side side, length_field (rate_field rate), length_digits 256 rate_size rate)
 
-  pub positions_at_lem : positions_at s ≡ count_at_lem s + (head_size + count_size)
+  pub positions_at_lem : positions_at s ≡ count_at s + (head_size + count_size)
   positions_at_lem = count_stands.next ∙ omega (arith, length_field count_field_lem, length_digits 256 count_size count)
 
   pub front_past : past_all s rate_at (front_fields rate side count) ≡ positions_at s
@@ -77,7 +77,7 @@ module _ (s : List ℕ) (rate side count : ℕ) (listed : is_rate rate ≡ true)
 
   -- 14 and 15 are left, and the tests that follow the front's
   pub front_pass : (e : ℕ) (ts : List Test)
-      → first_of (front_tests e s ++ ts) ≡ first_of (test (other_rate e rate) 14 rate_at ∷ test (ltb max_points count) 15 (count_at_lem s) ∷ ts)
+      → first_of (front_tests e s ++ ts) ≡ first_of (test (other_rate e rate) 14 rate_at ∷ test (ltb max_points count) 15 (count_at s) ∷ ts)
   unfolding member
   front_pass e ts =
       let from_count = count_tests s ++ ts in
@@ -89,8 +89,8 @@ module _ (s : List ℕ) (rate side count : ℕ) (listed : is_rate rate ≡ true)
       ∙ ap (λ (x : ℕ). first_of (test (other_rate e x) 14 rate_at ∷ from_side)) rate_is
       ∙ first_of_cong _ _ _
       (side_passes s count_field_lem refl side sided past_rate.0 past_rate.1.0 from_count
-      ∙ field_passes count_stands (count_tag ∷ []) (some count_size) (test (ltb max_points (count_in s)) 15 (count_at_lem s) ∷ ts) refl (length_digits 256 count_size count)
-      ∙ ap (λ (c : ℕ). first_of (test (ltb max_points c) 15 (count_at_lem s) ∷ ts)) count_is)
+      ∙ field_passes count_stands (count_tag ∷ []) (some count_size) (test (ltb max_points (count_in s)) 15 (count_at s) ∷ ts) refl (length_digits 256 count_size count)
+      ∙ ap (λ (c : ℕ). first_of (test (ltb max_points c) 15 (count_at s) ∷ ts)) count_is)
 
 -- ---- the front, laid, and then any bytes
 

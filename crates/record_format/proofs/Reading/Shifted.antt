@@ -24,7 +24,7 @@ use Rattle.position_format.specs.Positions.{read_positions}
 use Rattle.position_format.specs.Tables.{table_of, points_of}
 use Rattle.record_format.specs.Fields.{tag_size, length_size, head_size, tag_at, length_at, body_at, next_at, head_tests, length_tests, body_tests, field_tests}
 use Rattle.record_format.specs.Runs.{rate_tag, side_tag, count_tag, form_of, ratios_tag, rate_size, side_size, count_size}
-use Rattle.record_format.specs.Reading.{rate_at, side_at, has_side, count_at_lem, positions_at, ratios_at, end_at, rate_in, side_in, count_in, form_in, positions_in, ratios_in, other_rate, rate_tests, side_tests, count_tests, front_tests, many_tests, positions_tests_by, ratios_tests}
+use Rattle.record_format.specs.Reading.{rate_at, side_at, has_side, count_at, positions_at, ratios_at, end_at, rate_in, side_in, count_in, form_in, positions_in, ratios_in, other_rate, rate_tests, side_tests, count_tests, front_tests, many_tests, positions_tests_by, ratios_tests}
 use Rattle.record_format.specs.Fetching.{lacks_room, room_tests}
 use Rattle.record_format.proofs.Fields.{field_at, first-whole, tag_same, length-same, next_same, head_within, body_same}
 use Rattle.record_format.proofs.Reading.{side_of}
@@ -151,8 +151,8 @@ module _ {d : ℕ} {s t : List ℕ} (all : FieldsShifted d s rate_at t rate_at o
   unfolding side_in
   side_same = ap₂ (λ (b : Bool) (l : List ℕ). cond b (number_of 256 l) 0) has_side_lem past_rate.within
 
-  pub count_shifted : count_at_lem t ≡ count_at_lem s + d
-  unfolding count_at_lem
+  pub count_shifted : count_at t ≡ count_at s + d
+  unfolding count_at
   count_shifted = ap (λ (b : Bool). cond b (next_at t (side_at t)) (side_at t)) has_side_lem ∙ go (has_side s)
     where
       go : (b : Bool) → cond b (next_at t (side_at t)) (side_at t) ≡ cond b (next_at s (side_at s)) (side_at s) + d
@@ -176,8 +176,8 @@ module _ {d : ℕ} {s t : List ℕ} (all : FieldsShifted d s rate_at t rate_at o
 
 -- ---- the fields from the count's on
 
-module _ {d : ℕ} {s t : List ℕ} (all : FieldsShifted d s (count_at_lem s) t (count_at_lem t) closing_field_count) where
-  count_field_lem : FieldShifted d s (count_at_lem s) t (count_at_lem t)
+module _ {d : ℕ} {s t : List ℕ} (all : FieldsShifted d s (count_at s) t (count_at t) closing_field_count) where
+  count_field_lem : FieldShifted d s (count_at s) t (count_at t)
   count_field_lem = all.0
 
   positions_field_lem : FieldShifted d s (positions_at s) t (positions_at t)
@@ -205,7 +205,7 @@ module _ {d : ℕ} {s t : List ℕ} (all : FieldsShifted d s (count_at_lem s) t 
 
   pub count_tests_shifted : count_tests t ≡ map (further d) (count_tests s)
   count_tests_shifted =
-      further_append d (field_tests s (count_tag ∷ []) (some count_size) (count_at_lem s)) (test (ltb max_points (count_in s)) 15 (count_at_lem s) ∷ [])
+      further_append d (field_tests s (count_tag ∷ []) (some count_size) (count_at s)) (test (ltb max_points (count_in s)) 15 (count_at s) ∷ [])
       (field_tests_shifted count_field_lem (count_tag ∷ []) (some count_size)) (test-shifted count_field_lem 15 (ap (ltb max_points) count_same))
 
   pub room_tests_shifted : (m n : ℕ) → room_tests t m n ≡ map (further d) (room_tests s m n)
@@ -225,7 +225,7 @@ module _ {d : ℕ} {s t : List ℕ} (all : FieldsShifted d s (count_at_lem s) t 
 
 -- ---- the front
 
-pub front_tests_shifted : {d : ℕ} {s t : List ℕ} → FieldsShifted d s rate_at t rate_at opening_field_count → FieldsShifted d s (count_at_lem s) t (count_at_lem t) closing_field_count
+pub front_tests_shifted : {d : ℕ} {s t : List ℕ} → FieldsShifted d s rate_at t rate_at opening_field_count → FieldsShifted d s (count_at s) t (count_at t) closing_field_count
     → (e : ℕ) → front_tests e t ≡ map (further d) (front_tests e s)
 front_tests_shifted {d} {s} front points e =
     further_append d (rate_tests e s) (side_tests s ++ count_tests s) (rate_tests_shifted front e) (further_append d (side_tests s) (count_tests s) (side_tests_shifted front) (count_tests_shifted points))

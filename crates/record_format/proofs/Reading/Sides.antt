@@ -20,7 +20,7 @@ use Rattle.refusals.proofs.Tests.{first_of_skip, first_of_clear}
 use borrow.Author.Tests.{not-false}
 use Rattle.record_format.specs.Fields.{Field, field_of, body_at, next_at, field_tests}
 use Rattle.record_format.specs.Runs.{side_tag, count_tag, side_size, side_fields}
-use Rattle.record_format.specs.Reading.{side_at, has_side, count_at_lem, side_in, side_tests}
+use Rattle.record_format.specs.Reading.{side_at, has_side, count_at, side_in, side_tests}
 use Rattle.record_format.proofs.Fields.{FieldStands, StandAll, Follow, past_all, field_in}
 use Rattle.record_format.proofs.Runs.{side_index}
 use Rattle.record_format.proofs.Reading.{FieldSound, field_passes, field_clear, sound_follows, sound_number}
@@ -37,8 +37,8 @@ module _ (s : List ℕ) where
   stored_tests = field_tests s (side_tag ∷ []) (some side_size) (side_at s) ++ (test (not (is_side (side_in s))) 20 (side_at s) ∷ [])
 
   module _ (absent : has_side s ≡ false) where
-    pub absent_count : count_at_lem s ≡ side_at s
-    unfolding count_at_lem
+    pub absent_count : count_at s ≡ side_at s
+    unfolding count_at
     absent_count = ap (λ (b : Bool). cond b (next_at s (side_at s)) (side_at s)) absent
 
     pub absent_side : side_in s ≡ 0
@@ -49,8 +49,8 @@ module _ (s : List ℕ) where
     absent_tests = ap (λ (b : Bool). cond b stored_tests []) absent
 
   module _ (present : has_side s ≡ true) where
-    pub present_count : count_at_lem s ≡ next_at s (side_at s)
-    unfolding count_at_lem
+    pub present_count : count_at s ≡ next_at s (side_at s)
+    unfolding count_at
     present_count = ap (λ (b : Bool). cond b (next_at s (side_at s)) (side_at s)) present
 
     pub present_side : side_in s ≡ stored
@@ -72,7 +72,7 @@ module _ (s : List ℕ) (c : Field) (counts : c.tag ≡ count_tag) where
   a_side : (b : List ℕ) → FieldStands s (side_at s) (field_of side_tag b) → has_side s ≡ true
   a_side b k = ap (λ (t : ℕ). eqb t side_tag) k.tagged
 
-  pub stand_count : (n : ℕ) → StandAll s (side_at s) (side_fields n) → FieldStands s (past_all s (side_at s) (side_fields n)) c → past_all s (side_at s) (side_fields n) ≡ count_at_lem s
+  pub stand_count : (n : ℕ) → StandAll s (side_at s) (side_fields n) → FieldStands s (past_all s (side_at s) (side_fields n)) c → past_all s (side_at s) (side_fields n) ≡ count_at s
   stand_count zero h k = sym (absent_count s (no_side k))
   stand_count (suc n) h k = sym (present_count s (a_side _ h.0))
 
@@ -111,7 +111,7 @@ side_clear s ts clear = go (has_side s) refl
 -- then it is the field of a side, and the count's stands past it
 pub record SideFollows (s : List ℕ) (n : ℕ) : Type 0 where
   pub follows : Follow s (side_at s) (side_fields n)
-  pub then_count : past_all s (side_at s) (side_fields n) ≡ count_at_lem s
+  pub then_count : past_all s (side_at s) (side_fields n) ≡ count_at s
   pub sided : n ≤ max_side
 
 pub side_follows : (s : List ℕ) → Below 256 s → SideSound s → SideFollows s (side_in s)

@@ -14,7 +14,7 @@ use Rattle.refusals.proofs.Tests.{first_of_clear}
 use Rattle.position_format.specs.Tables.{points_of}
 use Rattle.record_format.specs.Fields.{tag_at}
 use Rattle.record_format.specs.Runs.{rate_tag, count_tag, positions_tag, ratios_tag, rate_size, count_size}
-use Rattle.record_format.specs.Reading.{rate_at, count_at_lem, positions_at, ratios_at, rate_in, count_in, form_in, positions_in, ratios_in, other_rate, side_tests, count_tests, front_tests, positions_tests, ratios_tests, record_tests}
+use Rattle.record_format.specs.Reading.{rate_at, count_at, positions_at, ratios_at, rate_in, count_in, form_in, positions_in, ratios_in, other_rate, side_tests, count_tests, front_tests, positions_tests, ratios_tests, record_tests}
 use Rattle.record_format.proofs.Reading.{FieldSound, field_clear, missing-some, front-flat}
 use Rattle.record_format.proofs.Reading.Sides.{SideSound, side_clear}
 use Rattle.record_format.proofs.Runs.{tag_named}
@@ -26,7 +26,7 @@ pub record FrontSound (s : List ℕ) : Type 0 where
   pub rate : FieldSound s (rate_tag ∷ []) (some rate_size) rate_at
   pub listed : is_rate (rate_in s) ≡ true
   pub side : SideSound s
-  pub count : FieldSound s (count_tag ∷ []) (some count_size) (count_at_lem s)
+  pub count : FieldSound s (count_tag ∷ []) (some count_size) (count_at s)
   pub few : count_in s ≤ max_points
 
 -- and which others are left
@@ -38,7 +38,7 @@ front_clear e s ts clear =
     let a13 = first_of_clear _ _ (lit< tt) a.1 in
     let a14 = first_of_clear _ _ (lit< tt) a13.1 in
     let a20 = side_clear s (count_tests s ++ ts) a14.1 in
-    let b = field_clear s (count_tag ∷ []) (some count_size) (count_at_lem s) (test (ltb max_points (count_in s)) 15 (count_at_lem s) ∷ ts) a20.1 in
+    let b = field_clear s (count_tag ∷ []) (some count_size) (count_at s) (test (ltb max_points (count_in s)) 15 (count_at s) ∷ ts) a20.1 in
     let b15 = first_of_clear _ _ (lit< tt) b.1 in
     (record { rate = a.0; listed = not-false _ a13.0; side = a20.0; count = b.0; few = ltb-false _ _ b15.0 }, b15.1)
 

@@ -29,7 +29,7 @@ use Rattle.ratio_format.specs.Windows.{window_size}
 use Rattle.ratio_format.specs.Bodies.{coded_ratios}
 use Rattle.ratio_format.proofs.Choice.Exceptions.{Apart, all_nine}
 use Rattle.record_format.specs.Claims.{Accepted}
-use Rattle.record_format.specs.Sizes.{max_positions_body, max_ratios_body, first_values, far_of, swing, two_ends_lem, longest}
+use Rattle.record_format.specs.Sizes.{max_positions_body, max_ratios_body, first_values, far_of, swing, two_ends, longest}
 use Rattle.record_format.proofs.Writing.{Fitting, fitting_accepted}
 
 -- ---- the first values of a function
@@ -131,7 +131,7 @@ top_end a h = omega arith
 low_end : (a : ℕ) → a < 128 → a * (2 ^ 56 + 1) % 2 ^ 8 ≡ a
 low_end a h = omega arith
 
-two_ends_lem : (i j : ℕ) → j < i → i ≤ j + window_size → Apart (two_ends_lem i) (two_ends_lem j)
+two_ends_lem : (i j : ℕ) → j < i → i ≤ j + window_size → Apart (two_ends i) (two_ends j)
 two_ends_lem i j h g =
     let other : (i % 128 ≡ j % 128 → ⊥) = λ e. omega arith in
     let m : i % 128 < 128 = omega arith in
@@ -140,16 +140,16 @@ two_ends_lem i j h g =
 
 longest_words : (f : Form) (d : ℕ) → Below (2 ^ 64) (longest f d).ratios
 unfolding longest
-longest_words f d = values_below (2 ^ 64) two_ends_lem (points_of f) (λ i. omega arith)
+longest_words f d = values_below (2 ^ 64) two_ends (points_of f) (λ i. omega arith)
 
 pub longest-ratios : (f : Form) (d : ℕ) → length (coded_ratios (longest f d).ratios) ≡ max_ratios_body f
 unfolding longest
 longest-ratios f d =
-    all_nine window_size (first_values two_ends_lem (points_of f)) (longest_words f d)
+    all_nine window_size (first_values two_ends (points_of f)) (longest_words f d)
     (λ i j h g k.
-    let n : length (first_values two_ends_lem (points_of f)) ≡ points_of f = length_values two_ends_lem (points_of f) in
-    rw (values_at_lem two_ends_lem (points_of f) 0 i (omega arith), values_at_lem two_ends_lem (points_of f) 0 j (omega arith)) (two_ends_lem i j g k))
-    ∙ ap (λ (n : ℕ). 9 * n) (length_values two_ends_lem (points_of f))
+    let n : length (first_values two_ends (points_of f)) ≡ points_of f = length_values two_ends (points_of f) in
+    rw (values_at_lem two_ends (points_of f) 0 i (omega arith), values_at_lem two_ends (points_of f) 0 j (omega arith)) (two_ends_lem i j g k))
+    ∙ ap (λ (n : ℕ). 9 * n) (length_values two_ends (points_of f))
 
 -- ---- the run
 
@@ -162,7 +162,7 @@ unfolding longest is_rate rates member
 longest_fits f d h = record {
   listed = refl;
   sided = h;
-  paired = length_values two_ends_lem (points_of f) ∙ sym (length_values (swing f) (points_of f));
+  paired = length_values two_ends (points_of f) ∙ sym (length_values (swing f) (points_of f));
   few = omega (arith, length_values (swing f) (points_of f));
   valid = longest_valid f;
 }

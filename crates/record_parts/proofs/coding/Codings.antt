@@ -22,7 +22,7 @@ use Rattle.position_format.specs.Tables.{table_of, points_of}
 use Rattle.ratio_format.specs.Bodies.{Taken, whole_taken}
 use Rattle.record_format.specs.Fields.{head_size, tag_at, length_at, body_at, next_at, head_tests, field_tests}
 use Rattle.record_format.specs.Runs.{positions_tags}
-use Rattle.record_format.specs.Reading.{count_at_lem, positions_at, count_in, form_in, positions_tests}
+use Rattle.record_format.specs.Reading.{count_at, positions_at, count_in, form_in, positions_tests}
 use Rattle.record_format.proofs.Reading.{positions_few, positions_many, many_tag}
 use Rattle.record_parts.specs.declared.field.FieldBody.{FieldBody}
 use Rattle.record_parts.specs.Fields.{PartRead, FieldRead, FoundInto, CodedRead}
@@ -135,7 +135,7 @@ module _ (s : List ℕ) (form : Form) (count at : ℕ) (is : form ≡ form_in s)
       ∙ ap (λ (f : Form). both (leb (at + head_size) (length s)) (ltb (points_of f) count)) (sym is) ∙ sym et
 
   -- then it is refused
-  pub many_refused : t ≡ true → count ≤ max_points → (place : ℕ) → place ≡ count_at_lem s → refusal 15 place ≡ first_of (positions_tests s)
+  pub many_refused : t ≡ true → count ≤ max_points → (place : ℕ) → place ≡ count_at s → refusal 15 place ≡ first_of (positions_tests s)
   many_refused e few place there =
       let p = both_true (leb (positions_at s + head_size) (length s)) _ (tested ∙ e) in
       ap (refusal 15) there

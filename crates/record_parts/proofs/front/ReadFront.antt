@@ -19,7 +19,7 @@ use Rattle.refusals.specs.Tests.{Test, test, refusal, first_of, no_refusal}
 use Rattle.refusals.proofs.Tests.{first_of_here, first_of_skip, first_of_clear, first_of_end, first_of-append-none, first_of-append-some}
 use Rattle.record_format.specs.Fields.{body_at, next_at, field_tests}
 use Rattle.record_format.specs.Runs.{rate_tag, side_tag, count_tag, rate_size, side_size, count_size}
-use Rattle.record_format.specs.Reading.{rate_at, side_at, has_side, count_at_lem, rate_in, count_in, other_rate, rate_tests, side_tests, count_tests, front_tests}
+use Rattle.record_format.specs.Reading.{rate_at, side_at, has_side, count_at, rate_in, count_in, other_rate, rate_tests, side_tests, count_tests, front_tests}
 use Rattle.record_format.proofs.Reading.{field_clear, side_numbered}
 use Rattle.record_format.proofs.Reading.Sides.{absent_count, absent_side, absent_tests, present_count, present_side, present_tests}
 use Rattle.record_parts.specs.declared.field.FieldBody.{FieldBody}
@@ -122,7 +122,7 @@ module _ (s : List ℕ) (p : ℕ) (at : p ≡ side_at s) (present : has_side s �
   -- its field and its contents, as they are read
   as_side : (r : Number) → NumberRead side_size (field_tests s (side_tag ∷ []) (some side_size) p ++ found) s p r → SideRead s r
   as_side r k =
-      let past : next_at s p ≡ count_at_lem s = ap (next_at s) at ∙ sym (present_count s present) in
+      let past : next_at s p ≡ count_at s = ap (next_at s) at ∙ sym (present_count s present) in
       record {
         refuses =
             k.part.refuses
@@ -154,7 +154,7 @@ module _ (s : List ℕ) (p : ℕ) (at : p ≡ side_at s) (present : has_side s �
 abbrev count_contents : ℕ → ℕ → List Test
 count_contents q c = test (ltb max_points c) 15 q ∷ []
 
-module _ (s : List ℕ) (p : ℕ) (at : p ≡ count_at_lem s) (f : Number) (h : NumberRead count_size (field_tests s (count_tag ∷ []) (some count_size) p) s p f) where
+module _ (s : List ℕ) (p : ℕ) (at : p ≡ count_at s) (f : Number) (h : NumberRead count_size (field_tests s (count_tag ∷ []) (some count_size) p) s p f) where
   tests_at : field_tests s (count_tag ∷ []) (some count_size) p ++ count_contents p (number_of 256 (body_at s p)) ≡ count_tests s
   tests_at = ap (λ (q : ℕ). field_tests s (count_tag ∷ []) (some count_size) q ++ count_contents q (number_of 256 (body_at s q))) at
 
@@ -211,15 +211,15 @@ module _ (e : ℕ) (s : List ℕ) (f : Number) (h : NumberRead rate_size (rate_t
 
       few_in : g.refusal.number ≡ 0 → count_in s ≤ max_points
       few_in z =
-          let c = field_clear s (count_tag ∷ []) (some count_size) (count_at_lem s) (count_contents (count_at_lem s) (count_in s)) (sym (numbers k.part.refuses) ∙ z) in
+          let c = field_clear s (count_tag ∷ []) (some count_size) (count_at s) (count_contents (count_at s) (count_in s)) (sym (numbers k.part.refuses) ∙ z) in
           ltb-false max_points (count_in s) (first_of_clear _ _ (lit< tt) c.1).0
 
       pub front-found : g.refusal.number ≡ 0
           → FrontRead e s (record { refusal = g.refusal; rate = f.value; side = d.value; count = g.value; place = d.end; end = g.end })
       front-found z =
-          let at : d.end ≡ count_at_lem s = i.next sided in
+          let at : d.end ≡ count_at s = i.next sided in
           let counted : g.value ≡ count_in s = k.value z ∙ ap (λ (q : ℕ). number_of 256 (body_at s q)) at in
-          let next : next_at s d.end ≡ next_at s (count_at_lem s) = ap (next_at s) at in
+          let next : next_at s d.end ≡ next_at s (count_at s) = ap (next_at s) at in
           record {
             refuses = k.part.refuses ∙ sym past_side;
             found = λ _. record {

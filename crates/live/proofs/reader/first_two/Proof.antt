@@ -48,7 +48,7 @@ use Rattle.ratio_format.specs.Stepping.{made, made_body, made_cursor, step_answe
 use Rattle.live.specs.declared.reader.Reader.{Reader}
 use Rattle.live.specs.declared.reader.Making.{Making}
 use Rattle.live.specs.declared.reader.Two.{Two}
-use Rattle.live.specs.Readers.{cursor_of, next_answer, next_reader, first_two_lem}
+use Rattle.live.specs.Readers.{cursor_of, next_answer, next_reader, first_two}
 use Rattle.refusals.specs.contracts.Refusal as TF
 use Rattle.refusals.proofs.Refusal.TheLaws as TF'
 use Rattle.ratio_format.specs.contracts.StepAnswer as TS
@@ -94,16 +94,16 @@ SaidNext r t r' = (t ≡ next_answer r) × (r' ≡ next_reader r)
 
 -- ---- the law, with no program in it
 module _ (xs : List ℕ) (n : ℕ) (m : Refusal) (r r' r'' : Reader) (t t' : StepAnswer) (e : SaidMake xs n m r) (e₁ : SaidNext r t r') (e₂ : SaidNext r' t' r'') where
-  one : next_answer r ≡ (first_two_lem xs n).first
+  one : next_answer r ≡ (first_two xs n).first
   one = ap₂ step_answer e.1 e.2
 
-  other : next_answer r' ≡ (first_two_lem xs n).second
+  other : next_answer r' ≡ (first_two xs n).second
   other = ap next_answer e₁.1 ∙ ap₂ (λ (b : List ℕ) (c : Cursor). step_answer b (step_cursor b c)) e.1 e.2
 
   abbrev got : Two
   got = record { made = m; first = t; second = t' }
 
-  law : got ≡ first_two_lem xs n
+  law : got ≡ first_two xs n
   law =
       ap (λ (y : Refusal). record { made = y; first = t; second = t' }) e.0
       ∙ ap₂ (λ (y z : StepAnswer). record { made = made n; first = y; second = z }) (e₁.0 ∙ one) (e₂.0 ∙ other)
@@ -182,7 +182,7 @@ module _ {M : Type 1} {𝓤 : Ura M} (𝓛 : Logic 𝓤) (at_mem : Memory → SP
       → Is TW.the_row (record { made = m; first = t; second = t' }) (LL.val TW.the_type TW'.the_laws (record { made = m; first = t; second = t' }) ∷ [])
   two_is m t t' g g₁ g₂ = LL.owes TW.the_type TW'.the_laws (record { made = m; first = t; second = t' }) (g, (g₁, (g₂, tt)))
 
-  exits : (d : Two) → Is TW.the_row d (LL.val TW.the_type TW'.the_laws d ∷ []) → d ≡ first_two_lem x.now n → ent 𝓤 (⋆ 𝓛 (‵ (flft κ q) ∷ ‵ (body_owns κ x) ∷ [])) (Post (LL.val TW.the_type TW'.the_laws d))
+  exits : (d : Two) → Is TW.the_row d (LL.val TW.the_type TW'.the_laws d ∷ []) → d ≡ first_two x.now n → ent 𝓤 (⋆ 𝓛 (‵ (flft κ q) ∷ ‵ (body_owns κ x) ∷ [])) (Post (LL.val TW.the_type TW'.the_laws d))
   exits d is e =
       qed 𝓛 (‵ (flft κ q) ∷ ‵ (body_owns κ x) ∷ []) ∵
       suffices ! _ (ends_at 𝓛 two.ended stayed (two.clauses 𝓛 at_mem run) (((κ, tt), (q, tt), tt, passed x n, passed_vals x n), tt) (LL.val TW.the_type TW'.the_laws d) d (tt, (tt, tt)) (tt, (tt, tt))) $ says ! e $

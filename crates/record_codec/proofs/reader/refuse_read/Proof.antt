@@ -1,7 +1,7 @@
 -- `refuse_read` meets its contract: both outputs are cleared.
 use mathlib.Core.Path.{ap}
 use borrow.Author.Rules.{rules}
-use Rattle.record_format.specs.Fetching.{as_read_lem}
+use Rattle.record_format.specs.Fetching.{as_read}
 use Rattle.record_codec.proofs.reader.refuse_read.Statement.{statement}
 use Rattle.record_codec.proofs.reader.refuse_read.Tie as tie
 
@@ -28,7 +28,7 @@ same-length-2 : tie.Need-same-length-2
 same-length-2 c = search rules
 
 returns : tie.Need-returns
-returns c = (ap as_read_lem c.refused-check.ensures, (positions (ratios c)).clear-numbers.ensures, (ratios c).clear-numbers2.ensures)
+returns c = (ap as_read c.refused-check.ensures, (positions (ratios c)).clear-numbers.ensures, (ratios c).clear-numbers2.ensures)
 
 pub refuse-read-spec : {M : Type 1} → statement M
 refuse-read-spec =

@@ -4,7 +4,7 @@ use native.Mathlib.Omega.{arith}
 use borrow.Author.Rules.{rules}
 use Rattle.record_format.specs.Fields.{field_of}
 use Rattle.record_format.proofs.Fields.{length-laid}
-use Rattle.record_parts.specs.Fields.{tag_of, coded_by_lem}
+use Rattle.record_parts.specs.Fields.{tag_of, coded_by}
 use Rattle.record_parts.proofs.putting.Writings.{field_none, field_fits, field_done}
 use Rattle.record_parts.proofs.putting.put_coded.Statement.{statement}
 use Rattle.record_parts.proofs.putting.put_coded.Tie as tie
@@ -28,7 +28,7 @@ headed k = k.before.before.before.before
 returns : tie.Need-returns
 returns c =
     let a = c.before.before.before.args in
-    omega (arith, length-laid (field_of (tag_of a.coding) (coded_by_lem a.coding a.numbers.now) ∷ []), c.if1.true)
+    omega (arith, length-laid (field_of (tag_of a.coding) (coded_by a.coding a.numbers.now) ∷ []), c.if1.true)
 
 sub-put-body : tie.Need-overflow-sub-put-body
 sub-put-body c = search rules
@@ -55,7 +55,7 @@ returns-2 : tie.Need-returns-2
 returns-2 c =
     let p = c.before.before.before.before in
     let a = (entry (roomy p)).args in
-    field_none (tag_of a.coding) (coded_by_lem a.coding a.numbers.now) a.out.now _ _ (roomy p).if1.false p.put-body.ensures c.enum_told.given.1
+    field_none (tag_of a.coding) (coded_by a.coding a.numbers.now) a.out.now _ _ (roomy p).if1.false p.put-body.ensures c.enum_told.given.1
 
 tag-of-requires : tie.Need-tag-of-requires
 tag-of-requires c κs = search rules
@@ -68,7 +68,7 @@ add-t5 c =
     let k = headed c.before.before in
     let p = wrote k in
     let a = (entry (roomy p)).args in
-    let fits = field_fits (tag_of a.coding) (coded_by_lem a.coding a.numbers.now) a.out.now _ _ (roomy p).if1.left p.put-body.ensures _ k.n.given.1 in
+    let fits = field_fits (tag_of a.coding) (coded_by a.coding a.numbers.now) a.out.now _ _ (roomy p).if1.left p.put-body.ensures _ k.n.given.1 in
     omega arith
 
 same-length-2 : tie.Need-same-length-2
@@ -80,7 +80,7 @@ returns-3 c =
     let k = headed h in
     let p = wrote k in
     let a = (entry (roomy p)).args in
-    field_done (tag_of a.coding) (coded_by_lem a.coding a.numbers.now) a.out.now _ _ (roomy p).if1.left p.put-body.ensures _ k.n.given.1 _ _ h.before.tag_of.ensures h.put-head.ensures
+    field_done (tag_of a.coding) (coded_by a.coding a.numbers.now) a.out.now _ _ (roomy p).if1.left p.put-body.ensures _ k.n.given.1 _ _ h.before.tag_of.ensures h.put-head.ensures
 
 pub put-coded-spec : {M : Type 1} → statement M
 put-coded-spec =

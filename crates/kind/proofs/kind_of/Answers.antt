@@ -1,0 +1,17 @@
+use mathlib.Core.Path.{sym, ap}
+use native.Mathlib.Omega.{arith}
+use Rattle.kind.specs.Kinds.{kind_at}
+use Rattle.kind.proofs.Claims.Values.{value_above, value_equal, value_not_nan, value_below}
+use Rattle.kind.proofs.kind_of.Goals as goal
+
+pub returns-then-magnitude-gt-INFINITY : goal.returns-then-magnitude-gt-INFINITY
+returns-then-magnitude-gt-INFINITY c = let n = c.args.ratio in sym (ap (kind_at n) (value_above n c.if-magnitude-gt-INFINITY.true))
+
+pub returns-then-magnitude-eq-INFINITY : goal.returns-then-magnitude-eq-INFINITY
+returns-then-magnitude-eq-INFINITY c = let n = c.args.ratio in sym (ap (kind_at n) (value_equal n c.if-magnitude-eq-INFINITY.true))
+
+pub float_from_bits-result : goal.float_from_bits-result
+float_from_bits-result c = value_not_nan c.args.ratio c.if-magnitude-gt-INFINITY.false
+
+pub returns : goal.returns
+returns c = value_below c.args.ratio (omega arith) (omega arith)

@@ -161,7 +161,8 @@ laid_stand before (f ∷ fs) rest small = go (laid_stand (before ++ field_bytes 
         let here = field_stands before f (laid fs ++ rest) small.0 in
         let e : next_at (before ++ (field_bytes f ++ (laid fs ++ rest))) (length before) ≡ length (before ++ field_bytes f) =
         here.next ∙ sym (length-append before (field_bytes f)) in
-        rw first (here, rw e (subst (λ (l : List ℕ). StandAll l (length (before ++ field_bytes f)) fs) later h))
+        subst (λ (l : List ℕ). StandAll l (length before) (f ∷ fs)) (sym first)
+        (here, rw e (subst (λ (l : List ℕ). StandAll l (length (before ++ field_bytes f)) fs) later h))
 
 -- the offset past the fields fs, which stand from p on
 abbrev pub past_all : List ℕ → ℕ → List Field → ℕ

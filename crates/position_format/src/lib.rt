@@ -3,7 +3,7 @@
 
 // The form that positions are coded in: by document 01's table of steps, or by the wide one, which has a code for every
 // step between positions in range.
-#[derive(Drop)]
+#[derive(Clone, Copy)]
 pub enum Form {
     Old,
     Wide,

@@ -10,7 +10,7 @@ use bits::byte_of;
 use ratio_window::{lead_zeros, trail_zeros};
 
 // Two pairs of byte positions, a with b and c with d.
-#[derive(Drop)]
+#[derive(Clone, Copy)]
 pub struct Pairs {
     pub a: usize,
     pub b: usize,

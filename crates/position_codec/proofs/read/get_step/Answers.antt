@@ -1,0 +1,11 @@
+use native.Mathlib.Omega.{arith}
+use lib.ListN.{drop}
+use Rattle.bits.specs.Packing.{bits}
+use Rattle.bits.proofs.Packing.{length_left}
+use Rattle.position_format.specs.Tables.{table_of}
+use Rattle.position_format.proofs.Tables.{most_bits, form_sound}
+use Rattle.position_codec.proofs.Found.StepFound.{found_none}
+use Rattle.position_codec.proofs.read.get_step.Goals as goal
+
+pub returns-then-at-body : goal.returns-then-at-body
+returns-then-at-body c = found_none 1 (most_bits c.args.form) (table_of c.args.form) (form_sound c.args.form).lengths (omega arith) (drop c.args.at (bits c.args.body.now)) (omega (arith, length_left c.args.body.now c.args.at))

@@ -1,0 +1,10 @@
+use mathlib.Core.Path.{sym}
+use native.Mathlib.Omega.{arith}
+use Rattle.bits.proofs.Packing.Fill.{fill_long, fill_by}
+use Rattle.position_codec.proofs.read.is_fill.Goals as goal
+
+pub returns-then-left-gt7 : goal.returns-then-left-gt7
+returns-then-left-gt7 c = sym (fill_long c.args.body.now c.args.at c.requires.inside (omega arith))
+
+pub returns : goal.returns
+returns c = fill_by c.args.body.now c.args.at c.requires.inside (omega arith) c.get_bits.result c.get_bits.ensures.0

@@ -1,0 +1,6 @@
+use native.Mathlib.Omega.{arith}
+use Rattle.bits.proofs.Digits.{length_digits}
+use Rattle.ratio_codec.proofs.write.put_xor.Goals as goal
+
+pub returns-then-out-len : goal.returns-then-out-len
+returns-then-out-len c = omega (arith, length_digits 256 c.args.len c.args.middle)

@@ -16,17 +16,16 @@ use mathlib.Core.List.{List, [], ◌∷◌, ◌++◌, append-nil}
 use Prim.Native.Nat.{ℕ, zero, ◌+◌, ◌<◌, ◌^◌}
 use lib.ListN.{take}
 use seplogic.Ra.Ura.{Ura}
-use seplogic.Ra.TreeShare.PosShare
-use seplogic.Ra.TreeShare.{full_share}
-use mir.Syntax.{Width, Ty, Lifetime, Fn, Name, Place, place, field, Body, seq, assign, call, Rv as RValue, Opd as Operand, copy}
+use mir.Syntax.{Width, Ty, Lifetime, Fn, Callee, Place, place, field, Body, seq, assign, call, Rv as RValue, Opd as Operand, copy}
 use mir.Val.{Val, bits, vint, vptr}
+use base.Fraction.{full_share, left, right}
 use base.Logic.{SProp, ent, sep, emp, via, comm∗, assoc∗, assoc', mono_l, mono_r, fst∗, emp∗, id⊢}
 use base.Stored.{Gv}
 use base.Fml.{Lft, Share, GName, Fml, ftrue, fsep, fat, froom, fdies, flft, fdead, feq, fobs, fauth, fres, fbor, fobor, flent}
 use prog.Memory.{field_of}
 use prog.Wp.{Env, Calls, Loops, WpFn, Closed, release, spot_of}
 use prog.Model.{Model}
-use prog.Routine.{Env as Bindings, Name as Key}
+use prog.Routine.{Env as Bindings}
 use types.Logic.{Logic, sem}
 use sound.WpLaws.{FmC, fm_of, WpFn-mono}
 use contract.Monad.{fact}
@@ -60,7 +59,7 @@ use denote.Triple.Walked.{Stays, AllGo, walk_of, walked, walk_Meets}
 
 -- ---- from a walk to the theorem
 
-module _ {M : Type 1} {𝓤 : Ura M} (𝓛 : Logic 𝓤) (𝓜 : Model 𝓤 𝓛.H) (𝓡 : Running 𝓤 𝓛.H 𝓜) (γ : Bindings) (k : Key) (f : Fn)
+module _ {M : Type 1} {𝓤 : Ura M} (𝓛 : Logic 𝓤) (𝓜 : Model 𝓤 𝓛.H) (𝓡 : Running 𝓤 𝓛.H 𝓜) (γ : Bindings) (k : Callee) (f : Fn)
     (closed : Closed 𝓤 𝓛.H (tables 𝓤 𝓛.H 𝓜 𝓡 γ).C (tables 𝓤 𝓛.H 𝓜 𝓡 γ).Λ k f) (T : Ended) (hs : Stays T.signature.params T.kept) (c : Clauses 𝓤 T) where
   open 𝓛 use {H}
 
@@ -148,11 +147,11 @@ token_of κ q = ‵ (flft κ q) ⊛ ‵ ftrue
 
 -- the tokens of a callee with two lifetimes: that of a loan within κ, and κ
 abbrev pub lent_for : {M : Type 1} {𝓤 : Ura M} → Lft → Share → ℕ → Item 𝓤
-lent_for κ q α = ‵ (flft (α ∷ κ) (PosShare.left q)) ⊛ ‵ (flft κ (PosShare.right q)) ⊛ ‵ ftrue
+lent_for κ q α = ‵ (flft (α ∷ κ) (left q)) ⊛ ‵ (flft κ (right q)) ⊛ ‵ ftrue
 
 module _ {M : Type 1} {𝓤 : Ura M} {𝓛 : Logic 𝓤} {K : Type 0} where
   -- P is what the parameters leave
-  pub answers : K → (D : Declared) → Plains (fields D) → (x : D.D) (vs : List Val) {P : Fml} → Is (row D) x vs → Seq K 𝓛 (‵ P ∷ []) (prop (⋆ 𝓛 (‵ P ∷ ‵ ((row D).own x vs) ∷ [])))
+  pub answers : K → (D : Declared) → Plains (fields D) → (x : D.D) (vs : List Val) {P : Fml} → Is (row D) x vs → Seq K 𝓛 (‵ P ∷ []) (prop (⋆ 𝓛 (‵ P ∷ ‵ ((row D).own_val x vs) ∷ [])))
   answers t D plain x vs is = owned t (row D) (Is (row D)) (LL.makes D plain 𝓛) x vs is $ move t (1 ∷ 0 ∷ []) $ done t
 
 module _ {M : Type 1} {𝓤 : Ura M} {𝓛 : Logic 𝓤} {K : Type 0} {Γ : List (Item 𝓤)} where
@@ -173,13 +172,13 @@ module _ {M : Type 1} {𝓤 : Ura M} {𝓛 : Logic 𝓤} {K : Type 0} {Γ : List
   -- ---- what values own
 
   module _ {G : Goal 𝓤 H} where
-    pub with_owned : K → (R : RattleType) → Makes 𝓛 R (Is R) → (x : R.Denot) (vs : List Val) {P : Fml} → Is R x vs → Step K 𝓛 (‵ (fsep (R.own x vs) P) ∷ Γ) G (‵ P ∷ Γ) G
+    pub with_owned : K → (R : RattleType) → Makes 𝓛 R (Is R) → (x : R.Denot) (vs : List Val) {P : Fml} → Is R x vs → Step K 𝓛 (‵ (fsep (R.own_val x vs) P) ∷ Γ) G (‵ P ∷ Γ) G
     with_owned t R makes x vs is = step (λ s. owned t R (Is R) makes x vs is $ fjoin t $ s)
 
     pub with_uint : K → (w : Width) (n : ℕ) {P : Fml} → n < 2 ^ bits w → Step K 𝓛 (‵ (fsep ((UInt w).own_val n (vint w n ∷ [])) P) ∷ Γ) G (‵ P ∷ Γ) G
     with_uint t w n fits = with_owned t (UInt w) (uint_Makes 𝓛 w) n (vint w n ∷ []) (refl, fits)
 
-    pub with_struct : K → (D : Declared) → Plains (fields D) → (x : D.D) (vs : List Val) {P : Fml} → Is (row D) x vs → Step K 𝓛 (‵ (fsep ((row D).own x vs) P) ∷ Γ) G (‵ P ∷ Γ) G
+    pub with_struct : K → (D : Declared) → Plains (fields D) → (x : D.D) (vs : List Val) {P : Fml} → Is (row D) x vs → Step K 𝓛 (‵ (fsep ((row D).own_val x vs) P) ∷ Γ) G (‵ P ∷ Γ) G
     with_struct t D plain x vs is = with_owned t (row D) (LL.makes D plain 𝓛) x vs is
 
   -- ---- locals that hold structs
@@ -212,7 +211,7 @@ module _ {M : Type 1} {𝓤 : Ura M} {𝓛 : Logic 𝓤} {K : Type 0} {Γ : List
 
   -- ---- a call
 
-  module _ {E : Env 𝓤 H} {C : Calls 𝓤 H} {Λ : Loops 𝓤 H} {q : Post 𝓤 H} {f : Name} {xs : List Operand} {d : Place} {rest : Body} where
+  module _ {E : Env 𝓤 H} {C : Calls 𝓤 H} {Λ : Loops 𝓤 H} {q : Post 𝓤 H} {f : Callee} {xs : List Operand} {d : Place} {rest : Body} where
     -- The callee has the contract c over T; y is what its triple binds outside, and o the tokens of its lifetimes. It asks no more than its types own.
     -- φ is what it ensures of its result and of the last values of what it was lent, and v the machine value that the result's type tells.
     pub calls_on : K → FmC 𝓤 H 𝓛.laws C → (T : Ended) (c : Clauses 𝓤 T) → Triple 𝓤 (C f) (triple_of 𝓛 T.signature (closing 𝓛 T c))
@@ -225,7 +224,7 @@ module _ {M : Type 1} {𝓤 : Ura M} {𝓛 : Logic 𝓤} {K : Type 0} {Γ : List
         → (φ : Res S κs → Lasts T κs a → Type 0) → ((r : Res S κs) (ws : Lasts T κs a) → ent 𝓤 ((c κs a).ensures y.1 r (at_exit T κs a ws)) (fact 𝓤 (φ r ws)))
         → (v : Res S κs → Val) → Tells R (Is R) (λ r. v r ∷ [])
         → Opds K 𝓛 (raw ((triple_of 𝓛 S (closing 𝓛 T c)).pre y) ∷ Γ) E xs ((triple_of 𝓛 S (closing 𝓛 T c)).args y)
-        → ((r : Res S κs) (ws : Lasts T κs a) → φ r ws → Is R r (v r ∷ []) → Seq K 𝓛 (‵ (R.own r (v r ∷ [])) ∷ o ∷ ‵ (lasts T κs a ws) ∷ Γ) (lands C Λ E d (v r) rest q))
+        → ((r : Res S κs) (ws : Lasts T κs a) → φ r ws → Is R r (v r ∷ []) → Seq K 𝓛 (‵ (R.own_val r (v r ∷ [])) ∷ o ∷ ‵ (lasts T κs a ws) ∷ Γ) (lands C Λ E d (v r) rest q))
         → Seq K 𝓛 (o ∷ ‵ (owns (types_at S.params κs) a y.0.4) ∷ Γ) (runs C Λ E (seq (call f xs d) rest) q)
     calls_on t fm T c known y o eo er φ said v tells os k =
         let S = T.signature in
@@ -238,12 +237,12 @@ module _ {M : Type 1} {𝓤 : Ura M} {𝓛 : Logic 𝓤} {K : Type 0} {Γ : List
         (via 𝓤 (sep 𝓤 (emp 𝓤) P) (emp∗ 𝓤 P) (via 𝓤 (sep 𝓤 P (emp 𝓤)) (comm∗ 𝓤 (emp 𝓤) P) (subst (λ (X : SProp 𝓤). ent 𝓤 (sep 𝓤 P (emp 𝓤)) (sep 𝓤 P X)) er (id⊢ 𝓤 _)))) in
         use2 𝓛 (raw ((triple_of 𝓛 S (closing 𝓛 T c)).pre y)) asks $
         calls_at t fm (triple_of 𝓛 S (closing 𝓛 T c)) known y os (λ w.
-        use1 𝓛 (later (some (λ (r : Res S κs). (raw (alive 𝓛 S κs y.0.1) ⊛ ‵ (R.own r (w ∷ []))) ⊛ some (λ (ws : Lasts T κs a). ‵ (lasts T κs a ws) ⊛ raw ((c κs a).ensures y.1 r (at_exit T κs a ws)))))) (id⊢ 𝓤 _) $ await t tt $ pick t (λ r.
+        use1 𝓛 (later (some (λ (r : Res S κs). (raw (alive 𝓛 S κs y.0.1) ⊛ ‵ (R.own_val r (w ∷ []))) ⊛ some (λ (ws : Lasts T κs a). ‵ (lasts T κs a ws) ⊛ raw ((c κs a).ensures y.1 r (at_exit T κs a ws)))))) (id⊢ 𝓤 _) $ await t tt $ pick t (λ r.
         split t $ move t (1 ∷ []) $ pick t (λ ws. split t $ move t (1 ∷ []) $ use1 𝓛 (raw (fact 𝓤 (φ r ws))) (said r ws) $ heard t (φ r ws) (λ e.
         move t (1 ∷ []) $ split t $ use1 𝓛 o (subst (λ (X : SProp 𝓤). ent 𝓤 (alive 𝓛 S κs y.0.1) X) (sym eo) (id⊢ 𝓤 _)) $ move t (1 ∷ []) $
         peeks t R (Is R) (shows 𝓛 R) r (w ∷ []) (λ is.
         let ew : w ≡ v r = ap only (tells r (w ∷ []) is) in
-        subst (λ (u : Val). Seq K 𝓛 (‵ (R.own r (u ∷ [])) ∷ o ∷ ‵ (lasts T κs a ws) ∷ Γ) (lands C Λ E d u rest q)) (sym ew)
+        subst (λ (u : Val). Seq K 𝓛 (‵ (R.own_val r (u ∷ [])) ∷ o ∷ ‵ (lasts T κs a ws) ∷ Γ) (lands C Λ E d u rest q)) (sym ew)
         (k r ws e (subst (λ (u : Val). Is R r (u ∷ [])) ew is)))))))
 
   -- ---- a struct that is lent
@@ -253,7 +252,7 @@ module _ {M : Type 1} {𝓤 : Ura M} {𝓛 : Logic 𝓤} {K : Type 0} {Γ : List
     pub opened : K → Soaks G → (D : Declared) (L : LL.Laws D) (τ : Ty) {κ : Lft} {q : Share} {γ : GName} (h : D.D) (b o : ℕ)
         → ent 𝓤 (sem 𝓛 (cell_at full_share (row D).mir (LL.vals D L h) b o)) (H.at full_share τ b o (LL.val D L h))
         → (Is (row D) h (LL.vals D L h)
-        → Seq K 𝓛 (‵ (fat full_share τ b o (LL.val D L h)) ∷ ‵ ((row D).own h (LL.vals D L h)) ∷ ‵ (fobor κ q (Borrowed (mem (row D)) b o γ)) ∷ ‵ (fobs γ ((row D).coded.code h)) ∷ ‵ (fauth γ ((row D).coded.code h)) ∷ Γ) G)
+        → Seq K 𝓛 (‵ (fat full_share τ b o (LL.val D L h)) ∷ ‵ ((row D).own_val h (LL.vals D L h)) ∷ ‵ (fobor κ q (Borrowed (mem (row D)) b o γ)) ∷ ‵ (fobs γ ((row D).coded.code h)) ∷ ‵ (fauth γ ((row D).coded.code h)) ∷ Γ) G)
         → Seq K 𝓛 (‵ (fobs γ ((row D).coded.code h)) ∷ ‵ (fbor κ (Borrowed (mem (row D)) b o γ)) ∷ ‵ (flft κ q) ∷ Γ) G
     opened t z D L τ h b o out k =
         opens t z (row D) {h = h} b o (λ vs. spelt t (row D) (Is (row D)) (shows 𝓛 (row D)) (LL.vals D L) (LL.tells D L) full_share h vs b o $
@@ -263,28 +262,28 @@ module _ {M : Type 1} {𝓤 : Ura M} {𝓛 : Logic 𝓤} {K : Type 0} {Γ : List
     pub closed : K → Soaks G → (D : Declared) (L : LL.Laws D) {τ : Ty} {κ : Lft} {q : Share} {γ : GName} {u v : Gv} (h' : D.D) (b o : ℕ)
         → ent 𝓤 (H.at full_share τ b o (LL.val D L h')) (sem 𝓛 (cell_at full_share (row D).mir (LL.vals D L h') b o))
         → Step K 𝓛 (‵ (fobs γ ((row D).coded.code h')) ∷ ‵ (fbor κ (Borrowed (mem (row D)) b o γ)) ∷ ‵ (flft κ q) ∷ Γ) G
-        (‵ (fat full_share τ b o (LL.val D L h')) ∷ ‵ ((row D).own h' (LL.vals D L h')) ∷ ‵ (fobor κ q (Borrowed (mem (row D)) b o γ)) ∷ ‵ (fobs γ u) ∷ ‵ (fauth γ v) ∷ Γ) G
+        (‵ (fat full_share τ b o (LL.val D L h')) ∷ ‵ ((row D).own_val h' (LL.vals D L h')) ∷ ‵ (fobor κ q (Borrowed (mem (row D)) b o γ)) ∷ ‵ (fobs γ u) ∷ ‵ (fauth γ v) ∷ Γ) G
     closed t z D L h' b o into = step (λ s. use1 𝓛 (‵ (cell_at full_share (row D).mir (LL.vals D L h') b o)) into $ closes t z (row D) h' (LL.vals D L h') b o $ s)
 
     -- a local at l that holds h is lent for a call
     pub lends_local : K → Soaks G → (R : RattleType) (κ : Lft) (q : Share) (l : ℕ) (ℓ : Lifetime) (h : R.Denot) (vs : List Val)
-        → ((α : ℕ) (δ : GName) → Seq K 𝓛 (lent_for κ q α ∷ ‵ (fsep ((MutRef ℓ (α ∷ κ) R).own_val (record { ref_ptr = (l, 0); ghost_name = δ; now = h }) (vptr l 0 ∷ [])) ftrue) ∷ ‵ (flent (α ∷ κ) (Borrowed (mem R) l 0 δ)) ∷ raw (Rest 𝓛 α (PosShare.left q)) ∷ Γ) G)
-        → Seq K 𝓛 (‵ (cell_at full_share R.mir vs l 0) ∷ ‵ (R.own h vs) ∷ ‵ (flft κ q) ∷ Γ) G
+        → ((α : ℕ) (δ : GName) → Seq K 𝓛 (lent_for κ q α ∷ ‵ (fsep ((MutRef ℓ (α ∷ κ) R).own_val (record { ref_ptr = (l, 0); ghost_name = δ; now = h }) (vptr l 0 ∷ [])) ftrue) ∷ ‵ (flent (α ∷ κ) (Borrowed (mem R) l 0 δ)) ∷ raw (Rest 𝓛 α (left q)) ∷ Γ) G)
+        → Seq K 𝓛 (‵ (cell_at full_share R.mir vs l 0) ∷ ‵ (R.own_val h vs) ∷ ‵ (flft κ q) ∷ Γ) G
     unfolding part_of
     lends_local t z R κ q l ℓ h vs k =
-        fjoin t $ fpack t (List Val) (λ us. fsep (cell_at full_share R.mir us l 0) (R.own h us)) vs $
-        lft_new t z (λ α. move t (2 ∷ []) $ use1 𝓛 (‵ (flft κ (PosShare.left q)) ⊛ ‵ (flft κ (PosShare.right q))) (𝓛.lfts.lft_split κ q) $ split t $ move t (2 ∷ 0 ∷ []) $
-        use2 𝓛 (‵ (flft (α ∷ κ) (PosShare.left q)) ⊛ raw (Rest 𝓛 α (PosShare.left q))) (within_token 𝓛 α κ (PosShare.left q)) $ split t $ move t (3 ∷ []) $
+        fjoin t $ fpack t (List Val) (λ us. fsep (cell_at full_share R.mir us l 0) (R.own_val h us)) vs $
+        lft_new t z (λ α. move t (2 ∷ []) $ use1 𝓛 (‵ (flft κ (left q)) ⊛ ‵ (flft κ (right q))) (𝓛.lfts.lft_split κ q) $ split t $ move t (2 ∷ 0 ∷ []) $
+        use2 𝓛 (‵ (flft (α ∷ κ) (left q)) ⊛ raw (Rest 𝓛 α (left q))) (within_token 𝓛 α κ (left q)) $ split t $ move t (3 ∷ []) $
         use1 𝓛 (later (some (λ (δ : GName). ‵ ((MutRef ℓ (α ∷ κ) R).own_val (record { ref_ptr = (l, 0); ghost_name = δ; now = h }) (vptr l 0 ∷ [])) ⊛ ‵ (flent (α ∷ κ) (Borrowed (mem R) l 0 δ))))) (lends_ref 𝓛 R ℓ (α ∷ κ) h l 0) $ await t z $ pick t (λ δ. split t $
         nothing t $ move t (1 ∷ 0 ∷ []) $ fjoin t $ nothing t $ move t (5 ∷ 0 ∷ []) $ join t $ move t (3 ∷ 0 ∷ []) $ join t $ move t (0 ∷ 1 ∷ 2 ∷ 3 ∷ []) $ k α δ))
 
-    -- and had back at h'
-    pub had_back : K → Soaks G → (R : RattleType) (κ : Lft) (q : Share) (l : ℕ) {α : ℕ} {δ : GName} (h' : R.Denot) (vals : R.Denot → List Val) → Tells R (Is R) vals
-        → Step K 𝓛 (‵ (cell_at full_share R.mir (vals h') l 0) ∷ ‵ (R.own h' (vals h')) ∷ ‵ (flft κ q) ∷ Γ) G
-        (lent_for κ q α ∷ ‵ (fsep (fres δ (R.coded.code h')) ftrue) ∷ ‵ (flent (α ∷ κ) (Borrowed (mem R) l 0 δ)) ∷ raw (Rest 𝓛 α (PosShare.left q)) ∷ Γ) G
+    -- and had back at h'. L is what the call left of it beside its last value
+    pub had_back : K → Soaks G → (R : RattleType) (κ : Lft) (q : Share) (l : ℕ) {α : ℕ} {δ : GName} {L : Fml} (h' : R.Denot) (vals : R.Denot → List Val) → Tells R (Is R) vals
+        → Step K 𝓛 (‵ (cell_at full_share R.mir (vals h') l 0) ∷ ‵ (R.own_val h' (vals h')) ∷ ‵ (flft κ q) ∷ Γ) G
+        (lent_for κ q α ∷ ‵ (fsep (fsep (fres δ (R.coded.code h')) L) ftrue) ∷ ‵ (flent (α ∷ κ) (Borrowed (mem R) l 0 δ)) ∷ raw (Rest 𝓛 α (left q)) ∷ Γ) G
     unfolding part_of
     had_back t z R κ q l {α} {δ} h' vals tells = step (λ s.
-        split t $ move t (1 ∷ []) $ split t $ move t (1 ∷ []) $ drop t $ move t (1 ∷ 4 ∷ []) $ use2 𝓛 (later (‵ (fdead (α ∷ κ)) ⊛ ‵ (flft κ (PosShare.left q)))) (within_end 𝓛 α κ (PosShare.left q)) $ await t z $ split t $
-        move t (1 ∷ 2 ∷ []) $ use2 𝓛 (‵ (flft κ q)) (𝓛.lfts.lft_join κ q) $ move t (2 ∷ []) $ fsplit t $ move t (1 ∷ []) $ drop t $ move t (2 ∷ 3 ∷ 0 ∷ []) $
+        split t $ move t (1 ∷ []) $ split t $ move t (1 ∷ []) $ drop t $ move t (1 ∷ 4 ∷ []) $ use2 𝓛 (later (‵ (fdead (α ∷ κ)) ⊛ ‵ (flft κ (left q)))) (within_end 𝓛 α κ (left q)) $ await t z $ split t $
+        move t (1 ∷ 2 ∷ []) $ use2 𝓛 (‵ (flft κ q)) (𝓛.lfts.lft_join κ q) $ move t (2 ∷ []) $ fsplit t $ move t (1 ∷ []) $ drop t $ fsplit t $ move t (1 ∷ []) $ drop t $ move t (2 ∷ 3 ∷ 0 ∷ []) $
         use3 𝓛 (later (‵ ((mem R).own_at h' l 0))) (ref_back 𝓛 R (α ∷ κ) δ h' l 0) $ await t z $ fpick t (λ vs. fsplit t $
         spelt t R (Is R) (shows 𝓛 R) vals tells full_share h' vs l 0 $ s))

@@ -30,13 +30,13 @@ byte_of-requires-2 c = let inside : c.args.row < length (table_of c.args.form) =
 pub modulo-requires : goal.modulo-requires
 modulo-requires c = let inside : c.args.row < length (table_of c.args.form) = omega (arith, c.requires.1, in_table-row (table_of c.args.form) c.args.z c.requires.0) in
     let small : c.args.row < 6 = omega (arith, inside, form_count c.args.form) in
-    omega (arith, c.width_of_lem.ensures, (row_fits c.args.row small).narrow)
+    omega (arith, c.width_of-width.ensures, (row_fits c.args.row small).narrow)
 
 pub returns : goal.returns
-returns c = let small : c.args.row < 6 = omega (arith, inside c, form_count c.args.form) in
-    let inside : c.args.row < length (table_of c.args.form) = omega (arith, c.requires.1, in_table-row (table_of c.args.form) c.args.z c.requires.0) in
+returns c = let inside : c.args.row < length (table_of c.args.form) = omega (arith, c.requires.1, in_table-row (table_of c.args.form) c.args.z c.requires.0) in
+    let small : c.args.row < 6 = omega (arith, inside, form_count c.args.form) in
     let p = rw (sym c.byte_of.ensures, sym c.byte_of-2.ensures) at (c.prefixes_of-prefixes.ensures c.args.row inside) in
-    coded_by_lem (table_of c.args.form) c.args.z c.requires.0 c.args.row c.requires.1 _ _ c.width_of_lem.result c.modulo.result
-    p.prefixed p.short p.fits (omega (arith, c.width_of_lem.ensures, (row_fits c.args.row small).narrow))
-    p.bits (ap (λ (r : Row). r.width) (same_range c.args.form c.args.row inside) ∙ sym c.width_of_lem.ensures)
-    (c.modulo.ensures ∙ ap (residue c.width_of_lem.result) (to_z-of_z w64 c.args.z c.ranges.z))
+    coded_by_lem (table_of c.args.form) c.args.z c.requires.0 c.args.row c.requires.1 _ _ c.width_of-width.result c.modulo.result
+    p.prefixed p.short p.fits (omega (arith, c.width_of-width.ensures, (row_fits c.args.row small).narrow))
+    p.bits (ap (λ (r : Row). r.width) (same_range c.args.form c.args.row inside) ∙ sym c.width_of-width.ensures)
+    (c.modulo.ensures ∙ ap (residue c.width_of-width.result) (to_z-of_z w64 c.args.z c.ranges.z))

@@ -48,10 +48,10 @@ code_in-requires-in-4 c = let step_is : to_z w64 (of_z w64 c.args.z) ≡ c.args.
     let f = found in (f.0, f.1 ∙ c.in-4.is)
 
 pub code_in-requires-in_default : goal.code_in-requires-in_default
-code_in-requires-in_default c = let inside : c.row_of-row.result < 6 = let f = found c in
-    omega (arith, f.1, in_table-row (table_of c.args.form) (to_z w64 (of_z w64 c.args.z)) f.0, form_count c.args.form) in
-    let step_is : to_z w64 (of_z w64 c.args.z) ≡ c.args.z = to_z-of_z w64 c.args.z c.ranges.z in
+code_in-requires-in_default c = let step_is : to_z w64 (of_z w64 c.args.z) ≡ c.args.z = to_z-of_z w64 c.args.z c.ranges.z in
     let found : (in_table (table_of c.args.form) (to_z w64 (of_z w64 c.args.z)) ≡ true) × (row_of (table_of c.args.form) (to_z w64 (of_z w64 c.args.z)) ≡ c.row_of-row.result) = let z = to_z w64 (of_z w64 c.args.z) in
     let held : in_table (table_of c.args.form) z ≡ true = ap (in_table (table_of c.args.form)) step_is ∙ codable_held c.args.form c.args.z c.requires in
     (held, form_row c.args.form z held ∙ sym c.row_of-row.ensures) in
+    let inside : c.row_of-row.result < 6 = let f = found in
+    omega (arith, f.1, in_table-row (table_of c.args.form) (to_z w64 (of_z w64 c.args.z)) f.0, form_count c.args.form) in
     let f = found in (f.0, omega (arith, f.1, inside))

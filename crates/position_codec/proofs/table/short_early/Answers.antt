@@ -13,5 +13,5 @@ pub size_of-before-requires : goal.size_of-before-requires
 size_of-before-requires c = (omega (arith, c.requires.1), width_before wide_rows (form_sound Wide).good (form_sound Wide).widens c.args.row 57 c.requires.0 (omega (arith, c.requires.1, wide_count)) c.requires.3)
 
 pub returns : goal.returns
-returns c = ap₂ (λ (m n : ℕ). ltb ((c.args.x + (n - 1) / 2) % m) n) c.type_size.ensures.0 c.size_of-before.ensures.0
+returns c = ap₂ (λ (m n : ℕ). ltb ((c.args.x + (n - 1) / 2) % m) n) c.size_of-size.ensures.0 c.size_of-before.ensures.0
     ∙ before-counted wide_rows (form_sound Wide).good 57 (form_sound Wide).even c.args.row (omega (arith, c.requires.1, wide_count)) c.args.x c.requires.2 c.requires.3 (form_sound Wide).widens c.requires.0

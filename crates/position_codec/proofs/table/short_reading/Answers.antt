@@ -18,6 +18,6 @@ half_lt : {m : ℕ} → m ≤ 2 ^ 57 → m / 2 < 2 ^ 62
 half_lt few = omega arith
 
 pub returns : goal.returns
-returns c = diff_back _ _ (counted_lt _ c.type_size.ensures.1 c.type_size.ensures.2) (half_lt (le_trans (sub-le _ _) c.type_size.ensures.2))
-    ∙ ap (λ (m : ℕ). pos ((c.args.x + (m - 1) / 2) % m) -ℤ pos ((m - 1) / 2)) c.type_size.ensures.0
+returns c = diff_back _ _ (counted_lt _ c.size_of-size.ensures.1 c.size_of-size.ensures.2) (half_lt (le_trans (sub-le _ _) c.size_of-size.ensures.2))
+    ∙ ap (λ (m : ℕ). pos ((c.args.x + (m - 1) / 2) % m) -ℤ pos ((m - 1) / 2)) c.size_of-size.ensures.0
     ∙ reading-counted wide_rows (form_sound Wide).good 57 (form_sound Wide).even c.args.row (omega (arith, c.requires.0, wide_count)) c.args.x c.requires.1 c.requires.2

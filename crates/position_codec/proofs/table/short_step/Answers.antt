@@ -18,4 +18,4 @@ returns-then-short_early c = let inside : c.args.row < length wide_rows = omega 
 pub returns : goal.returns
 returns c = let inside : c.args.row < length wide_rows = omega (arith, c.requires.1, wide_count) in
     read_first wide_rows (form_sound Wide).good (form_sound Wide).widens c.args.row c.requires.0 inside c.args.x c.requires.2 c.args.n (sym c.short_early.ensures ∙ c.if-short_early.false)
-    _ (to_z-of_z w64 c.short_reading-z.result (record { sfits = c.short_reading-z.type-inv }) ∙ c.short_reading-z.ensures)
+    _ (to_z-of_z w64 c.short_reading-z.result (record { sfits = c.short_reading-z.type_inv }) ∙ c.short_reading-z.ensures)

@@ -10,5 +10,5 @@ use Rattle.position_codec.proofs.table.size_of.Goals as goal
 pub returns : goal.returns
 returns c = let k = (get_or wide_rows c.args.row no_row).width in
     let narrow : k ≤ 57 = c.requires.1 in
-    let e = ap (λ (n : ℕ). 1 * 2 ^ n % 2 ^ 64) c.width_of_lem.ensures ∙ mask_pow k (omega arith) in
+    let e = ap (λ (n : ℕ). 1 * 2 ^ n % 2 ^ 64) c.width_of.ensures ∙ mask_pow k (omega arith) in
     (e, rw e (pow_pos k), rw e (pow_mono narrow))

@@ -1,5 +1,4 @@
 use mathlib.Core.Path.{◌≡◌, sym, ap, ap₂, ◌∙◌}
-use mathlib.Core.Logic.{⊎_elim}
 use Prim.Native.Nat.{ℕ, ◌+◌, ◌-◌, ◌<◌}
 use native.Mathlib.Omega.{arith}
 use lib.Bits.{bit_xor, xor_self}
@@ -9,6 +8,7 @@ use Rattle.ratio_format.specs.Zeros.{sum_of}
 use Rattle.ratio_format.proofs.Zeros.Sums.{xor-zero, sum_other}
 use Rattle.ratio_search.proofs.search.Searching.{Searching, searching_as, searching_pass, searching_all, searching_wins, searching_loses, searching_equal}
 use Rattle.ratio_search.proofs.search.find_best.Goals as goal
+use Rattle.ratio_search.proofs.search.find_best.Goals.{else-sum-s, then-sum-s}
 
 pub returns-then-x-eq0 : goal.returns-then-x-eq0
 returns-then-x-eq0 c = searching_equal c.args.v c.args.ratios.now c.args.i c.loop-q.q c.loop-q.at c.loop-q.trail c.loop-q.sum c.loop-q.invariant (omega arith) c.requires.1
@@ -21,12 +21,11 @@ pairs_of-p-requires c = let counted : Searching c.args.v c.args.ratios.now c.arg
     let small = sum_other c.args.v u c.ranges.v.fits known (λ q. c.if-x-eq0.false (ap (bit_xor c.args.v) (sym q) ∙ xor_self c.args.v)) in
     let sum : sum_of c.args.v u ≡ c.lead_zeros.result + c.trail_zeros-t.result = ap₂ (λ (x y : ℕ). x + y) (sym c.lead_zeros.ensures.0) (sym c.trail_zeros-t.ensures.0) in
     let from : c.args.i - window_size < c.loop-q.q = omega arith in
-    ⊎_elim
-    (λ w. searching_as c.args.v c.args.ratios.now c.args.i (c.loop-q.q - 1) c.if-sum-s.at (c.loop-q.q - 1) c.if-sum-s.trail c.trail_zeros-t.result c.if-sum-s.sum (c.lead_zeros.result + c.trail_zeros-t.result) w.1 w.2 w.3
-    (searching_wins c.args.v c.args.ratios.now c.args.i c.loop-q.q c.loop-q.at c.loop-q.trail c.loop-q.sum c.loop-q.invariant from c.trail_zeros-t.result (c.lead_zeros.result + c.trail_zeros-t.result) sum (omega arith) (omega arith) w.0.taken))
-    (λ w. searching_as c.args.v c.args.ratios.now c.args.i (c.loop-q.q - 1) c.if-sum-s.at c.loop-q.at c.if-sum-s.trail c.loop-q.trail c.if-sum-s.sum c.loop-q.sum w.1 w.2 w.3
-    (searching_loses c.args.v c.args.ratios.now c.args.i c.loop-q.q c.loop-q.at c.loop-q.trail c.loop-q.sum c.loop-q.invariant from (omega (arith, w.0.left))))
-    c.if-sum-s.branch in
+    elim c.if-sum-s.branch [
+    then-sum-s w ↦ searching_as c.args.v c.args.ratios.now c.args.i (c.loop-q.q - 1) c.if-sum-s.at (c.loop-q.q - 1) c.if-sum-s.trail c.trail_zeros-t.result c.if-sum-s.sum (c.lead_zeros.result + c.trail_zeros-t.result) w.JOIN1-is w.JOIN2-is w.JOIN3-is
+    (searching_wins c.args.v c.args.ratios.now c.args.i c.loop-q.q c.loop-q.at c.loop-q.trail c.loop-q.sum c.loop-q.invariant from c.trail_zeros-t.result (c.lead_zeros.result + c.trail_zeros-t.result) sum (omega arith) (omega arith) w.if-sum-s.true)
+    | else-sum-s w ↦ searching_as c.args.v c.args.ratios.now c.args.i (c.loop-q.q - 1) c.if-sum-s.at c.loop-q.at c.if-sum-s.trail c.loop-q.trail c.if-sum-s.sum c.loop-q.sum w.JOIN1-is w.JOIN2-is w.JOIN3-is
+    (searching_loses c.args.v c.args.ratios.now c.args.i c.loop-q.q c.loop-q.at c.loop-q.trail c.loop-q.sum c.loop-q.invariant from (omega (arith, w.if-sum-s.false))) ] in
     let s = counted in (s.2, s.4)
 
 pub loop-q-preserved : goal.loop-q-preserved
@@ -36,12 +35,11 @@ loop-q-preserved c = let counted : Searching c.args.v c.args.ratios.now c.args.i
     let small = sum_other c.args.v u c.ranges.v.fits known (λ q. c.if-x-eq0.false (ap (bit_xor c.args.v) (sym q) ∙ xor_self c.args.v)) in
     let sum : sum_of c.args.v u ≡ c.lead_zeros.result + c.trail_zeros-t.result = ap₂ (λ (x y : ℕ). x + y) (sym c.lead_zeros.ensures.0) (sym c.trail_zeros-t.ensures.0) in
     let from : c.args.i - window_size < c.loop-q.q = omega arith in
-    ⊎_elim
-    (λ w. searching_as c.args.v c.args.ratios.now c.args.i (c.loop-q.q - 1) c.if-sum-s.at (c.loop-q.q - 1) c.if-sum-s.trail c.trail_zeros-t.result c.if-sum-s.sum (c.lead_zeros.result + c.trail_zeros-t.result) w.1 w.2 w.3
-    (searching_wins c.args.v c.args.ratios.now c.args.i c.loop-q.q c.loop-q.at c.loop-q.trail c.loop-q.sum c.loop-q.invariant from c.trail_zeros-t.result (c.lead_zeros.result + c.trail_zeros-t.result) sum (omega arith) (omega arith) w.0.taken))
-    (λ w. searching_as c.args.v c.args.ratios.now c.args.i (c.loop-q.q - 1) c.if-sum-s.at c.loop-q.at c.if-sum-s.trail c.loop-q.trail c.if-sum-s.sum c.loop-q.sum w.1 w.2 w.3
-    (searching_loses c.args.v c.args.ratios.now c.args.i c.loop-q.q c.loop-q.at c.loop-q.trail c.loop-q.sum c.loop-q.invariant from (omega (arith, w.0.left))))
-    c.if-sum-s.branch in
+    elim c.if-sum-s.branch [
+    then-sum-s w ↦ searching_as c.args.v c.args.ratios.now c.args.i (c.loop-q.q - 1) c.if-sum-s.at (c.loop-q.q - 1) c.if-sum-s.trail c.trail_zeros-t.result c.if-sum-s.sum (c.lead_zeros.result + c.trail_zeros-t.result) w.JOIN1-is w.JOIN2-is w.JOIN3-is
+    (searching_wins c.args.v c.args.ratios.now c.args.i c.loop-q.q c.loop-q.at c.loop-q.trail c.loop-q.sum c.loop-q.invariant from c.trail_zeros-t.result (c.lead_zeros.result + c.trail_zeros-t.result) sum (omega arith) (omega arith) w.if-sum-s.true)
+    | else-sum-s w ↦ searching_as c.args.v c.args.ratios.now c.args.i (c.loop-q.q - 1) c.if-sum-s.at c.loop-q.at c.if-sum-s.trail c.loop-q.trail c.if-sum-s.sum c.loop-q.sum w.JOIN1-is w.JOIN2-is w.JOIN3-is
+    (searching_loses c.args.v c.args.ratios.now c.args.i c.loop-q.q c.loop-q.at c.loop-q.trail c.loop-q.sum c.loop-q.invariant from (omega (arith, w.if-sum-s.false))) ] in
     searching_pass c.args.v c.args.ratios.now c.args.i (c.loop-q.q - 1) c.if-sum-s.at c.if-sum-s.trail c.if-sum-s.sum counted c.pass-q.result c.pass-q.ensures.1 c.pass-q.ensures.2
 
 pub returns : goal.returns

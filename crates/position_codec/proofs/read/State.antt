@@ -42,6 +42,12 @@ pub record State (rs : List Row) (n : ℕ) (body ts : List ℕ) (at a b i : ℕ)
   pub read : Read rs n body ts at
   pub last : Last ts a b
 
+-- the positions ts are read, and stand in the output
+pub record Walked (rs : List Row) (n : ℕ) (body o out : List ℕ) (at a b i : ℕ) : Type 0 where
+  pub ts : List ℕ
+  pub state : State rs n body ts at a b i
+  pub output : out ≡ over (take (length o) ts) o
+
 module _ (rs : List Row) (good : good_table rs ≡ true) (n : ℕ) (body : List ℕ) where
   pub state_start : State rs n body [] 0 0 0 0
   state_start = record {

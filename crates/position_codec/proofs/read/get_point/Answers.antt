@@ -1,3 +1,4 @@
+use borrow.Author.Rules.{rules}
 use mathlib.Core.Bool.{true}
 use mathlib.Core.Path.{◌≡◌, sym, subst}
 use Prim.Native.Nat.{ℕ, ◌≤◌}
@@ -17,12 +18,15 @@ use Rattle.position_codec.specs.Found.{StepFound, PositionFound, PointFound}
 use Rattle.position_codec.proofs.read.get_point.Goals as goal
 
 pub returns-then-i-lt2 : goal.returns-then-i-lt2
-returns-then-i-lt2 c = subst (λ (n : ℕ). PointFound (table_of c.args.form) c.args.i c.args.a c.args.b (drop n (bits c.args.body.now)) c.get_raw.result) (sym (c.requires.1 c.if-i-lt2.true)) (c.get_raw.ensures (table_of c.args.form) c.args.a c.args.b)
+returns-then-i-lt2 c = let table = table_of c.args.form in
+    subst (λ (n : ℕ). PointFound table c.args.i c.args.a c.args.b (drop n (bits c.args.body.now)) c.get_raw.result) (sym (c.requires.1 c.if-i-lt2.true)) (c.get_raw.ensures table c.args.a c.args.b)
 
 pub returns-in_default-next_position : goal.returns-in_default-next_position
-returns-in_default-next_position c = let found : (in_table (table_of c.args.form) c.in-Step.z ≡ true) × (begins (code (table_of c.args.form) c.in-Step.z) (drop c.args.at (bits c.args.body.now)) ≡ true) × (c.in-Step.n ≡ length (code (table_of c.args.form) c.in-Step.z)) = subst (λ (r : GotStep). StepFound (table_of c.args.form) (drop c.args.at (bits c.args.body.now)) r) c.in-Step.is c.get_step.ensures in
-    let back : to_z w64 (of_z w64 c.in-Step.z) ≡ c.in-Step.z = to_z-of_z w64 c.in-Step.z (record { sfits = c.known_told-1.given.0.1 }) in
+returns-in_default-next_position c = let table = table_of c.args.form in
+    let left = drop c.args.at (bits c.args.body.now) in
+    let found : (in_table table c.in-Step.z ≡ true) × (begins (code table c.in-Step.z) left ≡ true) × (c.in-Step.n ≡ length (code table c.in-Step.z)) = subst (λ (r : GotStep). StepFound table left r) c.in-Step.is c.get_step.ensures in
+    let back : to_z w64 (of_z w64 c.in-Step.z) ≡ c.in-Step.z = to_z-of_z w64 c.in-Step.z (search rules) in
     let two : 2 ≤ c.args.i = c.if-i-lt2.false in
     let f = found in
-    step_high (table_of c.args.form) (table_good c.args.form) c.args.i c.args.a c.args.b two (drop c.args.at (bits c.args.body.now)) c.in-Step.z f.0 f.1
+    step_high table (table_good c.args.form) c.args.i c.args.a c.args.b two left c.in-Step.z f.0 f.1
     (rw back at (subst (λ (r : GotPosition). PositionFound c.args.a c.args.b (to_z w64 (of_z w64 c.in-Step.z)) r) c.in_default-next_position.is c.next_position.ensures))

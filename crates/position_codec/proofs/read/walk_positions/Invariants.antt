@@ -1,6 +1,7 @@
 -- `walk_positions` meets its contract. The loop's invariant: some positions are read and stand in the output as far as it has room, and the body can be
 use Prim.Native.Nat.{◌-◌}
 use Rattle.position_format.specs.Tables.{table_of}
+use Rattle.position_codec.proofs.read.State.{Walked}
 use Rattle.position_codec.proofs.read.walk_positions.Given as goal
 
 abbrev pub invariant-loop-i : goal.invariant-loop-i

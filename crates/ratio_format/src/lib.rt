@@ -28,7 +28,7 @@ pub enum Read {
 
 // The preceding ratios, oldest first, and how many of the cells are filled.
 #[repr(C)]
-#[derive(Drop)]
+#[derive(Clone, Copy)]
 pub struct Window {
     pub ratios: [u64; Window::SIZE],
     pub fill: u64,

@@ -1,0 +1,8 @@
+use Rattle.text.specs.Numbers.{decimal}
+use Rattle.text.proofs.Numbers.{decimal_fewest}
+use Rattle.text.proofs.Numbers.Lengths.{length-decimal}
+use Rattle.text.proofs.PlacedAt.{placed_digits}
+use Rattle.text.proofs.put_decimal.Goals as goal
+
+pub returns : goal.returns
+returns c = placed_digits 10 1 20 c.args.n c.decimal-k.result (decimal c.args.n) c.decimal-k.new.out (decimal_fewest c.ranges.n.fits) (length-decimal c.args.n) c.decimal-k.ensures.1 c.put_text.ensures

@@ -1,0 +1,7 @@
+use native.Mathlib.Omega.{arith}
+use Rattle.text.specs.Numbers.{decimal}
+use Rattle.text.proofs.PlacedAt.{placed_within, placed_parts}
+use Rattle.text.proofs.put_one.Goals as goal
+
+pub returns : goal.returns
+returns c = placed_within (omega arith) (placed_parts c.args.word.now (decimal c.args.n) (omega arith) c.put_numbered-end.ensures c.put_newline.ensures)

@@ -1,0 +1,6 @@
+use Rattle.text.specs.Lines.{refused_line}
+use Rattle.text.proofs.put_refused.Goals as goal
+
+pub returns : goal.returns
+unfolding refused_line
+returns c = c.put_two.ensures

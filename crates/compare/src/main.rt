@@ -13,7 +13,6 @@ ghost use Rattle.compare.specs.Printed.{line_limit, text_limit, printed};
 use differences::{Difference, OverallDifferences, Property};
 use inputs::{input_room, numbers_room, read_input};
 use kind::Kind;
-use libc::STDOUT_FILENO;
 
 // Room for every text: 79 bytes for each line, one for each of four properties, two for each of 4,096 points, and one more.
 const TEXT: usize = 647563;
@@ -266,12 +265,13 @@ fn print(first: &[u8], second: &[u8], out: &mut [u8]) -> usize
     put_difference(out, end, more)
 }
 
-fn main() {
+fn main(rt: HostRuntime) {
     let mut first = input_room();
-    let n = files::read_argument(1, &mut first);
+    let n = files::read_argument(&rt, 1, &mut first);
     let mut second = input_room();
-    let m = files::read_argument(2, &mut second);
+    let m = files::read_argument(&rt, 2, &mut second);
     let mut out = output_room();
     let end = print(&first[..n], &second[..m], &mut out);
-    files::write_front(STDOUT_FILENO, &out, end);
+    let mut printed = rt.stdout();
+    files::write_front(&mut printed, &out, end);
 }

@@ -12,7 +12,6 @@ ghost use Rattle.explain.specs.Lines.{cost_line, xor_line, reason_line};
 ghost use Rattle.explain.specs.Printed.{body_limit, argument_limit, text_limit, cost_of, point_text, printed};
 
 use inputs::{input_room, numbers_room, read_input};
-use libc::STDOUT_FILENO;
 use limits::MAX_POINTS;
 use outputs::Wrote;
 use reasons::Reason;
@@ -203,12 +202,13 @@ fn print(input: &[u8], index: &[u8], out: &mut [u8]) -> usize
     put_index(out, &ratios[..count], i, body)
 }
 
-fn main() {
+fn main(rt: HostRuntime) {
     let mut input = input_room();
-    let n = files::read_argument(1, &mut input);
+    let n = files::read_argument(&rt, 1, &mut input);
     let mut index = argument_room();
-    let m = os::arg(2, &mut index);
+    let m = files::argument(&rt, 2, &mut index);
     let mut out = output_room();
     let end = print(&input[..n], &index[..m], &mut out);
-    files::write_front(STDOUT_FILENO, &out, end);
+    let mut printed = rt.stdout();
+    files::write_front(&mut printed, &out, end);
 }

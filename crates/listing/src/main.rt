@@ -8,7 +8,6 @@ ghost use Rattle.listing.specs.Printed.{text_limit, printed};
 ghost use Rattle.text.specs.PlacedAt.{PlacedAt};
 
 use inputs::{input_room, numbers_room, read_input};
-use libc::{STDIN_FILENO, STDOUT_FILENO};
 
 // As many bytes as the longest text has: 106 for the lines of rate, side, count and span, and 38 for each of 4,096 points.
 const TEXT: usize = 155754;
@@ -125,10 +124,12 @@ fn print(input: &[u8], out: &mut [u8]) -> usize
     )
 }
 
-fn main() {
+fn main(rt: HostRuntime) {
     let mut input = input_room();
-    let n = io::read_full(STDIN_FILENO, &mut input);
+    let mut given = rt.stdin();
+    let n = files::read_full(&mut given, &mut input);
     let mut out = output_room();
     let end = print(&input[..n], &mut out);
-    files::write_front(STDOUT_FILENO, &out, end);
+    let mut printed = rt.stdout();
+    files::write_front(&mut printed, &out, end);
 }

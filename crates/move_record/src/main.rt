@@ -5,20 +5,35 @@
 // open, read and write, and decide by nothing but these answers and what failed.
 #![tactic(auto)]
 
-ghost use Rattle.std.specs.Prelude.{◌≡◌, false, ◌≤◌, length};
-ghost use Rattle.io.specs.Counts.{IsPrefixLen};
+ghost use Rattle.std.specs.Prelude.{◌≡◌, ◌≢◌, false, ◌≤◌, length, take, IsTrue};
+ghost use Rattle.std.specs.Io.KnownBytes.{Appends};
+ghost use Rattle.files.specs.Counts.{IsPrefixLen};
 ghost use Rattle.lists.specs.Compare.{same};
 ghost use Rattle.record_format.specs.Moves.{move_of};
 ghost use Rattle.text.specs.PlacedAt.{PlacedAt};
 ghost use Rattle.inputs.specs.Inputs.{input_limit};
 ghost use Rattle.move_record.specs.Words.{form_named, form_asked, is_call};
 ghost use Rattle.move_record.specs.Lines.{line_limit, moved_line, answer_line, usage_line};
-ghost use Rattle.move_record.specs.Printed.{blank_record, move_input, move_response, usage_response, response, Told};
+ghost use Rattle.move_record.specs.Printed.{blank_record, move_input, move_response, usage_response, standard_error, response, Told};
 
+use files::PATH;
 use inputs::input_room;
-use libc::{STDERR_FILENO, STDOUT_FILENO};
 use position_format::Form;
 use record_format::MoveAnswer;
+use std::env::FillError;
+use std::io;
+use std::io::Write;
+use std::rt::{Env, Files};
+
+// The numbers of the streams in POSIX.
+const STDOUT_FILENO: i32 = 1;
+
+const STDERR_FILENO: i32 = 2;
+
+// The numbers of errors in Linux: an argument that is missing, and one that is longer than a path may be.
+const EINVAL: i32 = 22;
+
+const ENAMETOOLONG: i32 = 36;
 
 // As many bytes as the longest record has.
 const RECORD: usize = 61709;
@@ -191,47 +206,81 @@ fn respond(count: usize, word: &[u8], input: &[u8], out: &mut [u8], line: &mut [
 
 // Reads the file that the second argument names, if there is one to be read, and returns how many bytes it put at the front of the input. Else it
 // opens none, so that a call that asks for no form waits for no pipe.
-fn read_source(called: bool, input: &mut [u8]) -> usize
+fn read_source(rt: &(impl Files + Env), called: bool, input: &mut [u8]) -> usize
     ensures prefix_len { IsPrefixLen result input.new }
     ensures value { called ≡ false → result ≡ 0 }
 {
     if called {
-        return files::read_argument(2, input);
+        return files::read_argument(rt, 2, input);
     }
     0
 }
 
-// Makes the file that the third argument names of the first n bytes. A name that is longer than one may be is left out by `arg`, which notes so.
-fn save(bytes: &[u8], n: usize) -> bool
+// Says on `errors` that the new file has no name, or one that is longer than a name may be.
+fn refuse_name<W: Write>(errors: &mut W, why: FillError) {
+    let number = match why {
+        FillError::NotPresent => EINVAL,
+        FillError::TooLong => ENAMETOOLONG,
+    };
+    files::fail(
+        errors,
+        b"the name of the new file",
+        io::Error::from_raw_os_error(number),
+    );
+}
+
+// Makes the file that the third argument names of the first n bytes. Where the answer is no, a line on `errors` says why.
+fn save<R: Files + Env, W: Write>(rt: &R, errors: &mut W, bytes: &[u8], n: usize) -> bool
     requires { n ≤ length bytes.now }
 {
-    let mut path = io::buffer();
-    let k = os::arg(3, &mut path);
-    if os::errno() != 0 {
-        os::fail(b"the name of the new file");
-        return false;
+    let mut path = [0; PATH];
+    match rt.arg(3, &mut path) {
+        Ok(k) => files::save_new(rt, errors, &path[..k], bytes, n),
+        Err(why) => {
+            refuse_name(errors, why);
+            false
+        }
     }
-    files::save_new(&path[..k], bytes, n)
+}
+
+// Writes the first n bytes of a line to the stream that goes by the number, standard error or else standard output, and returns whether that succeeded.
+fn show<P: Write, E: Write>(
+    printed: &mut P,
+    errors: &mut E,
+    stream: i32,
+    line: &[u8],
+    n: usize,
+) -> bool
+    requires { n ≤ length line.now }
+    ensures on_error { IsTrue result → stream ≡ standard_error → Appends (E.contents errors.old) (E.contents errors.new) (take n line.now) }
+    ensures on_output { IsTrue result → stream ≢ standard_error → Appends (P.contents printed.old) (P.contents printed.new) (take n line.now) }
+{
+    if stream == STDERR_FILENO {
+        return files::write_front(errors, line, n);
+    }
+    files::write_front(printed, line, n)
 }
 
 // Reads the first argument and, where the call asks for a form, the file, and does what `respond` answers. The line goes out once the new file stands,
 // or where there is none to be made.
-fn main() {
-    let count = os::arg_count();
-    let mut argument = io::buffer();
-    let k = os::arg(1, &mut argument);
+fn main(rt: HostRuntime) {
+    let count = files::argument_count(&rt);
+    let mut argument = [0; PATH];
+    let k = files::argument(&rt, 1, &mut argument);
     let word = &argument[..k];
     let mut input = input_room();
-    let n = read_source(is_call(count, word), &mut input);
+    let n = read_source(&rt, is_call(count, word), &mut input);
     let mut out = record_room();
     let mut line = line_room();
     let outcome = respond(count, word, &input[..n], &mut out, &mut line);
     let length = outcome.length;
+    let mut errors = rt.stderr();
     if outcome.moved {
-        if !save(&out, length) {
+        if !save(&rt, &mut errors, &out, length) {
             return;
         }
     }
     let end = outcome.line;
-    files::write_front(outcome.stream, &line, end);
+    let mut printed = rt.stdout();
+    show(&mut printed, &mut errors, outcome.stream, &line, end);
 }

@@ -38,16 +38,13 @@ pub fn read_full<R: Read>(from: &mut R, buf: &mut [u8]) -> usize
 fn read_file(rt: &impl Files, path: &[u8], buf: &mut [u8]) -> usize
     ensures { IsPrefixLen result buf.new }
 {
-    match str::from_utf8(path) {
-        Ok(name) => match fs::open(rt, name) {
-            Ok(file) => {
-                let mut open = file;
-                read_full(&mut open, buf)
-            }
-            Err(_) => 0,
-        },
-        Err(_) => 0,
-    }
+    let Ok(name) = str::from_utf8(path) else {
+        return 0;
+    };
+    let Ok(mut file) = fs::open(rt, name) else {
+        return 0;
+    };
+    read_full(&mut file, buf)
 }
 
 // Puts the program's argument i at the front of the buffer and returns its length, or 0 where it is missing or longer than the buffer.
@@ -72,7 +69,7 @@ pub fn argument_count(rt: &impl Env) -> usize {
     usize::MAX
 }
 
-// The same of the file that the program's argument i names. An argument that is missing, empty or longer than a path may be counts as a
+// Reads the file that the program's argument i names, as `read_file` does. An argument that is missing, empty or longer than a path may be counts as a
 // file that is missing.
 pub fn read_argument(rt: &(impl Files + Env), i: usize, buf: &mut [u8]) -> usize
     ensures { IsPrefixLen result buf.new }
@@ -116,8 +113,7 @@ fn system_words(text: &str) -> &str {
     }
 }
 
-// Writes the first n bytes to a file, and has them stored. std tells no failure of a close, and what a close would tell is told before it by the
-// storing.
+// Writes the first n bytes to a file, and has them stored: what a close would tell of them, which std keeps to itself, is told here before it.
 fn store<F: Write + OpenFile>(file: &mut F, bytes: &[u8], n: usize) -> io::Result<()>
     requires { n ≤ length bytes.now }
 {
@@ -128,15 +124,14 @@ fn store<F: Write + OpenFile>(file: &mut F, bytes: &[u8], n: usize) -> io::Resul
 // The same of a file that is then closed; if it fails, a line on `errors` says why.
 fn fill<F: Write + OpenFile + Drop, W: Write>(
     errors: &mut W,
-    file: F,
+    mut file: F,
     path: &[u8],
     bytes: &[u8],
     n: usize,
 ) -> bool
     requires { n ≤ length bytes.now }
 {
-    let mut open = file;
-    match store(&mut open, bytes, n) {
+    match store(&mut file, bytes, n) {
         Ok(()) => true,
         Err(why) => {
             fail(errors, path, why);

@@ -5,4 +5,4 @@ use Rattle.text.proofs.PlacedAt.{placed_digits}
 use Rattle.text.proofs.put_decimal.Goals as goal
 
 pub returns : goal.returns
-returns c = placed_digits 10 1 20 c.args.n c.decimal-k.result (decimal c.args.n) c.decimal-k.new.out (decimal_fewest c.ranges.n.fits) (length-decimal c.args.n) c.decimal-k.ensures.1 c.put_text.ensures
+returns c = placed_digits 10 1 20 c.args.n c.decimal-k.result (decimal c.args.n) c.decimal-k.new.out (decimal_fewest c.ranges.n.fits) (length-decimal c.args.n) (c.decimal-k.ensures.len, c.decimal-k.ensures.digits) c.put_text.ensures

@@ -6,4 +6,4 @@ use Rattle.text.proofs.PlacedAt.{placed_digits}
 use Rattle.text.proofs.put_hex.Goals as goal
 
 pub returns : goal.returns
-returns c = placed_digits 16 16 16 c.args.v c.hex-k.result (hex16 c.args.v) c.hex-k.new.out (hex_fewest c.ranges.v.fits) (omega (arith, length_hex c.args.v)) c.hex-k.ensures.1 c.put_text.ensures
+returns c = placed_digits 16 16 16 c.args.v c.hex-k.result (hex16 c.args.v) c.hex-k.new.out (hex_fewest c.ranges.v.fits) (omega (arith, length_hex c.args.v)) (c.hex-k.ensures.len, c.hex-k.ensures.digits) c.put_text.ensures

@@ -1,0 +1,45 @@
+use mathlib.Core.Path.{refl, sym, ap, ◌∙◌}
+use Prim.Native.Nat.{◌+◌, ◌-◌, ◌%◌, ◌≤◌, ◌<◌}
+use lib.ListN.{length, get_or, take, drop}
+use lib.Seq.{drop-drop}
+use Rattle.ratio_format.specs.RatioForms.{xor_byte}
+use Rattle.ratio_format.specs.Open.{open_xor}
+use Rattle.ratio_format.specs.Windows.{window_size, window_of}
+use Rattle.ratio_bodies.proofs.ahead.FirstByte.{rest_first, ahead-some, ahead-exception, place_far, place_past, place_reference, place_xor}
+use Rattle.ratio_bodies.proofs.ahead.open_ahead.Goals as goal
+
+pub returns-then-b-eq-EXCEPTION : goal.returns-then-b-eq-EXCEPTION
+returns-then-b-eq-EXCEPTION c = let ten : c.args.at + 10 ≤ length c.args.body.now = c.requires.1 in
+    ahead-exception (window_of window_size (take c.args.i c.args.ratios.now)) c.args.at c.args.body.now ten c.get_first.result c.if-b-eq-EXCEPTION.true c.get_first.ensures.0
+
+pub returns-then-i-p : goal.returns-then-i-p
+returns-then-i-p c = let b = get_or c.args.body.now c.args.at 0 in
+    let few : c.args.i ≤ length c.args.ratios.now = c.requires.0 in
+    let ten : c.args.at + 10 ≤ length c.args.body.now = c.requires.1 in
+    let byte : b < 256 = (c.shared_slice_known-3-1.given c.args.at).fits in
+    place_far c.args.ratios.now c.args.i few (drop c.args.at c.args.body.now) b (rest_first c.args.at c.args.body.now) (ahead-some c.args.at c.args.body.now ten) byte c.if-b-eq-EXCEPTION.false c.if-i-p.true
+
+pub returns-then-p-eq-SIZE : goal.returns-then-p-eq-SIZE
+returns-then-p-eq-SIZE c = let b = get_or c.args.body.now c.args.at 0 in
+    let few : c.args.i ≤ length c.args.ratios.now = c.requires.0 in
+    let ten : c.args.at + 10 ≤ length c.args.body.now = c.requires.1 in
+    let byte : b < 256 = (c.shared_slice_known-3-1.given c.args.at).fits in
+    place_past c.args.ratios.now c.args.i few (drop c.args.at c.args.body.now) b (rest_first c.args.at c.args.body.now) (ahead-some c.args.at c.args.body.now ten) byte c.if-b-eq-EXCEPTION.false c.if-p-eq-SIZE.true
+
+pub returns-then-b-lt-XOR : goal.returns-then-b-lt-XOR
+returns-then-b-lt-XOR c = let u = get_or c.args.ratios.now (c.args.i - 1 - b c % xor_byte) 0 in
+    let b = get_or c.args.body.now c.args.at 0 in
+    let few : c.args.i ≤ length c.args.ratios.now = c.requires.0 in
+    let ten : c.args.at + 10 ≤ length c.args.body.now = c.requires.1 in
+    let byte : b < 256 = (c.shared_slice_known-3-1.given c.args.at).fits in
+    place_reference c.args.ratios.now c.args.i few (drop c.args.at c.args.body.now) b (rest_first c.args.at c.args.body.now) (ahead-some c.args.at c.args.body.now ten) byte c.if-b-eq-EXCEPTION.false
+    u c.if-i-p.false c.if-p-eq-SIZE.false refl c.if-b-lt-XOR.true
+
+pub returns : goal.returns
+returns c = let u = get_or c.args.ratios.now (c.args.i - 1 - b c % xor_byte) 0 in
+    let b = get_or c.args.body.now c.args.at 0 in
+    let few : c.args.i ≤ length c.args.ratios.now = c.requires.0 in
+    let ten : c.args.at + 10 ≤ length c.args.body.now = c.requires.1 in
+    let byte : b < 256 = (c.shared_slice_known-3-1.given c.args.at).fits in
+    place_xor c.args.ratios.now c.args.i few (drop c.args.at c.args.body.now) b (rest_first c.args.at c.args.body.now) (ahead-some c.args.at c.args.body.now ten) byte c.if-b-eq-EXCEPTION.false
+    u c.if-i-p.false c.if-p-eq-SIZE.false refl c.if-b-lt-XOR.false c.xor_ahead.result (c.xor_ahead.ensures ∙ ap (open_xor u) (sym (drop-drop 1 c.args.at c.args.body.now)))

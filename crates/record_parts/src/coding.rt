@@ -19,21 +19,21 @@ use record_format::{OLD_TAG, RATIOS_TAG, WIDE_TAG};
 use refusals::Refusal;
 
 // How the numbers of a body are coded.
-#[derive(Drop)]
+#[derive(Clone, Copy)]
 pub enum Coding {
     Positions(Form),
     Ratios,
 }
 
 // How the ratios' field is read: it must be the coding of its ratios, or the open rule reads it.
-#[derive(Drop)]
+#[derive(Clone, Copy)]
 pub enum Reading {
     Strict,
     Open,
 }
 
 // A part of a record: its refusal, or the offset past it.
-#[derive(Drop)]
+#[derive(Clone, Copy)]
 pub struct Part {
     pub refusal: Refusal,
     pub end: usize,

@@ -3,7 +3,7 @@
 
 // A refusal: document 01's number and place; 0 and 0 for none.
 #[repr(C)]
-#[derive(Drop)]
+#[derive(Clone, Copy)]
 pub struct Refusal {
     pub number: u32,
     pub place: u32,

@@ -27,19 +27,19 @@ returns-then-p-eq-SIZE c = let b = get_or c.args.body.now c.args.at 0 in
     place_past c.args.ratios.now c.args.i few (drop c.args.at c.args.body.now) b (rest_first c.args.at c.args.body.now) (ahead-some c.args.at c.args.body.now ten) byte c.if-b-eq-EXCEPTION.false c.if-p-eq-SIZE.true
 
 pub returns-then-b-lt-XOR : goal.returns-then-b-lt-XOR
-returns-then-b-lt-XOR c = let u = get_or c.args.ratios.now (c.args.i - 1 - b c % xor_byte) 0 in
-    let b = get_or c.args.body.now c.args.at 0 in
+returns-then-b-lt-XOR c = let b = get_or c.args.body.now c.args.at 0 in
     let few : c.args.i ≤ length c.args.ratios.now = c.requires.0 in
     let ten : c.args.at + 10 ≤ length c.args.body.now = c.requires.1 in
     let byte : b < 256 = (c.shared_slice_known-3-1.given c.args.at).fits in
+    let u = get_or c.args.ratios.now (c.args.i - 1 - b % xor_byte) 0 in
     place_reference c.args.ratios.now c.args.i few (drop c.args.at c.args.body.now) b (rest_first c.args.at c.args.body.now) (ahead-some c.args.at c.args.body.now ten) byte c.if-b-eq-EXCEPTION.false
     u c.if-i-p.false c.if-p-eq-SIZE.false refl c.if-b-lt-XOR.true
 
 pub returns : goal.returns
-returns c = let u = get_or c.args.ratios.now (c.args.i - 1 - b c % xor_byte) 0 in
-    let b = get_or c.args.body.now c.args.at 0 in
+returns c = let b = get_or c.args.body.now c.args.at 0 in
     let few : c.args.i ≤ length c.args.ratios.now = c.requires.0 in
     let ten : c.args.at + 10 ≤ length c.args.body.now = c.requires.1 in
     let byte : b < 256 = (c.shared_slice_known-3-1.given c.args.at).fits in
+    let u = get_or c.args.ratios.now (c.args.i - 1 - b % xor_byte) 0 in
     place_xor c.args.ratios.now c.args.i few (drop c.args.at c.args.body.now) b (rest_first c.args.at c.args.body.now) (ahead-some c.args.at c.args.body.now ten) byte c.if-b-eq-EXCEPTION.false
     u c.if-i-p.false c.if-p-eq-SIZE.false refl c.if-b-lt-XOR.false c.xor_ahead.result (c.xor_ahead.ensures ∙ ap (open_xor u) (sym (drop-drop 1 c.args.at c.args.body.now)))

@@ -65,8 +65,7 @@ overflow_add-next c = let w = window_of window_size (take c.loop-i.i c.loop-i.ra
     omega (arith, taken.inside, c.well_formed)
 
 pub get_references-k-requires : goal.get_references-k-requires
-get_references-k-requires c = let marked : c.in-Ratio.n ≡ 1 → c.mark.new.again ≡ set (set c.loop-i.again (slot_of c.loop-i.i (get_or (rest c) 0 0)) 1) (c.loop-i.i % slots) 0 = λ one. rw (rest_first c.loop-i.at c.args.body.now) (c.mark.ensures.0 one) in
-    let w = window_of window_size (take c.loop-i.i c.loop-i.ratios) in
+get_references-k-requires c = let w = window_of window_size (take c.loop-i.i c.loop-i.ratios) in
     let rest = drop c.loop-i.at c.args.body.now in
     let more : c.loop-i.i < c.args.to = c.loop-i-test.true in
     let inside : c.loop-i.i < length c.loop-i.ratios = omega (arith, more, c.loop-i.invariant.0.sized, c.requires.1) in
@@ -74,6 +73,7 @@ get_references-k-requires c = let marked : c.in-Ratio.n ≡ 1 → c.mark.new.aga
     let good : c.accepts.result ≡ true = c.if-not-accepts.false in
     let begun : begins (coded c.in-Ratio.v w) rest ≡ true = sym c.accepts.ensures ∙ good in
     let accepted : Ratio c.in-Ratio.v c.in-Ratio.n ≡ strict_one w rest = strict_good w rest c.open_from-r.result c.open_from-r.ensures c.in-Ratio.v c.in-Ratio.n c.accepts.result c.in-Ratio.is c.accepts.ensures good in
+    let marked : c.in-Ratio.n ≡ 1 → c.mark.new.again ≡ set (set c.loop-i.again (slot_of c.loop-i.i (get_or rest 0 0)) 1) (c.loop-i.i % slots) 0 = λ one. rw (rest_first c.loop-i.at c.args.body.now) (c.mark.ensures.0 one) in
     let kept = set c.loop-i.ratios c.loop-i.i c.in-Ratio.v in
     let next = c.loop-i.at + c.in-Ratio.n in
     let taken : Taking strict_one c.args.to c.args.body.now c.args.ratios.now c.args.from c.args.begun kept next (c.loop-i.i + 1) = taking_more strict_one c.args.to c.args.body.now c.args.ratios.now c.args.from c.args.begun c.loop-i.ratios c.loop-i.at c.loop-i.i c.loop-i.invariant.0 more (Ratio c.in-Ratio.v c.in-Ratio.n) accepted strict_within c.in-Ratio.v c.in-Ratio.n refl c.requires.1 in

@@ -1,2 +1,0 @@
--- Laws of how the functions of `reader` go.
-pub mod Machine

@@ -14,7 +14,7 @@ returns-then-number-ne0 c = let tests = ratios_tests (ratios_by c.args.reading) 
     let reads = ratios_by c.args.reading c.args.count in
     let coded : CodedField tests (ratios_tag ∷ []) reads 18 c.args.input.now c.args.at c.read_field-field.result = record {
       numbered = λ z. omega arith;
-      same = ap₂ (λ (c p : ℕ). first_of (coded_tests c.args.input.now (ratios_tag ∷ []) (ratios_by c.args.reading c) 18 p)) (sym c.requires.0.counted) (sym c.requires.0.here);
+      same = ap₂ (λ (m p : ℕ). first_of (coded_tests c.args.input.now (ratios_tag ∷ []) (ratios_by c.args.reading m) 18 p)) (sym c.requires.0.counted) (sym c.requires.0.here);
       read = c.read_field-field.ensures;
     } in
     coded-refused coded c.args.count c.args.out.now c.args.out.now c.if-number-ne0.true
@@ -24,7 +24,7 @@ slice_bounds-get_ratios-count c = let tests = ratios_tests (ratios_by c.args.rea
     let reads = ratios_by c.args.reading c.args.count in
     let coded : CodedField tests (ratios_tag ∷ []) reads 18 c.args.input.now c.args.at c.read_field-field.result = record {
       numbered = λ z. omega arith;
-      same = ap₂ (λ (c p : ℕ). first_of (coded_tests c.args.input.now (ratios_tag ∷ []) (ratios_by c.args.reading c) 18 p)) (sym c.requires.0.counted) (sym c.requires.0.here);
+      same = ap₂ (λ (m p : ℕ). first_of (coded_tests c.args.input.now (ratios_tag ∷ []) (ratios_by c.args.reading m) 18 p)) (sym c.requires.0.counted) (sym c.requires.0.here);
       read = c.read_field-field.ensures;
     } in
     body_order coded c.if-number-ne0.false
@@ -34,7 +34,7 @@ slice_bounds-get_ratios-start c = let tests = ratios_tests (ratios_by c.args.rea
     let reads = ratios_by c.args.reading c.args.count in
     let coded : CodedField tests (ratios_tag ∷ []) reads 18 c.args.input.now c.args.at c.read_field-field.result = record {
       numbered = λ z. omega arith;
-      same = ap₂ (λ (c p : ℕ). first_of (coded_tests c.args.input.now (ratios_tag ∷ []) (ratios_by c.args.reading c) 18 p)) (sym c.requires.0.counted) (sym c.requires.0.here);
+      same = ap₂ (λ (m p : ℕ). first_of (coded_tests c.args.input.now (ratios_tag ∷ []) (ratios_by c.args.reading m) 18 p)) (sym c.requires.0.counted) (sym c.requires.0.here);
       read = c.read_field-field.ensures;
     } in
     body_order coded c.if-number-ne0.false
@@ -44,7 +44,7 @@ returns-then-not-get_ratios c = let tests = ratios_tests (ratios_by c.args.readi
     let reads = ratios_by c.args.reading c.args.count in
     let coded : CodedField tests (ratios_tag ∷ []) reads 18 c.args.input.now c.args.at c.read_field-field.result = record {
       numbered = λ z. omega arith;
-      same = ap₂ (λ (c p : ℕ). first_of (coded_tests c.args.input.now (ratios_tag ∷ []) (ratios_by c.args.reading c) 18 p)) (sym c.requires.0.counted) (sym c.requires.0.here);
+      same = ap₂ (λ (m p : ℕ). first_of (coded_tests c.args.input.now (ratios_tag ∷ []) (ratios_by c.args.reading m) 18 p)) (sym c.requires.0.counted) (sym c.requires.0.here);
       read = c.read_field-field.ensures;
     } in
     coded_none coded c.if-number-ne0.false c.args.count c.get_ratios.result c.args.out.now _ c.get_ratios.ensures c.if-not-get_ratios.true
@@ -54,7 +54,7 @@ returns c = let tests = ratios_tests (ratios_by c.args.reading) c.args.input.now
     let reads = ratios_by c.args.reading c.args.count in
     let coded : CodedField tests (ratios_tag ∷ []) reads 18 c.args.input.now c.args.at c.read_field-field.result = record {
       numbered = λ z. omega arith;
-      same = ap₂ (λ (c p : ℕ). first_of (coded_tests c.args.input.now (ratios_tag ∷ []) (ratios_by c.args.reading c) 18 p)) (sym c.requires.0.counted) (sym c.requires.0.here);
+      same = ap₂ (λ (m p : ℕ). first_of (coded_tests c.args.input.now (ratios_tag ∷ []) (ratios_by c.args.reading m) 18 p)) (sym c.requires.0.counted) (sym c.requires.0.here);
       read = c.read_field-field.ensures;
     } in
     coded-found coded c.if-number-ne0.false c.args.count c.get_ratios.result c.args.out.now _ c.get_ratios.ensures c.if-not-get_ratios.false

@@ -1,0 +1,5 @@
+use Rattle.record_format.proofs.Writing.{steps-none}
+use Rattle.record_codec.proofs.writer.check_steps.Goals as goal
+
+pub returns-in-Wide : goal.returns-in-Wide
+returns-in-Wide c = rw c.in-Wide.is (steps-none c.args.positions.now)

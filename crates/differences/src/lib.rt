@@ -11,7 +11,7 @@ use kind::{Kind, KindAnswer, kind_numbers, kind_of};
 use record_format::CheckAnswer;
 
 // What a record has besides its points.
-#[derive(Drop)]
+#[derive(Clone, Copy)]
 pub enum Property {
     Rate,
     Side,
@@ -21,7 +21,7 @@ pub enum Property {
 
 // One difference: none; a property with its value in the first record and in the second, where a form's value is its tag; the position at an index,
 // with both; the ratio at an index, with the bits and the kind of both; or how many points only the longer run has.
-#[derive(Drop)]
+#[derive(Clone, Copy)]
 pub enum Difference {
     Equal,
     InProperty(Property, u32, u32),
@@ -44,7 +44,7 @@ pub enum Values {
 }
 
 // The differences that are of no index, or the refusal: its number, its place, and which record was refused, 1 or 2.
-#[derive(Drop)]
+#[derive(Clone, Copy)]
 pub struct OverallDifferences {
     pub number: u32,
     pub place: u32,

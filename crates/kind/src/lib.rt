@@ -6,7 +6,7 @@ ghost use Rattle.kind.specs.Kinds.{kind_of};
 ghost use Rattle.kind.specs.Numbers.{kind_numbers};
 
 // A number with its value (-0 and the subnormals are numbers), an infinity with whether it is negative, a not-a-number with its bits.
-#[derive(Drop)]
+#[derive(Clone, Copy)]
 pub enum Kind {
     Number(f64),
     Infinity(bool),

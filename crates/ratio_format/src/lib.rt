@@ -86,7 +86,7 @@ pub fn push_cells(cells: &mut [u64; Window::SIZE], fill: u64, v: u64) -> u64
 
 // What a live coding keeps between additions: the window and the number of ratios seen.
 #[repr(C)]
-#[derive(Drop)]
+#[derive(Clone, Copy)]
 pub struct Live {
     pub window: Window,
     pub seen: u64,

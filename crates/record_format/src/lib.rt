@@ -13,7 +13,7 @@ pub struct WriteAnswer {
 // The answer of a check: number and place of the refusal, or 0 and 0 with the rate, the side (0 for none), the count of points, the tag of their form
 // (3 or 5) and the record's size.
 #[repr(C)]
-#[derive(Drop)]
+#[derive(Clone, Copy)]
 pub struct CheckAnswer {
     pub number: u32,
     pub place: u32,

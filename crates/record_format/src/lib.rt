@@ -49,7 +49,7 @@ pub struct ReadAnswer {
 
 // The answer of a move: number and place of the refusal, or 0 and 0 with the length of the record written and the bytes used of the one read.
 #[repr(C)]
-#[derive(Drop)]
+#[derive(Clone, Copy)]
 pub struct MoveAnswer {
     pub number: u32,
     pub place: u32,

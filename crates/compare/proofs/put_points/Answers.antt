@@ -8,7 +8,7 @@ loop-i-init c = (omega arith, refl, points_none c.args.ts.now c.args.vs.now c.ar
 
 pub loop-i-preserved : goal.loop-i-preserved
 loop-i-preserved c = (
-      omega arith,
-      omega (arith, c.put_point-end.auto.out),
-      points_more c.args.ts.now c.args.vs.now c.args.us.now c.args.ws.now c.loop-i.i (omega arith) c.loop-i.invariant.2 c.put_point-end.ensures,
-    )
+  omega arith,
+  omega (arith, c.put_point-end.auto.out),
+  points_more c.args.ts.now c.args.vs.now c.args.us.now c.args.ws.now c.loop-i.i (omega arith) c.loop-i.invariant.2 c.put_point-end.ensures,
+)

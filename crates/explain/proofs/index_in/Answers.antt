@@ -16,9 +16,9 @@ returns-then-not-is_digit c = let other : not_digit (get_or c.args.text.now c.lo
 
 pub loop-i-preserved : goal.loop-i-preserved
 loop-i-preserved c = let other : not_digit (get_or c.args.text.now c.loop-i.i 0) ≡ false = ap not (sym c.is_digit.ensures ∙ c.if-not-is_digit.false) in (
-      omega (arith, first_next not_digit 0 c.args.text.now c.loop-i.i c.loop-i-test.true c.loop-i.invariant.0 other),
-      c.append_digit-n.ensures ∙ capped_more c.args.text.now c.loop-i.i c.loop-i-test.true c.loop-i.n c.loop-i.invariant.1,
-    )
+  omega (arith, first_next not_digit 0 c.args.text.now c.loop-i.i c.loop-i-test.true c.loop-i.invariant.0 other),
+  c.append_digit-n.ensures ∙ capped_more c.args.text.now c.loop-i.i c.loop-i-test.true c.loop-i.n c.loop-i.invariant.1,
+)
 
 pub returns : goal.returns
 returns c = c.loop-i.invariant.1 ∙ index_digits c.args.text.now c.if-text-eq0.false (omega (arith, c.loop-i.invariant.0, c.loop-i-test.false, first_le not_digit c.args.text.now)) c.loop-i.i c.loop-i-test.false

@@ -15,8 +15,8 @@ use Rattle.explain.proofs.put_lines.Goals as goal
 
 pub overflow_add-b : goal.overflow_add-b
 overflow_add-b c = record {
-      fits = omega (arith, c.bytes_of-bytes.ensures.0, nine_bytes window_size [] (take c.args.i c.args.ratios.now), length-take-le c.args.i c.args.ratios.now (omega (arith, c.requires.1)), c.requires.1, c.requires.2, c.requires.3);
-    }
+  fits = omega (arith, c.bytes_of-bytes.ensures.0, nine_bytes window_size [] (take c.args.i c.args.ratios.now), length-take-le c.args.i c.args.ratios.now (omega (arith, c.requires.1)), c.requires.1, c.requires.2, c.requires.3);
+}
 
 pub returns : goal.returns
 returns c = let text : cost_line c.args.i (get_or c.args.ratios.now c.args.i 0) c.bytes_of-bytes.result.cost (c.args.b + c.bytes_of-bytes.result.before) ++ reason_line c.explain-reason.result ≡ point_text c.args.b c.args.ratios.now c.args.i =

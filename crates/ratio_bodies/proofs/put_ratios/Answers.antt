@@ -28,8 +28,7 @@ loop-i-preserved c = let more : c.loop-i.i < length c.args.ratios.now = c.loop-i
     writing_on c.args.ratios.now c.args.out.now after next (c.loop-i.i + 1) one zs (c.loop-i.i + 1 + c.put_repeats-k.result) c.put_repeats-k.ensures.0
     (repeats_coded c.args.ratios.now (c.loop-i.i + 1) (omega arith) c.put_repeats-k.result c.put_repeats-k.ensures.0 c.put_repeats-k.ensures.1) c.put_repeats-k.result c.put_repeats-k.new.out
     (z, omega (arith, z, c.put_repeats-k.ensures.2), c.put_repeats-k.ensures.3 ∙ ap (λ (n : ℕ). zs ++ drop n (part c.args.ratios.now c.args.out.now after next (c.loop-i.i + 1) one)) z)
-    c.put_repeats-k.auto.out in
-    (
+    c.put_repeats-k.auto.out in (
       all,
       c.refresh-done.ensures.0,
       omega (arith, c.refresh-done.ensures.1),

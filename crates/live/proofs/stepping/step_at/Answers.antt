@@ -18,8 +18,9 @@ overflow_add-cursor c = record { fits = place_within c.args.body.now c.args.curs
 
 pub returns : goal.returns
 returns c = (
-      answer_of c.args.body.now c.args.cursor c.seek-found.result c.seek-found.ensures,
-      elim c.if-found-eq0.branch [
-    then-found-eq0 w ↦ state_ratio c.args.body.now c.args.cursor c.seek-found.result c.seek-found.ensures c.if-found-eq0.seen (record { ratios = c.if-found-eq0.ratios; fill = c.if-found-eq0.fill }) w.if-found-eq0.true w.seen-is (window w.ratios-is w.fill-is ∙ w.push_cells-fill.ensures)
-    | else-found-eq0 w ↦ state-none c.args.body.now c.args.cursor c.seek-found.result c.seek-found.ensures c.if-found-eq0.seen (record { ratios = c.if-found-eq0.ratios; fill = c.if-found-eq0.fill }) w.if-found-eq0.false w.seen-is (window w.ratios-is w.fill-is) ],
-    )
+  answer_of c.args.body.now c.args.cursor c.seek-found.result c.seek-found.ensures,
+  elim c.if-found-eq0.branch [
+    | then-found-eq0 w ↦ state_ratio c.args.body.now c.args.cursor c.seek-found.result c.seek-found.ensures c.if-found-eq0.seen (record { ratios = c.if-found-eq0.ratios; fill = c.if-found-eq0.fill }) w.if-found-eq0.true w.seen-is (window w.ratios-is w.fill-is ∙ w.push_cells-fill.ensures)
+    | else-found-eq0 w ↦ state-none c.args.body.now c.args.cursor c.seek-found.result c.seek-found.ensures c.if-found-eq0.seen (record { ratios = c.if-found-eq0.ratios; fill = c.if-found-eq0.fill }) w.if-found-eq0.false w.seen-is (window w.ratios-is w.fill-is)
+  ],
+)

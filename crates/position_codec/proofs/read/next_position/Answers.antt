@@ -1,5 +1,4 @@
 use native.Mathlib.Omega.{arith}
-use borrow.Author.Tests.{not-true, not-false}
 use Rattle.position_codec.proofs.read.NextPosition.{position-none, total_fits, total_back, position_small, position_is}
 use Rattle.position_codec.proofs.read.next_position.Goals as goal
 

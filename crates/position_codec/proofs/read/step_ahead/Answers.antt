@@ -53,8 +53,7 @@ short_step-requires c = let leads : Leads (table_of c.args.form) (ahead 5 (drop 
     let width_is : c.width_of-width.result ≡ (get_or (table_of c.args.form) c.lead_of-l.result.row no_row).width = c.width_of-width.ensures ∙ sym (ap (λ (r : Row). r.width) (same_range c.args.form c.lead_of-l.result.row leads.row)) in
     let fits : (0 < c.lead_of-l.result.len) × (c.width_of-width.result ≤ c.lead_of-l.result.len) = let l = leads in
     (omega (arith, l.len, (row_within 1 (most_bits c.args.form) (table_of c.args.form) (form_sound c.args.form).lengths c.lead_of-l.result.row l.row).0), omega (arith, l.len, width_is)) in
-    let small : c.field_ahead.result < 2 ^ c.width_of-width.result = omega (arith, c.field_ahead.ensures, mod-lt (c.args.w / 2 ^ (64 - c.lead_of-l.result.len)) (pow_pos c.width_of-width.result)) in
-    (
+    let small : c.field_ahead.result < 2 ^ c.width_of-width.result = omega (arith, c.field_ahead.ensures, mod-lt (c.args.w / 2 ^ (64 - c.lead_of-l.result.len)) (pow_pos c.width_of-width.result)) in (
       c.lead_of-l.ensures.1,
       inside,
       subst (λ (m : ℕ). c.field_ahead.result < 2 ^ m) c.width_of-width.ensures small,

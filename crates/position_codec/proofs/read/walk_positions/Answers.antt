@@ -32,8 +32,7 @@ get_point-requires c = let table = table_of c.args.form in
       short = omega (arith, c.if-body-gt-MAX_BYTES.false);
       inside = state_inside table (table_good c.args.form) c.args.count c.args.body.now c.loop-i.invariant.ts c.loop-i.at c.loop-i.a c.loop-i.b c.loop-i.i c.loop-i.invariant.state;
     } in
-    let g = table_good c.args.form in
-    (
+    let g = table_good c.args.form in (
       inside,
       state_raw table g c.args.count c.args.body.now c.loop-i.invariant.ts c.loop-i.at c.loop-i.a c.loop-i.b c.loop-i.i c.loop-i.invariant.state,
       state_far table g c.args.count c.args.body.now c.loop-i.invariant.ts c.loop-i.at c.loop-i.a c.loop-i.b c.loop-i.i c.loop-i.invariant.state,

@@ -60,8 +60,7 @@ returns-then-n-le57 c = let width_is : c.width_of-width.result ≡ (get_or wide_
     let rest_fits : c.field_ahead-rest.result < 2 ^ c.width_of-width.result = omega (arith, c.field_ahead-rest.ensures, mod-lt (c.args.w / 2 ^ (64 - c.args.n)) (pow_pos c.width_of-width.result)) in
     let rest_bits : let k = (get_or wide_rows c.args.row no_row).width in bits_of c.width_of-width.result c.field_ahead-rest.result ≡ take k (drop (c.args.at + (c.args.n - k)) (bits c.args.body.now)) = ap (bits_of c.width_of-width.result) c.field_ahead-rest.ensures
     ∙ field_bits c.args.body.now c.args.at c.args.w c.args.n c.width_of-width.result c.requires.6 c.if-n-le57.true c.requires.2 narrow
-    ∙ ap (λ (k : ℕ). take k (drop (c.args.at + (c.args.n - k)) (bits c.args.body.now))) width_is in
-    (
+    ∙ ap (λ (k : ℕ). take k (drop (c.args.at + (c.args.n - k)) (bits c.args.body.now))) width_is in (
       omega (arith, c.lay-then-n-le57.ensures.0),
       c.lay-then-n-le57.ensures.1,
       rw (two-bits c.byte_of-size.result c.width_of-width.result prefix.fits rest_fits one_field, sym prefix.bits, rest_bits) at c.lay-then-n-le57.ensures.2,
@@ -69,8 +68,7 @@ returns-then-n-le57 c = let width_is : c.width_of-width.result ≡ (get_or wide_
 
 pub copy_bits-requires : goal.copy_bits-requires
 copy_bits-requires c = let small : c.args.row < 6 = omega (arith, c.requires.0, form_count c.args.form) in
-    let width_is : c.width_of-width.result ≡ (get_or wide_rows c.args.row no_row).width = c.width_of-width.ensures in
-    (
+    let width_is : c.width_of-width.result ≡ (get_or wide_rows c.args.row no_row).width = c.width_of-width.ensures in (
       omega (arith, width_is, (row_fits c.args.row small).narrow),
       omega (arith, width_is, c.requires.1, c.requires.2),
       c.requires.3,

@@ -3,7 +3,7 @@ use mathlib.Core.List.{List, ◌++◌}
 use mathlib.Core.Path.{◌≡◌, sym, ap, ap₂, ◌∙◌}
 use Prim.Native.Nat.{ℕ, ◌+◌, ◌-◌, ◌*◌, ◌≤◌, ◌<◌}
 use native.Mathlib.Omega.{arith}
-use borrow.Author.Tests.{not-false, ltb-true}
+use borrow.Author.Tests.{ltb-true}
 use lib.Dec.{ltb}
 use lib.ListN.{length, get_or, take, drop}
 use lib.Seq.{take_all}
@@ -69,8 +69,7 @@ get_ahead-w-requires c = let source = table_of c.args.from in
     let stands : CodeStands source (drop c.loop-i.at (bits c.args.body.now)) step = code_stands source (table_good c.args.from) c.args.count c.args.body.now positions coding c.loop-i.i both c.loop-i-test.true c.loop-i.at now_here.place in
     let ends : c.loop-i.at + length (code source step) ≡ length (position_bits source (take (c.loop-i.i + 1) positions)) = code_ends source (table_good c.args.from) c.args.count c.args.body.now positions coding c.loop-i.i both c.loop-i-test.true c.loop-i.at now_here.place in
     let room : c.loop-i.at + length (code source step) ≤ 8 * length c.args.body.now = omega (arith, ends, place_inside source (table_good c.args.from) c.args.count c.args.body.now positions coding (c.loop-i.i + 1) (omega (arith, c.loop-i-test.true))) in
-    let some_bits : 0 < length (code source step) = omega (arith, (code_within 1 (most_bits c.args.from) source (form_sound c.args.from).lengths step stands.held).0) in
-    (
+    let some_bits : 0 < length (code source step) = omega (arith, (code_within 1 (most_bits c.args.from) source (form_sound c.args.from).lengths step stands.held).0) in (
       omega (arith, raw_inside source (table_good c.args.from) c.args.count c.args.body.now positions coding 2 (omega arith) (omega (arith, both, c.loop-i-test.true))),
       omega (arith, short),
       omega (arith, room, some_bits),
@@ -274,8 +273,7 @@ returns c = let source = table_of c.args.from in
     let all : take c.loop-i.i positions ≡ positions = take_all c.loop-i.i positions (omega (arith, coding.many, c.loop-i-test.false)) in
     let codable : CodablePositions c.args.to positions = inside_codable c.args.to positions (sound-range c.args.from c.args.count c.args.body.now c.requires.0)
     (omega (arith, coding.many, c.loop-i-test.false, now_here.inside)) in
-    let ts = positions in
-    (
+    let ts = positions in (
       codable,
       c.put_last.ensures c.args.out.now (position_bits target ts) (below_of 256 c.args.out.now (λ j. (c.slice_known-1.given j).fits))
           (positions_below target (table_good c.args.to) ts (codable_valid c.args.to ts codable))

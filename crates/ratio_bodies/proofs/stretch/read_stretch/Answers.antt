@@ -24,8 +24,7 @@ use Rattle.ratio_bodies.proofs.stretch.read_stretch.Goals as goal
 pub returns-in_default : goal.returns-in_default
 returns-in_default c = let w = window_of window_size (take c.loop-i.i c.loop-i.ratios) in
     let rest = drop c.loop-i.at c.args.body.now in
-    let more : c.loop-i.i < c.args.to = c.loop-i-test.true in
-    (
+    let more : c.loop-i.i < c.args.to = c.loop-i-test.true in (
       taking_stop strict_one c.args.to c.args.body.now c.args.ratios.now c.args.from c.args.begun c.loop-i.ratios c.loop-i.at c.loop-i.i c.loop-i.invariant.0 more Nothing
           (strict_nothing w rest c.open_from-r.result c.open_from-r.ensures c.in_default.is) refl,
       c.loop-i.invariant.0.inside,
@@ -35,8 +34,7 @@ returns-in_default c = let w = window_of window_size (take c.loop-i.i c.loop-i.r
 pub returns-then-not-accepts : goal.returns-then-not-accepts
 returns-then-not-accepts c = let w = window_of window_size (take c.loop-i.i c.loop-i.ratios) in
     let rest = drop c.loop-i.at c.args.body.now in
-    let more : c.loop-i.i < c.args.to = c.loop-i-test.true in
-    (
+    let more : c.loop-i.i < c.args.to = c.loop-i-test.true in (
       taking_stop strict_one c.args.to c.args.body.now c.args.ratios.now c.args.from c.args.begun c.loop-i.ratios c.loop-i.at c.loop-i.i c.loop-i.invariant.0 more Nothing
           (strict_other w rest c.open_from-r.result c.open_from-r.ensures c.in-Ratio.v c.in-Ratio.n c.accepts.result c.in-Ratio.is c.accepts.ensures c.if-not-accepts.true) refl,
       c.loop-i.invariant.0.inside,
@@ -99,7 +97,7 @@ loop-i-preserved c = let w = window_of window_size (take c.loop-i.i c.loop-i.rat
 
 pub returns : goal.returns
 returns c = (
-      taking_all strict_one c.args.to c.args.body.now c.args.ratios.now c.args.from c.args.begun c.loop-i.ratios c.loop-i.at c.loop-i.i c.loop-i.invariant.0 (omega arith),
-      c.loop-i.invariant.0.inside,
-      record { planes = c.loop-i.invariant.1; behind = c.loop-i.invariant.2; marks = c.loop-i.invariant.3 },
-    )
+  taking_all strict_one c.args.to c.args.body.now c.args.ratios.now c.args.from c.args.begun c.loop-i.ratios c.loop-i.at c.loop-i.i c.loop-i.invariant.0 (omega arith),
+  c.loop-i.invariant.0.inside,
+  record { planes = c.loop-i.invariant.1; behind = c.loop-i.invariant.2; marks = c.loop-i.invariant.3 },
+)

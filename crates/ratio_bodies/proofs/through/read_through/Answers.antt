@@ -17,7 +17,6 @@ use Rattle.ratio_bodies.proofs.Sliding.{ready_slid, window_slid}
 use Rattle.ratio_bodies.proofs.Taking.{onto_front}
 use Rattle.ratio_bodies.proofs.through.read_through.Goals as goal
 
-
 pub returns-then-r-to : goal.returns-then-r-to
 returns-then-r-to c = let ends : (c.loop-planes.from ≤ c.end_of-to.result) × (c.end_of-to.result ≤ c.args.count - c.loop-planes.before) × (c.end_of-to.result ≤ length c.loop-planes.ratios) = (
   omega (arith, c.end_of-to.ensures, c.loop-planes.invariant.1, c.loop-planes.invariant.2.few),

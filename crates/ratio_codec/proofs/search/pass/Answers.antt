@@ -13,8 +13,7 @@ use Rattle.ratio_codec.proofs.search.pass.Goals as goal
 
 pub returns-then-sum-eq7 : goal.returns-then-sum-eq7
 returns-then-sum-eq7 c = let w = reverse c.args.window.now in
-    let known = reverse_below (2 ^ 64) c.args.window.now (below_of (2 ^ 64) c.args.window.now (λ k. (c.shared_slice_known-1.given k).fits)) in
-    (
+    let known = reverse_below (2 ^ 64) c.args.window.now (below_of (2 ^ 64) c.args.window.now (λ k. (c.shared_slice_known-1.given k).fits)) in (
       omega arith,
       omega (arith, c.pass_equal.ensures, find_from_le c.args.v w c.args.from (rw length-reverse c.requires.0), length-reverse c.args.window.now),
       rw (c.pass_equal.ensures, c.if-sum-eq7.true) (find_from_passed c.args.v w c.ranges.v.fits known c.args.from),

@@ -20,8 +20,9 @@ pass-i-requires c = let counted : Scanned c.args.v c.args.window.now (c.loop-i.i
     let h : c.loop-i.i < length c.args.window.now = omega arith in
     let o = sum_other c.args.v (get_or c.args.window.now (length c.args.window.now - 1 - c.loop-i.i) 0) c.ranges.v.fits k (λ q. c.if-u-v.false (sym q)) in
     elim c.if-sum-s.branch [
-    then-sum-s t ↦ let n = scanned_wins c.args.v c.args.window.now c.loop-i.i c.loop-i.place c.loop-i.sum c.loop-i.invariant h (omega arith) (omega arith) in let e = n.2 in (n.0, omega arith, cc)
-    | else-sum-s t ↦ let n = scanned_loses c.args.v c.args.window.now c.loop-i.i c.loop-i.place c.loop-i.sum c.loop-i.invariant h (omega arith) in let e = n.2 in (n.0, omega arith, cc) ] in
+      | then-sum-s t ↦ let n = scanned_wins c.args.v c.args.window.now c.loop-i.i c.loop-i.place c.loop-i.sum c.loop-i.invariant h (omega arith) (omega arith) in let e = n.2 in (n.0, omega arith, cc)
+      | else-sum-s t ↦ let n = scanned_loses c.args.v c.args.window.now c.loop-i.i c.loop-i.place c.loop-i.sum c.loop-i.invariant h (omega arith) in let e = n.2 in (n.0, omega arith, cc)
+    ] in
     let s = counted in (s.0, s.1)
 
 pub loop-i-preserved : goal.loop-i-preserved
@@ -29,6 +30,7 @@ loop-i-preserved c = let counted : Scanned c.args.v c.args.window.now (c.loop-i.
     let h : c.loop-i.i < length c.args.window.now = omega arith in
     let o = sum_other c.args.v (get_or c.args.window.now (length c.args.window.now - 1 - c.loop-i.i) 0) c.ranges.v.fits k (λ q. c.if-u-v.false (sym q)) in
     elim c.if-sum-s.branch [
-    then-sum-s t ↦ let n = scanned_wins c.args.v c.args.window.now c.loop-i.i c.loop-i.place c.loop-i.sum c.loop-i.invariant h (omega arith) (omega arith) in let e = n.2 in (n.0, omega arith, cc)
-    | else-sum-s t ↦ let n = scanned_loses c.args.v c.args.window.now c.loop-i.i c.loop-i.place c.loop-i.sum c.loop-i.invariant h (omega arith) in let e = n.2 in (n.0, omega arith, cc) ] in
+      | then-sum-s t ↦ let n = scanned_wins c.args.v c.args.window.now c.loop-i.i c.loop-i.place c.loop-i.sum c.loop-i.invariant h (omega arith) (omega arith) in let e = n.2 in (n.0, omega arith, cc)
+      | else-sum-s t ↦ let n = scanned_loses c.args.v c.args.window.now c.loop-i.i c.loop-i.place c.loop-i.sum c.loop-i.invariant h (omega arith) in let e = n.2 in (n.0, omega arith, cc)
+    ] in
     scanned_pass c.args.v c.args.window.now (c.loop-i.i + 1) c.if-sum-s.place c.if-sum-s.sum counted c.pass-i.result c.pass-i.ensures.0 c.pass-i.ensures.2 c.pass-i.ensures.1

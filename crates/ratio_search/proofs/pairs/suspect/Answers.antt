@@ -7,12 +7,12 @@ use Rattle.ratio_search.proofs.pairs.suspect.Goals as goal
 
 pub loop-j-preserved : goal.loop-j-preserved
 loop-j-preserved c = (
-      omega arith,
-      λ e. quiet_more c.args.planes.now
-          (c.args.p.a * slots + c.args.slot) c.byte_of-x.result (c.args.p.b * slots + c.args.slot) c.byte_of-y.result
-          (c.args.p.c * slots + c.args.slot) c.byte_of-z.result (c.args.p.d * slots + c.args.slot) c.byte_of-w.result
-          c.loop-j.any c.loop-j.j c.loop-j.invariant.1 e,
-    )
+  omega arith,
+  λ e. quiet_more c.args.planes.now
+      (c.args.p.a * slots + c.args.slot) c.byte_of-x.result (c.args.p.b * slots + c.args.slot) c.byte_of-y.result
+      (c.args.p.c * slots + c.args.slot) c.byte_of-z.result (c.args.p.d * slots + c.args.slot) c.byte_of-w.result
+      c.loop-j.any c.loop-j.j c.loop-j.invariant.1 e,
+)
 
 pub returns : goal.returns
 returns c = λ e t h g.

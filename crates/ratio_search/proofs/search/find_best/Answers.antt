@@ -22,10 +22,11 @@ pairs_of-p-requires c = let counted : Searching c.args.v c.args.ratios.now c.arg
     let sum : sum_of c.args.v u ≡ c.lead_zeros.result + c.trail_zeros-t.result = ap₂ (λ (x y : ℕ). x + y) (sym c.lead_zeros.ensures.0) (sym c.trail_zeros-t.ensures.0) in
     let from : c.args.i - window_size < c.loop-q.q = omega arith in
     elim c.if-sum-s.branch [
-    then-sum-s w ↦ searching_as c.args.v c.args.ratios.now c.args.i (c.loop-q.q - 1) c.if-sum-s.at (c.loop-q.q - 1) c.if-sum-s.trail c.trail_zeros-t.result c.if-sum-s.sum (c.lead_zeros.result + c.trail_zeros-t.result) w.at-is w.trail-is w.sum-is
-    (searching_wins c.args.v c.args.ratios.now c.args.i c.loop-q.q c.loop-q.at c.loop-q.trail c.loop-q.sum c.loop-q.invariant from c.trail_zeros-t.result (c.lead_zeros.result + c.trail_zeros-t.result) sum (omega arith) (omega arith) w.if-sum-s.true)
-    | else-sum-s w ↦ searching_as c.args.v c.args.ratios.now c.args.i (c.loop-q.q - 1) c.if-sum-s.at c.loop-q.at c.if-sum-s.trail c.loop-q.trail c.if-sum-s.sum c.loop-q.sum w.at-is w.trail-is w.sum-is
-    (searching_loses c.args.v c.args.ratios.now c.args.i c.loop-q.q c.loop-q.at c.loop-q.trail c.loop-q.sum c.loop-q.invariant from (omega (arith, w.if-sum-s.false))) ] in
+      | then-sum-s w ↦ searching_as c.args.v c.args.ratios.now c.args.i (c.loop-q.q - 1) c.if-sum-s.at (c.loop-q.q - 1) c.if-sum-s.trail c.trail_zeros-t.result c.if-sum-s.sum (c.lead_zeros.result + c.trail_zeros-t.result) w.at-is w.trail-is w.sum-is
+          (searching_wins c.args.v c.args.ratios.now c.args.i c.loop-q.q c.loop-q.at c.loop-q.trail c.loop-q.sum c.loop-q.invariant from c.trail_zeros-t.result (c.lead_zeros.result + c.trail_zeros-t.result) sum (omega arith) (omega arith) w.if-sum-s.true)
+      | else-sum-s w ↦ searching_as c.args.v c.args.ratios.now c.args.i (c.loop-q.q - 1) c.if-sum-s.at c.loop-q.at c.if-sum-s.trail c.loop-q.trail c.if-sum-s.sum c.loop-q.sum w.at-is w.trail-is w.sum-is
+          (searching_loses c.args.v c.args.ratios.now c.args.i c.loop-q.q c.loop-q.at c.loop-q.trail c.loop-q.sum c.loop-q.invariant from (omega (arith, w.if-sum-s.false)))
+    ] in
     let s = counted in (s.2, s.4)
 
 pub loop-q-preserved : goal.loop-q-preserved
@@ -36,10 +37,11 @@ loop-q-preserved c = let counted : Searching c.args.v c.args.ratios.now c.args.i
     let sum : sum_of c.args.v u ≡ c.lead_zeros.result + c.trail_zeros-t.result = ap₂ (λ (x y : ℕ). x + y) (sym c.lead_zeros.ensures.0) (sym c.trail_zeros-t.ensures.0) in
     let from : c.args.i - window_size < c.loop-q.q = omega arith in
     elim c.if-sum-s.branch [
-    then-sum-s w ↦ searching_as c.args.v c.args.ratios.now c.args.i (c.loop-q.q - 1) c.if-sum-s.at (c.loop-q.q - 1) c.if-sum-s.trail c.trail_zeros-t.result c.if-sum-s.sum (c.lead_zeros.result + c.trail_zeros-t.result) w.at-is w.trail-is w.sum-is
-    (searching_wins c.args.v c.args.ratios.now c.args.i c.loop-q.q c.loop-q.at c.loop-q.trail c.loop-q.sum c.loop-q.invariant from c.trail_zeros-t.result (c.lead_zeros.result + c.trail_zeros-t.result) sum (omega arith) (omega arith) w.if-sum-s.true)
-    | else-sum-s w ↦ searching_as c.args.v c.args.ratios.now c.args.i (c.loop-q.q - 1) c.if-sum-s.at c.loop-q.at c.if-sum-s.trail c.loop-q.trail c.if-sum-s.sum c.loop-q.sum w.at-is w.trail-is w.sum-is
-    (searching_loses c.args.v c.args.ratios.now c.args.i c.loop-q.q c.loop-q.at c.loop-q.trail c.loop-q.sum c.loop-q.invariant from (omega (arith, w.if-sum-s.false))) ] in
+      | then-sum-s w ↦ searching_as c.args.v c.args.ratios.now c.args.i (c.loop-q.q - 1) c.if-sum-s.at (c.loop-q.q - 1) c.if-sum-s.trail c.trail_zeros-t.result c.if-sum-s.sum (c.lead_zeros.result + c.trail_zeros-t.result) w.at-is w.trail-is w.sum-is
+          (searching_wins c.args.v c.args.ratios.now c.args.i c.loop-q.q c.loop-q.at c.loop-q.trail c.loop-q.sum c.loop-q.invariant from c.trail_zeros-t.result (c.lead_zeros.result + c.trail_zeros-t.result) sum (omega arith) (omega arith) w.if-sum-s.true)
+      | else-sum-s w ↦ searching_as c.args.v c.args.ratios.now c.args.i (c.loop-q.q - 1) c.if-sum-s.at c.loop-q.at c.if-sum-s.trail c.loop-q.trail c.if-sum-s.sum c.loop-q.sum w.at-is w.trail-is w.sum-is
+          (searching_loses c.args.v c.args.ratios.now c.args.i c.loop-q.q c.loop-q.at c.loop-q.trail c.loop-q.sum c.loop-q.invariant from (omega (arith, w.if-sum-s.false)))
+    ] in
     searching_pass c.args.v c.args.ratios.now c.args.i (c.loop-q.q - 1) c.if-sum-s.at c.if-sum-s.trail c.if-sum-s.sum counted c.pass-q.result c.pass-q.ensures.1 c.pass-q.ensures.2
 
 pub returns : goal.returns

@@ -1,3 +1,4 @@
+-- `get_bytes` meets its contract: the goals that the check leaves.
 use mathlib.Core.Path.{refl}
 use native.Mathlib.Omega.{arith}
 use Rattle.bits.specs.Digits.{number_of}
@@ -12,11 +13,13 @@ pub overflow_mul-y : goal.overflow_mul-y
 overflow_mul-y c = omega (arith, bytes_lt 7 c.loop-i.i (omega arith) c.loop-i.invariant.2)
 
 pub overflow_add-y : goal.overflow_add-y
-overflow_add-y c = let l = c.loop-i in
+overflow_add-y c =
+    let l = c.loop-i in
     omega (arith, bytes_lt 7 l.i (omega arith) l.invariant.2)
 
 pub loop-i-preserved : goal.loop-i-preserved
-loop-i-preserved c = let l = c.loop-i in
+loop-i-preserved c =
+    let l = c.loop-i in
     let a = c.args in
     let w = c.wide in (
       omega arith,

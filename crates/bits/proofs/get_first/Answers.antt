@@ -1,3 +1,4 @@
+-- `bits::get_first` meets its contract: the eight bytes' number, shifted down by those after the first n.
 use mathlib.Core.Path.{refl}
 use native.Mathlib.Omega.{arith}
 use lib.ListN.{drop, length-drop}
@@ -11,7 +12,8 @@ unfolding number_of
 returns-then-n-eq0 c = rw c.if-n-eq0.true (refl, omega arith)
 
 pub returns : goal.returns
-returns c = let a = c.args in
+returns c =
+    let a = c.args in
     let l = drop a.at a.s.now in
     first_bytes l a.n c.get_bytes.result c.requires.0 (omega (arith, c.requires.1, length-drop a.at a.s.now))
     (below_drop 256 a.at a.s.now (below_of 256 a.s.now (λ i. (c.shared_slice_known-1.given i).fits))) c.get_bytes.ensures.0

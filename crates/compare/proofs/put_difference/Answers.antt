@@ -1,3 +1,4 @@
+-- `put_difference` meets its contract: the line of each case.
 use native.Mathlib.Omega.{arith}
 use Rattle.text.proofs.PlacedAt.{placed_known}
 use Rattle.compare.specs.Lines.{position_line, more_line, line_of}

@@ -1,3 +1,4 @@
+-- `put_point` meets its contract: the position's line, and then the ratio's.
 use mathlib.Core.Path.{ap}
 use native.Mathlib.Omega.{arith}
 use Rattle.text.proofs.PlacedAt.{placed_same, placed_then}

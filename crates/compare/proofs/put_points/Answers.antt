@@ -1,3 +1,4 @@
+-- `put_points` meets its contract: the goals that the check leaves.
 use mathlib.Core.Path.{refl}
 use native.Mathlib.Omega.{arith}
 use Rattle.compare.proofs.Pieces.{points_none, points_more}

@@ -1,3 +1,4 @@
+-- `put_properties` meets its contract: four lines, one after the other.
 use native.Mathlib.Omega.{arith}
 use Rattle.text.proofs.PlacedAt.{placed_then}
 use Rattle.compare.proofs.put_properties.Goals as goal

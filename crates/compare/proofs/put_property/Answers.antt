@@ -1,3 +1,4 @@
+-- `put_property` meets its contract: the property's word, and both values.
 use native.Mathlib.Omega.{arith}
 use Rattle.text.proofs.PlacedAt.{placed_same, placed_within, placed_then}
 use Rattle.compare.specs.Lines.{property_line}

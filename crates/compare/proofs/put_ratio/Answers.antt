@@ -1,3 +1,4 @@
+-- `put_ratio` meets its contract: the index, kind and bits of each ratio, and the line's end.
 use native.Mathlib.Omega.{arith}
 use Rattle.text.proofs.PlacedAt.{placed_then}
 use Rattle.compare.specs.Lines.{ratio_line}

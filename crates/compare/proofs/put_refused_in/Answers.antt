@@ -1,3 +1,4 @@
+-- `put_refused_in` meets its contract: three words and three numbers.
 use native.Mathlib.Omega.{arith}
 use Rattle.text.proofs.PlacedAt.{placed_within}
 use Rattle.compare.specs.Lines.{refused_in_line}

@@ -1,3 +1,4 @@
+-- `differences::position_at` meets its contract: by the values at the index.
 use mathlib.Core.Path.{sym, ap, ◌∙◌}
 use Rattle.differences.specs.Differences.{position_by, position_at}
 use Rattle.differences.proofs.position_at.Goals as goal

@@ -1,3 +1,4 @@
+-- `differences::ratio_at` meets its contract: by the values at the index, and the kinds of both.
 use mathlib.Core.Path.{sym, ap, ap₂, ◌∙◌}
 use Rattle.kind.specs.declared.Kind.{Kind}
 use Rattle.differences.specs.declared.Difference.TheVariants.{Ratio}
@@ -10,6 +11,7 @@ returns-in-Nothing c = ap (ratio_by c.args.index) (sym c.in-Nothing.is ∙ c.val
 
 pub returns-in-Other : goal.returns-in-Other
 unfolding ratio_at
-returns-in-Other c = let i = c.args.index in
+returns-in-Other c =
+    let i = c.args.index in
     ap₂ (λ (x y : Kind). Ratio i c.in-Other.a x c.in-Other.b y) c.kind_of.ensures c.kind_of-in-Other.ensures
     ∙ ap (ratio_by i) (sym c.in-Other.is ∙ c.values_at-values.ensures)

@@ -1,3 +1,4 @@
+-- `body_size` meets its contract: nine bytes for each ratio are room enough.
 use mathlib.Core.List.{List, []}
 use mathlib.Core.Path.{◌≡◌, subst}
 use Prim.Native.Nat.{ℕ, ◌<◌}

@@ -1,4 +1,5 @@
 -- `index_in` meets its contract. The loop's invariant: the bytes passed are digits, and n is the number that they make, cut at the largest number
+-- of points. The measure is what is left of the length.
 use mathlib.Core.Path.{◌≡◌}
 use Prim.Native.Nat.{◌-◌, ◌≤◌, min}
 use lib.ListN.{length}

@@ -1,3 +1,4 @@
+-- `print` meets its contract: what is put into the output is the text for what reading the input left, and the index.
 use mathlib.Core.Path.{◌≡◌, ap, ◌∙◌}
 use Prim.Native.Nat.{ℕ, ◌-◌, ◌≤◌}
 use native.Mathlib.Omega.{arith}
@@ -17,19 +18,22 @@ pub returns-then-number-ne0 : goal.returns-then-number-ne0
 returns-then-number-ne0 c = placed_within (omega arith) (placed_same (refused_text_lem c.read_input-answer.ensures c.args.index.now c.if-number-ne0.true) c.put_refused.ensures)
 
 pub overflow_sub-body : goal.overflow_sub-body
-overflow_sub-body c = let ratios = take c.read_input-answer.result.count c.read_input-answer.new.ratios in
+overflow_sub-body c =
+    let ratios = take c.read_input-answer.result.count c.read_input-answer.new.ratios in
     let body : (length (coded_ratios ratios) ≤ c.read_input-answer.result.size) × (c.read_input-answer.result.size - length (coded_ratios ratios) ≡ body_in c.args.input.now) × (c.read_input-answer.result.size ≤ input_limit) = body_start c.read_input-answer.ensures c.args.index.now c.if-number-ne0.false in
     omega (arith, c.body_size.ensures, body.0)
 
 pub put_index-requires : goal.put_index-requires
-put_index-requires c = let run-held : RunHeld c.read_input-answer.result.count c.read_input-answer.new.positions c.read_input-answer.new.ratios = c.read_input-answer.ensures.held c.if-number-ne0.false in
+put_index-requires c =
+    let run-held : RunHeld c.read_input-answer.result.count c.read_input-answer.new.positions c.read_input-answer.new.ratios = c.read_input-answer.ensures.held c.if-number-ne0.false in
     let ratios = take c.read_input-answer.result.count c.read_input-answer.new.ratios in
     let few : length ratios ≡ c.read_input-answer.result.count = length-take-le _ _ run-held.ratios in
     let body : (length (coded_ratios ratios) ≤ c.read_input-answer.result.size) × (c.read_input-answer.result.size - length (coded_ratios ratios) ≡ body_in c.args.input.now) × (c.read_input-answer.result.size ≤ input_limit) = body_start c.read_input-answer.ensures c.args.index.now c.if-number-ne0.false in
     (omega (arith, c.requires.1), omega (arith, few, run-held.few), omega (arith, body.2))
 
 pub returns : goal.returns
-returns c = let run-held : RunHeld c.read_input-answer.result.count c.read_input-answer.new.positions c.read_input-answer.new.ratios = c.read_input-answer.ensures.held c.if-number-ne0.false in
+returns c =
+    let run-held : RunHeld c.read_input-answer.result.count c.read_input-answer.new.positions c.read_input-answer.new.ratios = c.read_input-answer.ensures.held c.if-number-ne0.false in
     let ratios = take c.read_input-answer.result.count c.read_input-answer.new.ratios in
     let few : length ratios ≡ c.read_input-answer.result.count = length-take-le _ _ run-held.ratios in
     let b = c.read_input-answer.result.size - c.body_size.result in

@@ -1,3 +1,4 @@
+-- `put_cost` meets its contract: the index, the bits, and then the cost and the offset.
 use native.Mathlib.Omega.{arith}
 use Rattle.text.proofs.PlacedAt.{placed_then}
 use Rattle.explain.specs.Lines.{cost_line}

@@ -1,3 +1,4 @@
+-- `put_index` meets its contract: an index that no ratio has, or both lines.
 use native.Mathlib.Omega.{arith}
 use Rattle.text.proofs.PlacedAt.{placed_same, placed_within}
 use Rattle.explain.proofs.Printed.{point_past}

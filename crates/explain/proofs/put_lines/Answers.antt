@@ -1,3 +1,4 @@
+-- `put_lines` meets its contract: the line of the cost, and that of the reason.
 use mathlib.Core.List.{[], ◌++◌}
 use mathlib.Core.Path.{◌≡◌, ap, ◌∙◌}
 use Prim.Native.Nat.{ℕ, ◌+◌}
@@ -19,7 +20,8 @@ overflow_add-b c = record {
 }
 
 pub returns : goal.returns
-returns c = let text : cost_line c.args.i (get_or c.args.ratios.now c.args.i 0) c.bytes_of-bytes.result.cost (c.args.b + c.bytes_of-bytes.result.before) ++ reason_line c.explain-reason.result ≡ point_text c.args.b c.args.ratios.now c.args.i =
+returns c =
+    let text : cost_line c.args.i (get_or c.args.ratios.now c.args.i 0) c.bytes_of-bytes.result.cost (c.args.b + c.bytes_of-bytes.result.before) ++ reason_line c.explain-reason.result ≡ point_text c.args.b c.args.ratios.now c.args.i =
     ap (λ (n : ℕ). cost_line c.args.i (get_or c.args.ratios.now c.args.i 0) n (c.args.b + c.bytes_of-bytes.result.before) ++ reason_line c.explain-reason.result) c.bytes_of-bytes.ensures.1
     ∙ ap (λ (n : ℕ). cost_line c.args.i (get_or c.args.ratios.now c.args.i 0) (cost_of c.args.ratios.now c.args.i) (c.args.b + n) ++ reason_line c.explain-reason.result) c.bytes_of-bytes.ensures.0
     ∙ ap (λ (r : Reason). cost_line c.args.i (get_or c.args.ratios.now c.args.i 0) (cost_of c.args.ratios.now c.args.i) (offset_of c.args.b c.args.ratios.now c.args.i) ++ reason_line r) c.explain-reason.ensures

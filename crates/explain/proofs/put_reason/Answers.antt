@@ -1,3 +1,4 @@
+-- `put_reason` meets its contract: the line of each case.
 use native.Mathlib.Omega.{arith}
 use Rattle.text.proofs.PlacedAt.{placed_known}
 use Rattle.explain.specs.Lines.{reason_line}

@@ -1,3 +1,4 @@
+-- `put_xor` meets its contract: three words with their numbers, and the line's last words.
 use native.Mathlib.Omega.{arith}
 use Rattle.text.proofs.PlacedAt.{placed_then}
 use Rattle.explain.specs.Lines.{xor_line}

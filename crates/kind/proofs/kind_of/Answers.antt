@@ -1,3 +1,4 @@
+-- `kind_of` meets its contract: each return is one of the three places of the bits without their sign.
 use mathlib.Core.Path.{sym, ap}
 use native.Mathlib.Omega.{arith}
 use Rattle.kind.specs.Kinds.{kind_at}
@@ -5,10 +6,12 @@ use Rattle.kind.proofs.Claims.Values.{value_above, value_equal, value_not_nan, v
 use Rattle.kind.proofs.kind_of.Goals as goal
 
 pub returns-then-magnitude-gt-INFINITY : goal.returns-then-magnitude-gt-INFINITY
-returns-then-magnitude-gt-INFINITY c = let n = c.args.ratio in sym (ap (kind_at n) (value_above n c.if-magnitude-gt-INFINITY.true))
+returns-then-magnitude-gt-INFINITY c =
+    let n = c.args.ratio in sym (ap (kind_at n) (value_above n c.if-magnitude-gt-INFINITY.true))
 
 pub returns-then-magnitude-eq-INFINITY : goal.returns-then-magnitude-eq-INFINITY
-returns-then-magnitude-eq-INFINITY c = let n = c.args.ratio in sym (ap (kind_at n) (value_equal n c.if-magnitude-eq-INFINITY.true))
+returns-then-magnitude-eq-INFINITY c =
+    let n = c.args.ratio in sym (ap (kind_at n) (value_equal n c.if-magnitude-eq-INFINITY.true))
 
 pub float_from_bits-result : goal.float_from_bits-result
 float_from_bits-result c = value_not_nan c.args.ratio c.if-magnitude-gt-INFINITY.false

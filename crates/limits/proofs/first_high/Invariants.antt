@@ -1,4 +1,5 @@
 -- `first_high` meets its contract. The loop's invariant: no index passed has a position above the largest.
+-- The measure is what is left of the length.
 use Prim.Native.Nat.{◌≤◌, ◌-◌}
 use lib.ListN.{length}
 use Rattle.limits.specs.Points.{first_high}

@@ -1,3 +1,4 @@
+-- `is_rate` meets its contract, base by base.
 use mathlib.Core.Path.{sym}
 use Rattle.limits.specs.Rates.{rates, is_rate}
 use Rattle.lists.proofs.Lists.{member-append}

@@ -1,3 +1,4 @@
+-- `is_side` meets its contract.
 use borrow.Author.Tests.{le-leb, lt-leb}
 use Rattle.limits.specs.Sides.{is_side}
 use Rattle.limits.proofs.is_side.Goals as goal

@@ -1,3 +1,4 @@
+-- `put_count` meets its contract.
 use Rattle.listing.specs.Lines.{count_line}
 use Rattle.listing.proofs.put_count.Goals as goal
 

@@ -1,3 +1,4 @@
+-- `put_point` meets its contract: the position, the bits of its ratio, and the line's end.
 use native.Mathlib.Omega.{arith}
 use Rattle.listing.specs.Lines.{point_line}
 use Rattle.text.proofs.PlacedAt.{placed_then}

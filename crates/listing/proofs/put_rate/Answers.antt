@@ -1,3 +1,4 @@
+-- `put_rate` meets its contract.
 use Rattle.listing.specs.Lines.{rate_line}
 use Rattle.listing.proofs.put_rate.Goals as goal
 

@@ -1,3 +1,4 @@
+-- `put_side` meets its contract: no line, or a word and the number.
 use Rattle.listing.proofs.Lines.{side_none, side_line_lem}
 use Rattle.listing.proofs.put_side.Goals as goal
 

@@ -1,3 +1,4 @@
+-- `put_span` meets its contract: the word, the number, and the line's end.
 use mathlib.Core.Path.{ap}
 use native.Mathlib.Omega.{arith}
 use mir.Syntax.{w64}

@@ -1,3 +1,4 @@
+-- `is_same` meets its contract: the goals that the check leaves.
 use mathlib.Core.Path.{sym, ◌∙◌}
 use native.Mathlib.Omega.{arith}
 use Rattle.move_record.proofs.Words.{lengths_differ, byte_differs, byte_same, bytes_end}

@@ -1,3 +1,4 @@
+-- `move_input` meets its contract, by what the move and its line leave.
 use Rattle.move_record.proofs.Printed.{move_told}
 use Rattle.move_record.proofs.move_input.Goals as goal
 

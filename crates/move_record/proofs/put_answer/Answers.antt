@@ -1,3 +1,4 @@
+-- `put_answer` meets its contract, by the number.
 use Rattle.text.proofs.PlacedAt.{placed_same}
 use Rattle.move_record.proofs.Printed.{line_refused, line-moved}
 use Rattle.move_record.proofs.put_answer.Goals as goal

@@ -1,3 +1,4 @@
+-- `put_moved_line` meets its contract: two words and two numbers.
 use native.Mathlib.Omega.{arith}
 use Rattle.text.proofs.PlacedAt.{placed_within}
 use Rattle.move_record.specs.Lines.{moved_line}

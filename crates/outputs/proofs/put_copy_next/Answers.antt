@@ -1,3 +1,4 @@
+-- `put_copy_next` meets its contract, by the laws of writers.
 use Rattle.outputs.proofs.Outputs.Writers.{next_placed}
 use Rattle.outputs.proofs.put_copy_next.Goals as goal
 

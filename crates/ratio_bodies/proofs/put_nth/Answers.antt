@@ -1,3 +1,4 @@
+-- `put_nth` meets its contract: a ratio of a known place is a reference to it, any other is written in its form.
 use mathlib.Core.Path.{subst}
 use native.Mathlib.Omega.{arith}
 use lib.ListN.{get_or}

@@ -1,3 +1,4 @@
+-- `put_ratios` meets its contract: the goals that the check leaves.
 use mathlib.Core.Path.{◌≡◌, refl, sym, ap, ◌∙◌}
 use mathlib.Core.List.{List, ◌++◌}
 use Prim.Native.Nat.{ℕ, ◌+◌, ◌-◌, ◌<◌}
@@ -15,11 +16,13 @@ pub loop-i-init : goal.loop-i-init
 loop-i-init c = (writing_start c.args.ratios.now c.args.out.now, kept_start (replicate cells 0) c.args.ratios.now refl, omega arith, nearly_start c.args.ratios.now)
 
 pub returns-in_default : goal.returns-in_default
-returns-in_default c = let more : c.loop-i.i < length c.args.ratios.now = c.loop-i-test.true in
+returns-in_default c =
+    let more : c.loop-i.i < length c.args.ratios.now = c.loop-i-test.true in
     writing_full c.args.ratios.now c.args.out.now c.loop-i.out c.loop-i.at c.loop-i.i c.loop-i.invariant.0 more c.put_nth-r.result c.put_nth-r.new.out c.in_default.is c.put_nth-r.ensures
 
 pub loop-i-preserved : goal.loop-i-preserved
-loop-i-preserved c = let more : c.loop-i.i < length c.args.ratios.now = c.loop-i-test.true in
+loop-i-preserved c =
+    let more : c.loop-i.i < length c.args.ratios.now = c.loop-i-test.true in
     let next = c.loop-i.at + c.in-Done.n in
     let after = put_mid c.loop-i.at (length c.loop-i.out - c.loop-i.at) c.loop-i.out c.put_nth-r.new.out in
     let one : Writing c.args.ratios.now c.args.out.now after next (c.loop-i.i + 1) = writing_more c.args.ratios.now c.args.out.now c.loop-i.out c.loop-i.at c.loop-i.i c.loop-i.invariant.0 more c.put_nth-r.result c.in-Done.n c.put_nth-r.new.out c.in-Done.is c.put_nth-r.ensures c.put_nth-r.auto.out in

@@ -1,3 +1,4 @@
+-- `shift` meets its contract: the goals that the check leaves.
 use mathlib.Core.Path.{◌≡◌, ap, ◌∙◌}
 use mathlib.Core.List.{List}
 use Prim.Native.Nat.{ℕ, ◌+◌, ◌-◌}
@@ -8,7 +9,8 @@ use Rattle.ratio_format.proofs.Windows.Shifting.{shifted_more, shifted_last}
 use Rattle.ratio_format.proofs.shift.Goals as goal
 
 pub loop-i-preserved : goal.loop-i-preserved
-loop-i-preserved c = let l = c.loop-i in
+loop-i-preserved c =
+    let l = c.loop-i in
     let a = c.args in (
       omega arith,
       length-set l.cells l.i _ ∙ l.invariant.1,
@@ -16,6 +18,7 @@ loop-i-preserved c = let l = c.loop-i in
     )
 
 pub returns : goal.returns
-returns c = let l = c.loop-i in
+returns c =
+    let l = c.loop-i in
     let e : l.i ≡ window_size - 1 = omega arith in
     ap (λ (b : List ℕ). set b (window_size - 1) c.args.v) (rw e at l.invariant.2) ∙ shifted_last c.args.cells.now (window_size - 1) c.args.v c.requires

@@ -1,3 +1,4 @@
+-- `lead_zeros` meets its contract: the leading zero bits, eight to a byte.
 use native.Mathlib.Omega.{arith}
 use lib.Count.{leading_le}
 use Rattle.ratio_format.proofs.Zeros.{lead_eighth}

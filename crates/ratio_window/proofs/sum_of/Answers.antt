@@ -1,3 +1,4 @@
+-- `sum_of` meets its contract: the two counts of the xor together.
 use mathlib.Core.Path.{ap₂}
 use Prim.Native.Nat.{ℕ, ◌+◌}
 use Rattle.ratio_format.specs.Zeros.{sum_of}

@@ -1,3 +1,4 @@
+-- `trail_zeros` meets its contract: the trailing zero bits, eight to a byte.
 use native.Mathlib.Omega.{arith}
 use lib.Count.{trailing_le}
 use Rattle.ratio_format.proofs.Zeros.{trail_eighth}

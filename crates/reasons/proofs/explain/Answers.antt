@@ -1,3 +1,4 @@
+-- `explain` meets its contract: the tests in their order, and then the window of the ratio.
 use mathlib.Core.Path.{sym, ap, ◌∙◌}
 use native.Mathlib.Omega.{arith}
 use lib.ListN.{get_or}

@@ -1,3 +1,4 @@
+-- `between` meets its contract: the way forward is the quotient itself, the way back its negation, less one where the division leaves a remainder.
 use mathlib.Core.Path.{◌≡◌, sym, ap, ◌∙◌}
 use Prim.Native.Nat.{ℕ, ◌-◌, ◌*◌, ◌/◌}
 use native.Mathlib.Omega.{arith}
@@ -10,7 +11,8 @@ use Rattle.span.proofs.Spans.{dividend-backward}
 use Rattle.span.proofs.between.Goals as goal
 
 pub returns-then-d-rate-eq0 : goal.returns-then-d-rate-eq0
-returns-then-d-rate-eq0 c = let divided : rounded_down (neg_ℤ (pos ((c.args.first - c.args.last) * 1000))) c.args.rate ≡ rounded_down ((pos c.args.last -ℤ pos c.args.first) *ℤ pos 1000) c.args.rate = sym (ap (λ (z : ℤ). rounded_down z c.args.rate) (dividend-backward c.args.first c.args.last c.if-first-last.false)) in
+returns-then-d-rate-eq0 c =
+    let divided : rounded_down (neg_ℤ (pos ((c.args.first - c.args.last) * 1000))) c.args.rate ≡ rounded_down ((pos c.args.last -ℤ pos c.args.first) *ℤ pos 1000) c.args.rate = sym (ap (λ (z : ℤ). rounded_down z c.args.rate) (dividend-backward c.args.first c.args.last c.if-first-last.false)) in
     let quotient : c.scaled-m-2.result ≡ (c.args.first - c.args.last) * 1000 / c.args.rate = c.scaled-m-2.ensures.0 in
     let d = c.args.first - c.args.last in
     neg-back c.scaled-m-2.result (omega arith)
@@ -19,7 +21,8 @@ returns-then-d-rate-eq0 c = let divided : rounded_down (neg_ℤ (pos ((c.args.fi
     ∙ divided
 
 pub returns : goal.returns
-returns c = let divided : rounded_down (neg_ℤ (pos ((c.args.first - c.args.last) * 1000))) c.args.rate ≡ rounded_down ((pos c.args.last -ℤ pos c.args.first) *ℤ pos 1000) c.args.rate = sym (ap (λ (z : ℤ). rounded_down z c.args.rate) (dividend-backward c.args.first c.args.last c.if-first-last.false)) in
+returns c =
+    let divided : rounded_down (neg_ℤ (pos ((c.args.first - c.args.last) * 1000))) c.args.rate ≡ rounded_down ((pos c.args.last -ℤ pos c.args.first) *ℤ pos 1000) c.args.rate = sym (ap (λ (z : ℤ). rounded_down z c.args.rate) (dividend-backward c.args.first c.args.last c.if-first-last.false)) in
     let quotient : c.scaled-m-2.result ≡ (c.args.first - c.args.last) * 1000 / c.args.rate = c.scaled-m-2.ensures.0 in
     let d = c.args.first - c.args.last in
     less_back c.scaled-m-2.result (omega arith)

@@ -1,3 +1,4 @@
+-- `scaled` meets its contract: its two parts fit, and their sum is the whole quotient.
 use native.Mathlib.Omega.{arith}
 use Rattle.span.proofs.Spans.Parts.{in_parts, whole_le, rest_lt}
 use Rattle.span.proofs.scaled.Goals as goal

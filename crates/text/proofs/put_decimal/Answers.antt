@@ -1,3 +1,4 @@
+-- `text::put_decimal` meets its contract: the fewest digits that hold the number are its text.
 use Rattle.text.specs.Numbers.{decimal}
 use Rattle.text.proofs.Numbers.{decimal_fewest}
 use Rattle.text.proofs.Numbers.Lengths.{length-decimal}

@@ -1,3 +1,4 @@
+-- `text::put_hex` meets its contract: 16 digits hold the number.
 use native.Mathlib.Omega.{arith}
 use Rattle.text.specs.Numbers.{hex16}
 use Rattle.text.proofs.Numbers.{hex_fewest}

@@ -1,3 +1,4 @@
+-- `text::put_numbered` meets its contract: the word, and the number.
 use native.Mathlib.Omega.{arith}
 use Rattle.text.proofs.PlacedAt.{placed_then}
 use Rattle.text.proofs.put_numbered.Goals as goal

@@ -1,3 +1,4 @@
+-- `text::put_one` meets its contract: the word with its number, and the line's end.
 use native.Mathlib.Omega.{arith}
 use Rattle.text.specs.Numbers.{decimal}
 use Rattle.text.proofs.PlacedAt.{placed_within, placed_parts}

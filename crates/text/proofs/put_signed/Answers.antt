@@ -1,3 +1,4 @@
+-- `text::put_signed` meets its contract, with a minus sign and without.
 use mathlib.Core.Path.{sym, ap, ◌∙◌}
 use mathlib.Core.List.{◌∷◌}
 use Prim.Native.Nat.{ℕ}

@@ -1,3 +1,4 @@
+-- `put_text` meets its contract: the goals that the check leaves.
 use native.Mathlib.Omega.{arith}
 use lib.ListN.{length-set}
 use Rattle.text.proofs.PlacedAt.{copy_more}

@@ -1,3 +1,4 @@
+-- `text::put_two` meets its contract: the first word with its number, and then the second with its own.
 use native.Mathlib.Omega.{arith}
 use Rattle.text.specs.Numbers.{decimal}
 use Rattle.text.proofs.PlacedAt.{placed_within, placed_parts}

@@ -1,8 +1,10 @@
+-- `fields::get_bits` meets its contract: by one field, or by its first 32 bits and the others.
 use Rattle.bits.proofs.Packing.Field.{field_two}
 use Rattle.bits.proofs.fields.get_bits.Goals as goal
 
 pub returns : goal.returns
-returns c = let a = c.args in
+returns c =
+    let a = c.args in
     let p = c.requires in
     let x = c.get_few-high in
     let y = c.get_few-rest in

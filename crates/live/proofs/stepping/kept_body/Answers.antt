@@ -1,3 +1,4 @@
+-- `live::stepping::kept_body` meets its contract.
 use mathlib.Core.Path.{sym}
 use Rattle.ratio_format.proofs.Stepping.{made_good, made-refused}
 use Rattle.live.proofs.stepping.kept_body.Goals as goal

@@ -1,3 +1,4 @@
+-- `live::stepping::step_at` meets its contract: the state stays, or it takes the ratio that was found.
 use mathlib.Core.Path.{◌≡◌, ap₂, ◌∙◌}
 use mathlib.Core.List.{List}
 use Prim.Native.Nat.{ℕ, ◌^◌}

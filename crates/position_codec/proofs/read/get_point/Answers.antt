@@ -1,3 +1,4 @@
+-- `get_point` meets its contract: by 64 bits, or by the step that stands there and the position that it leads to.
 use borrow.Author.Rules.{rules}
 use mathlib.Core.Bool.{true}
 use mathlib.Core.Path.{◌≡◌, sym, subst}
@@ -18,11 +19,13 @@ use Rattle.position_codec.specs.Found.{StepFound, PositionFound, PointFound}
 use Rattle.position_codec.proofs.read.get_point.Goals as goal
 
 pub returns-then-i-lt2 : goal.returns-then-i-lt2
-returns-then-i-lt2 c = let table = table_of c.args.form in
+returns-then-i-lt2 c =
+    let table = table_of c.args.form in
     subst (λ (n : ℕ). PointFound table c.args.i c.args.a c.args.b (drop n (bits c.args.body.now)) c.get_raw.result) (sym (c.requires.1 c.if-i-lt2.true)) (c.get_raw.ensures table c.args.a c.args.b)
 
 pub returns-in_default-next_position : goal.returns-in_default-next_position
-returns-in_default-next_position c = let table = table_of c.args.form in
+returns-in_default-next_position c =
+    let table = table_of c.args.form in
     let left = drop c.args.at (bits c.args.body.now) in
     let found : (in_table table c.in-Step.z ≡ true) × (begins (code table c.in-Step.z) left ≡ true) × (c.in-Step.n ≡ length (code table c.in-Step.z)) = subst (λ (r : GotStep). StepFound table left r) c.in-Step.is c.get_step.ensures in
     let back : to_z w64 (of_z w64 c.in-Step.z) ≡ c.in-Step.z = to_z-of_z w64 c.in-Step.z (search rules) in

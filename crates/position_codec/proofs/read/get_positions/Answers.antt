@@ -1,3 +1,4 @@
+-- `get_positions` meets its contract: it is a walk with room for all.
 use native.Mathlib.Omega.{arith}
 use Rattle.position_format.specs.Positions.{read_positions}
 use Rattle.position_format.specs.Tables.{table_of}

@@ -1,3 +1,4 @@
+-- `get_raw` meets its contract: eight bytes are 64 bits.
 use Rattle.lists.proofs.Below.{below_of}
 use Rattle.position_format.proofs.Points.Stands.{raw_short, raw_high, raw_stands}
 use Rattle.position_codec.proofs.read.get_raw.Goals as goal

@@ -1,3 +1,4 @@
+-- `get_step` meets its contract: no bits are left, or it is by the word of those ahead.
 use native.Mathlib.Omega.{arith}
 use lib.ListN.{drop}
 use Rattle.bits.specs.Packing.{bits}

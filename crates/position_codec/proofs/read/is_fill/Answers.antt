@@ -1,3 +1,4 @@
+-- `is_fill` meets its contract: fewer than eight bits are those to the end of the byte, and their number tells whether all are 0.
 use mathlib.Core.Path.{sym}
 use native.Mathlib.Omega.{arith}
 use Rattle.bits.proofs.Packing.Fill.{fill_long, fill_by}

@@ -1,3 +1,4 @@
+-- `next_position` meets its contract: the sum is made only where it is in range.
 use native.Mathlib.Omega.{arith}
 use Rattle.position_codec.proofs.read.NextPosition.{position-none, total_fits, total_back, position_small, position_is}
 use Rattle.position_codec.proofs.read.next_position.Goals as goal

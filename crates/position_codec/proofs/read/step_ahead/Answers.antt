@@ -1,3 +1,4 @@
+-- `step_ahead` meets its contract: the one bit of the step 0, or by the row that five bits lead to.
 use mathlib.Core.Path.{◌≡◌, sym, ap, ◌∙◌, subst}
 use Prim.Native.Nat.{ℕ, ◌-◌, ◌/◌, ◌%◌, ◌^◌, ◌≤◌, ◌<◌}
 use native.Mathlib.Nat.{mod-lt}
@@ -21,7 +22,8 @@ use Rattle.position_codec.proofs.Found.StepFound.{field_word, field_body, lead-a
 use Rattle.position_codec.proofs.read.step_ahead.Goals as goal
 
 pub returns-then-w-lt9223372036854775808 : goal.returns-then-w-lt9223372036854775808
-returns-then-w-lt9223372036854775808 c = let below : Below 2 (drop c.args.at (bits c.args.body.now)) = below_left c.args.body.now c.args.at in
+returns-then-w-lt9223372036854775808 c =
+    let below : Below 2 (drop c.args.at (bits c.args.body.now)) = below_left c.args.body.now c.args.at in
     let sound = form_sound c.args.form in
     let zero = zero_row (most_bits c.args.form) (table_of c.args.form) sound in
     let one_bit : Leads (table_of c.args.form) (ahead 5 (drop c.args.at (bits c.args.body.now))) 0 1 =
@@ -30,25 +32,29 @@ returns-then-w-lt9223372036854775808 c = let below : Below 2 (drop c.args.at (bi
     (omega (arith, c.requires.2, length_left c.args.body.now c.args.at))
 
 pub returns-then-body-at : goal.returns-then-body-at
-returns-then-body-at c = let below : Below 2 (drop c.args.at (bits c.args.body.now)) = below_left c.args.body.now c.args.at in
+returns-then-body-at c =
+    let below : Below 2 (drop c.args.at (bits c.args.body.now)) = below_left c.args.body.now c.args.at in
     let leads : Leads (table_of c.args.form) (ahead 5 (drop c.args.at (bits c.args.body.now))) c.lead_of-l.result.row c.lead_of-l.result.len = lead-ahead (table_of c.args.form) (drop c.args.at (bits c.args.body.now)) c.args.w c.requires.1 5 (lit≤ tt) c.lead_of-l.result.row c.lead_of-l.result.len c.lead_of-l.ensures.0 in
     found_few (table_of c.args.form) (form_sound c.args.form).good 5 (form_sound c.args.form).short (drop c.args.at (bits c.args.body.now)) below c.lead_of-l.result.row c.lead_of-l.result.len leads
     (omega (arith, c.if-body-at.true, length_left c.args.body.now c.args.at))
 
 pub width_of-width-requires : goal.width_of-width-requires
-width_of-width-requires c = let leads : Leads (table_of c.args.form) (ahead 5 (drop c.args.at (bits c.args.body.now))) c.lead_of-l.result.row c.lead_of-l.result.len = lead-ahead (table_of c.args.form) (drop c.args.at (bits c.args.body.now)) c.args.w c.requires.1 5 (lit≤ tt) c.lead_of-l.result.row c.lead_of-l.result.len c.lead_of-l.ensures.0 in
+width_of-width-requires c =
+    let leads : Leads (table_of c.args.form) (ahead 5 (drop c.args.at (bits c.args.body.now))) c.lead_of-l.result.row c.lead_of-l.result.len = lead-ahead (table_of c.args.form) (drop c.args.at (bits c.args.body.now)) c.args.w c.requires.1 5 (lit≤ tt) c.lead_of-l.result.row c.lead_of-l.result.len c.lead_of-l.ensures.0 in
     let inside : c.lead_of-l.result.row < 6 = omega (arith, leads.row, form_count c.args.form) in
     inside
 
 pub field_ahead-requires : goal.field_ahead-requires
-field_ahead-requires c = let leads : Leads (table_of c.args.form) (ahead 5 (drop c.args.at (bits c.args.body.now))) c.lead_of-l.result.row c.lead_of-l.result.len = lead-ahead (table_of c.args.form) (drop c.args.at (bits c.args.body.now)) c.args.w c.requires.1 5 (lit≤ tt) c.lead_of-l.result.row c.lead_of-l.result.len c.lead_of-l.ensures.0 in
+field_ahead-requires c =
+    let leads : Leads (table_of c.args.form) (ahead 5 (drop c.args.at (bits c.args.body.now))) c.lead_of-l.result.row c.lead_of-l.result.len = lead-ahead (table_of c.args.form) (drop c.args.at (bits c.args.body.now)) c.args.w c.requires.1 5 (lit≤ tt) c.lead_of-l.result.row c.lead_of-l.result.len c.lead_of-l.ensures.0 in
     let width_is : c.width_of-width.result ≡ (get_or (table_of c.args.form) c.lead_of-l.result.row no_row).width = c.width_of-width.ensures ∙ sym (ap (λ (r : Row). r.width) (same_range c.args.form c.lead_of-l.result.row leads.row)) in
     let fits : (0 < c.lead_of-l.result.len) × (c.width_of-width.result ≤ c.lead_of-l.result.len) = let l = leads in
     (omega (arith, l.len, (row_within 1 (most_bits c.args.form) (table_of c.args.form) (form_sound c.args.form).lengths c.lead_of-l.result.row l.row).0), omega (arith, l.len, width_is)) in
     (fits.0, c.if-n-le57.true, fits.1)
 
 pub short_step-requires : goal.short_step-requires
-short_step-requires c = let leads : Leads (table_of c.args.form) (ahead 5 (drop c.args.at (bits c.args.body.now))) c.lead_of-l.result.row c.lead_of-l.result.len = lead-ahead (table_of c.args.form) (drop c.args.at (bits c.args.body.now)) c.args.w c.requires.1 5 (lit≤ tt) c.lead_of-l.result.row c.lead_of-l.result.len c.lead_of-l.ensures.0 in
+short_step-requires c =
+    let leads : Leads (table_of c.args.form) (ahead 5 (drop c.args.at (bits c.args.body.now))) c.lead_of-l.result.row c.lead_of-l.result.len = lead-ahead (table_of c.args.form) (drop c.args.at (bits c.args.body.now)) c.args.w c.requires.1 5 (lit≤ tt) c.lead_of-l.result.row c.lead_of-l.result.len c.lead_of-l.ensures.0 in
     let inside : c.lead_of-l.result.row < 6 = omega (arith, leads.row, form_count c.args.form) in
     let width_is : c.width_of-width.result ≡ (get_or (table_of c.args.form) c.lead_of-l.result.row no_row).width = c.width_of-width.ensures ∙ sym (ap (λ (r : Row). r.width) (same_range c.args.form c.lead_of-l.result.row leads.row)) in
     let fits : (0 < c.lead_of-l.result.len) × (c.width_of-width.result ≤ c.lead_of-l.result.len) = let l = leads in
@@ -61,7 +67,8 @@ short_step-requires c = let leads : Leads (table_of c.args.form) (ahead 5 (drop 
     )
 
 pub returns-then-n-le57 : goal.returns-then-n-le57
-returns-then-n-le57 c = let below : Below 2 (drop c.args.at (bits c.args.body.now)) = below_left c.args.body.now c.args.at in
+returns-then-n-le57 c =
+    let below : Below 2 (drop c.args.at (bits c.args.body.now)) = below_left c.args.body.now c.args.at in
     let leads : Leads (table_of c.args.form) (ahead 5 (drop c.args.at (bits c.args.body.now))) c.lead_of-l.result.row c.lead_of-l.result.len = lead-ahead (table_of c.args.form) (drop c.args.at (bits c.args.body.now)) c.args.w c.requires.1 5 (lit≤ tt) c.lead_of-l.result.row c.lead_of-l.result.len c.lead_of-l.ensures.0 in
     let room : c.lead_of-l.result.len ≤ length (drop c.args.at (bits c.args.body.now)) = omega (arith, c.if-body-at.false, length_left c.args.body.now c.args.at) in
     let width_is : c.width_of-width.result ≡ (get_or (table_of c.args.form) c.lead_of-l.result.row no_row).width = c.width_of-width.ensures ∙ sym (ap (λ (r : Row). r.width) (same_range c.args.form c.lead_of-l.result.row leads.row)) in
@@ -73,7 +80,8 @@ returns-then-n-le57 c = let below : Below 2 (drop c.args.at (bits c.args.body.no
     found c.field_ahead.result field_is c.short_step.result c.short_step.ensures
 
 pub field_at-requires : goal.field_at-requires
-field_at-requires c = let leads : Leads (table_of c.args.form) (ahead 5 (drop c.args.at (bits c.args.body.now))) c.lead_of-l.result.row c.lead_of-l.result.len = lead-ahead (table_of c.args.form) (drop c.args.at (bits c.args.body.now)) c.args.w c.requires.1 5 (lit≤ tt) c.lead_of-l.result.row c.lead_of-l.result.len c.lead_of-l.ensures.0 in
+field_at-requires c =
+    let leads : Leads (table_of c.args.form) (ahead 5 (drop c.args.at (bits c.args.body.now))) c.lead_of-l.result.row c.lead_of-l.result.len = lead-ahead (table_of c.args.form) (drop c.args.at (bits c.args.body.now)) c.args.w c.requires.1 5 (lit≤ tt) c.lead_of-l.result.row c.lead_of-l.result.len c.lead_of-l.ensures.0 in
     let inside : c.lead_of-l.result.row < 6 = omega (arith, leads.row, form_count c.args.form) in
     let room : c.lead_of-l.result.len ≤ length (drop c.args.at (bits c.args.body.now)) = omega (arith, c.if-body-at.false, length_left c.args.body.now c.args.at) in
     let width_is : c.width_of-width.result ≡ (get_or (table_of c.args.form) c.lead_of-l.result.row no_row).width = c.width_of-width.ensures ∙ sym (ap (λ (r : Row). r.width) (same_range c.args.form c.lead_of-l.result.row leads.row)) in
@@ -82,12 +90,14 @@ field_at-requires c = let leads : Leads (table_of c.args.form) (ahead 5 (drop c.
     (c.requires.0, fits.0, room, fits.1, omega (arith, c.width_of-width.ensures, (row_fits c.lead_of-l.result.row inside).narrow))
 
 pub step_by-requires : goal.step_by-requires
-step_by-requires c = let leads : Leads (table_of c.args.form) (ahead 5 (drop c.args.at (bits c.args.body.now))) c.lead_of-l.result.row c.lead_of-l.result.len = lead-ahead (table_of c.args.form) (drop c.args.at (bits c.args.body.now)) c.args.w c.requires.1 5 (lit≤ tt) c.lead_of-l.result.row c.lead_of-l.result.len c.lead_of-l.ensures.0 in
+step_by-requires c =
+    let leads : Leads (table_of c.args.form) (ahead 5 (drop c.args.at (bits c.args.body.now))) c.lead_of-l.result.row c.lead_of-l.result.len = lead-ahead (table_of c.args.form) (drop c.args.at (bits c.args.body.now)) c.args.w c.requires.1 5 (lit≤ tt) c.lead_of-l.result.row c.lead_of-l.result.len c.lead_of-l.ensures.0 in
     let inside : c.lead_of-l.result.row < 6 = omega (arith, leads.row, form_count c.args.form) in
     (c.lead_of-l.ensures.1, inside, rw c.width_of-width.ensures at c.field_at.ensures.1)
 
 pub returns : goal.returns
-returns c = let below : Below 2 (drop c.args.at (bits c.args.body.now)) = below_left c.args.body.now c.args.at in
+returns c =
+    let below : Below 2 (drop c.args.at (bits c.args.body.now)) = below_left c.args.body.now c.args.at in
     let leads : Leads (table_of c.args.form) (ahead 5 (drop c.args.at (bits c.args.body.now))) c.lead_of-l.result.row c.lead_of-l.result.len = lead-ahead (table_of c.args.form) (drop c.args.at (bits c.args.body.now)) c.args.w c.requires.1 5 (lit≤ tt) c.lead_of-l.result.row c.lead_of-l.result.len c.lead_of-l.ensures.0 in
     let room : c.lead_of-l.result.len ≤ length (drop c.args.at (bits c.args.body.now)) = omega (arith, c.if-body-at.false, length_left c.args.body.now c.args.at) in
     let width_is : c.width_of-width.result ≡ (get_or (table_of c.args.form) c.lead_of-l.result.row no_row).width = c.width_of-width.ensures ∙ sym (ap (λ (r : Row). r.width) (same_range c.args.form c.lead_of-l.result.row leads.row)) in

@@ -1,3 +1,4 @@
+-- `walk_positions` meets its contract: the goals that the check leaves.
 use mathlib.Core.Bool.{false}
 use mathlib.Core.List.{List, [], ◌∷◌, ◌++◌}
 use mathlib.Core.Option.{none}
@@ -27,7 +28,8 @@ pub loop-i-init : goal.loop-i-init
 loop-i-init c = record { ts = []; state = state_start (table_of c.args.form) (table_good c.args.form) c.args.count c.args.body.now; output = part_none (length c.args.out.now) c.args.out.now }
 
 pub get_point-requires : goal.get_point-requires
-get_point-requires c = let table = table_of c.args.form in
+get_point-requires c =
+    let table = table_of c.args.form in
     let inside : InBody c.args.body.now c.loop-i.at = record {
       short = omega (arith, c.if-body-gt-MAX_BYTES.false);
       inside = state_inside table (table_good c.args.form) c.args.count c.args.body.now c.loop-i.invariant.ts c.loop-i.at c.loop-i.a c.loop-i.b c.loop-i.i c.loop-i.invariant.state;
@@ -41,14 +43,16 @@ get_point-requires c = let table = table_of c.args.form in
     )
 
 pub returns-in_default : goal.returns-in_default
-returns-in_default c = let table = table_of c.args.form in
+returns-in_default c =
+    let table = table_of c.args.form in
     let Known : GotPoint → Type 0 = λ r. PointFound table c.loop-i.i c.loop-i.a c.loop-i.b (drop c.loop-i.at (bits c.args.body.now)) r in
     off c.args.form c.args.count c.args.body.now _ _
     (state-none table (table_good c.args.form) c.args.count c.args.body.now c.loop-i.invariant.ts c.loop-i.at c.loop-i.a c.loop-i.b c.loop-i.i c.loop-i.invariant.state c.loop-i-test.true
     (subst Known c.in_default.is c.get_point.ensures))
 
 pub overflow_add-at : goal.overflow_add-at
-overflow_add-at c = let table = table_of c.args.form in
+overflow_add-at c =
+    let table = table_of c.args.form in
     let Known : GotPoint → Type 0 = λ r. PointFound table c.loop-i.i c.loop-i.a c.loop-i.b (drop c.loop-i.at (bits c.args.body.now)) r in
     let stands : Stands table c.loop-i.i c.loop-i.a c.loop-i.b (drop c.loop-i.at (bits c.args.body.now)) c.in-Point.t × (c.in-Point.n ≡ length (next_bits table c.loop-i.i c.loop-i.a c.loop-i.b c.in-Point.t)) = subst Known c.in-Point.is c.get_point.ensures in
     let next : Walked table c.args.count c.args.body.now c.args.out.now c.keep.new.out (c.loop-i.at + c.in-Point.n) c.loop-i.b c.in-Point.t (c.loop-i.i + 1) = record {
@@ -60,7 +64,8 @@ overflow_add-at c = let table = table_of c.args.form in
     omega (arith, state_inside table (table_good c.args.form) c.args.count c.args.body.now n.ts _ _ _ _ n.state, c.if-body-gt-MAX_BYTES.false)
 
 pub loop-i-preserved : goal.loop-i-preserved
-loop-i-preserved c = let table = table_of c.args.form in
+loop-i-preserved c =
+    let table = table_of c.args.form in
     let Known : GotPoint → Type 0 = λ r. PointFound table c.loop-i.i c.loop-i.a c.loop-i.b (drop c.loop-i.at (bits c.args.body.now)) r in
     let stands : Stands table c.loop-i.i c.loop-i.a c.loop-i.b (drop c.loop-i.at (bits c.args.body.now)) c.in-Point.t × (c.in-Point.n ≡ length (next_bits table c.loop-i.i c.loop-i.a c.loop-i.b c.in-Point.t)) = subst Known c.in-Point.is c.get_point.ensures in
     let next : Walked table c.args.count c.args.body.now c.args.out.now c.keep.new.out (c.loop-i.at + c.in-Point.n) c.loop-i.b c.in-Point.t (c.loop-i.i + 1) = record {
@@ -71,7 +76,8 @@ loop-i-preserved c = let table = table_of c.args.form in
     next
 
 pub is_fill-requires : goal.is_fill-requires
-is_fill-requires c = let table = table_of c.args.form in
+is_fill-requires c =
+    let table = table_of c.args.form in
     let inside : InBody c.args.body.now c.loop-i.at = record {
       short = omega (arith, c.if-body-gt-MAX_BYTES.false);
       inside = state_inside table (table_good c.args.form) c.args.count c.args.body.now c.loop-i.invariant.ts c.loop-i.at c.loop-i.a c.loop-i.b c.loop-i.i c.loop-i.invariant.state;
@@ -79,6 +85,7 @@ is_fill-requires c = let table = table_of c.args.form in
     inside
 
 pub returns : goal.returns
-returns c = let table = table_of c.args.form in
+returns c =
+    let table = table_of c.args.form in
     state_end table (table_good c.args.form) c.args.count c.args.body.now c.loop-i.invariant.ts c.loop-i.at c.loop-i.a c.loop-i.b c.loop-i.i c.loop-i.invariant.state c.loop-i-test.false
     (below_of 256 c.args.body.now (λ j. (c.shared_slice_known-1.given j).fits)) c.is_fill.result c.is_fill.ensures c.args.out.now c.loop-i.out c.loop-i.invariant.output

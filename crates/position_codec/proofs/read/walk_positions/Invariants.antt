@@ -1,4 +1,5 @@
 -- `walk_positions` meets its contract. The loop's invariant: some positions are read and stand in the output as far as it has room, and the body can be
+-- the coding of no others. The measure is how many are left.
 use Prim.Native.Nat.{◌-◌}
 use Rattle.position_format.specs.Tables.{table_of}
 use Rattle.position_codec.proofs.read.State.{Walked}

@@ -1,3 +1,4 @@
+-- `copy_bits` meets its contract: the number of bits, laid in as many, gives these bits.
 use Rattle.position_codec.proofs.recode.Copying.{bits_number}
 use Rattle.position_codec.proofs.recode.copy_bits.Goals as goal
 

@@ -1,3 +1,4 @@
+-- `copy_first` meets its contract: nothing is copied, or 64 bits, or twice as many.
 use mathlib.Core.List.{[]}
 use mathlib.Core.Path.{◌≡◌}
 use native.Mathlib.Omega.{arith}
@@ -11,11 +12,13 @@ pub returns-then-k-eq0 : goal.returns-then-k-eq0
 returns-then-k-eq0 c = rw c.if-k-eq0.true (omega arith, start_sound, start_held, start_placed c.args.out.now)
 
 pub returns-then-k-eq1 : goal.returns-then-k-eq1
-returns-then-k-eq1 c = let f = c.copy_bits-one.ensures.2 [] start_held in
+returns-then-k-eq1 c =
+    let f = c.copy_bits-one.ensures.2 [] start_held in
     rw c.if-k-eq1.true (omega (arith, c.copy_bits-one.ensures.0), c.copy_bits-one.ensures.1, f.0, f.1 c.args.out.now (start_placed c.args.out.now))
 
 pub returns : goal.returns
-returns c = let ds = bits c.args.body.now in
+returns c =
+    let ds = bits c.args.body.now in
     let f = c.copy_bits-one.ensures.2 [] start_held in
     let h = c.copy_bits.ensures.2 (take 64 ds) f.0 in
     let two : c.args.k ≡ 2 = omega (arith, c.requires.0, c.if-k-eq0.false, c.if-k-eq1.false) in

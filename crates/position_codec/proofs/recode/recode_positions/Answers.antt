@@ -1,3 +1,4 @@
+-- `recode_positions` meets its contract: the goals that the check leaves.
 use mathlib.Core.Bool.{not, true}
 use mathlib.Core.List.{List, ◌++◌}
 use mathlib.Core.Path.{◌≡◌, sym, ap, ap₂, ◌∙◌}
@@ -30,14 +31,16 @@ use Rattle.position_codec.proofs.recode.State.{three_bits, three_inside, three_l
 use Rattle.position_codec.proofs.recode.recode_positions.Goals as goal
 
 pub copy_first-s-requires : goal.copy_first-s-requires
-copy_first-s-requires c = let source = table_of c.args.from in
+copy_first-s-requires c =
+    let source = table_of c.args.from in
     let positions = list_of (read_positions source c.args.count c.args.body.now) in
     let coding : Coding source c.args.count c.args.body.now positions = sound_coding c.args.from c.args.count c.args.body.now c.requires.0 in
     let short : length c.args.body.now ≤ 35327 = sound_short c.args.from c.args.count c.args.body.now c.requires.0 c.requires.1 in
     (c.raw_points-i.ensures.0, raw_inside source (table_good c.args.from) c.args.count c.args.body.now positions coding c.raw_points-i.result c.raw_points-i.ensures.0 c.raw_points-i.ensures.1, omega (arith, short))
 
 pub loop-i-init : goal.loop-i-init
-loop-i-init c = let source = table_of c.args.from in
+loop-i-init c =
+    let source = table_of c.args.from in
     let target = table_of c.args.to in
     let positions = list_of (read_positions source c.args.count c.args.body.now) in
     let coding : Coding source c.args.count c.args.body.now positions = sound_coding c.args.from c.args.count c.args.body.now c.requires.0 in
@@ -56,7 +59,8 @@ loop-i-init c = let source = table_of c.args.from in
     }
 
 pub get_ahead-w-requires : goal.get_ahead-w-requires
-get_ahead-w-requires c = let source = table_of c.args.from in
+get_ahead-w-requires c =
+    let source = table_of c.args.from in
     let target = table_of c.args.to in
     let positions = list_of (read_positions source c.args.count c.args.body.now) in
     let coding : Coding source c.args.count c.args.body.now positions = sound_coding c.args.from c.args.count c.args.body.now c.requires.0 in
@@ -76,7 +80,8 @@ get_ahead-w-requires c = let source = table_of c.args.from in
     )
 
 pub put_front-s-requires : goal.put_front-s-requires
-put_front-s-requires c = let source = table_of c.args.from in
+put_front-s-requires c =
+    let source = table_of c.args.from in
     let target = table_of c.args.to in
     let positions = list_of (read_positions source c.args.count c.args.body.now) in
     let coding : Coding source c.args.count c.args.body.now positions = sound_coding c.args.from c.args.count c.args.body.now c.requires.0 in
@@ -87,7 +92,8 @@ put_front-s-requires c = let source = table_of c.args.from in
     (c.if-k-gt0.true, omega (arith, c.three_at-k.ensures.0), omega (arith, r.small, r.few, c.requires.1), r.sound)
 
 pub overflow_add-at : goal.overflow_add-at
-overflow_add-at c = let source = table_of c.args.from in
+overflow_add-at c =
+    let source = table_of c.args.from in
     let target = table_of c.args.to in
     let positions = list_of (read_positions source c.args.count c.args.body.now) in
     let coding : Coding source c.args.count c.args.body.now positions = sound_coding c.args.from c.args.count c.args.body.now c.requires.0 in
@@ -111,7 +117,8 @@ overflow_add-at c = let source = table_of c.args.from in
     record { fits = omega (arith, run_room, short) }
 
 pub loop-i-preserved-then-k-gt0 : goal.loop-i-preserved-then-k-gt0
-loop-i-preserved-then-k-gt0 c = let source = table_of c.args.from in
+loop-i-preserved-then-k-gt0 c =
+    let source = table_of c.args.from in
     let target = table_of c.args.to in
     let positions = list_of (read_positions source c.args.count c.args.body.now) in
     let coding : Coding source c.args.count c.args.body.now positions = sound_coding c.args.from c.args.count c.args.body.now c.requires.0 in
@@ -153,7 +160,8 @@ loop-i-preserved-then-k-gt0 c = let source = table_of c.args.from in
     }
 
 pub returns-then-not-has_row : goal.returns-then-not-has_row
-returns-then-not-has_row c = let source = table_of c.args.from in
+returns-then-not-has_row c =
+    let source = table_of c.args.from in
     let target = table_of c.args.to in
     let positions = list_of (read_positions source c.args.count c.args.body.now) in
     let coding : Coding source c.args.count c.args.body.now positions = sound_coding c.args.from c.args.count c.args.body.now c.requires.0 in
@@ -169,7 +177,8 @@ returns-then-not-has_row c = let source = table_of c.args.from in
     (outside_here target positions c.loop-i.i both here now_here.inside c.has_row.result tested (ap not c.if-not-has_row.true), here)
 
 pub put_code-s-requires : goal.put_code-s-requires
-put_code-s-requires c = let source = table_of c.args.from in
+put_code-s-requires c =
+    let source = table_of c.args.from in
     let target = table_of c.args.to in
     let positions = list_of (read_positions source c.args.count c.args.body.now) in
     let coding : Coding source c.args.count c.args.body.now positions = sound_coding c.args.from c.args.count c.args.body.now c.requires.0 in
@@ -201,7 +210,8 @@ put_code-s-requires c = let source = table_of c.args.from in
     )
 
 pub overflow_add-at-in-loop-i : goal.overflow_add-at-in-loop-i
-overflow_add-at-in-loop-i c = let source = table_of c.args.from in
+overflow_add-at-in-loop-i c =
+    let source = table_of c.args.from in
     let target = table_of c.args.to in
     let positions = list_of (read_positions source c.args.count c.args.body.now) in
     let coding : Coding source c.args.count c.args.body.now positions = sound_coding c.args.from c.args.count c.args.body.now c.requires.0 in
@@ -218,7 +228,8 @@ overflow_add-at-in-loop-i c = let source = table_of c.args.from in
     omega (arith, lead.1, room, short)
 
 pub loop-i-preserved : goal.loop-i-preserved
-loop-i-preserved c = let source = table_of c.args.from in
+loop-i-preserved c =
+    let source = table_of c.args.from in
     let target = table_of c.args.to in
     let positions = list_of (read_positions source c.args.count c.args.body.now) in
     let coding : Coding source c.args.count c.args.body.now positions = sound_coding c.args.from c.args.count c.args.body.now c.requires.0 in
@@ -251,7 +262,8 @@ loop-i-preserved c = let source = table_of c.args.from in
     }
 
 pub put_last-requires : goal.put_last-requires
-put_last-requires c = let source = table_of c.args.from in
+put_last-requires c =
+    let source = table_of c.args.from in
     let target = table_of c.args.to in
     let positions = list_of (read_positions source c.args.count c.args.body.now) in
     let coding : Coding source c.args.count c.args.body.now positions = sound_coding c.args.from c.args.count c.args.body.now c.requires.0 in
@@ -263,7 +275,8 @@ put_last-requires c = let source = table_of c.args.from in
 
 pub returns : goal.returns
 unfolding coded_positions
-returns c = let source = table_of c.args.from in
+returns c =
+    let source = table_of c.args.from in
     let target = table_of c.args.to in
     let positions = list_of (read_positions source c.args.count c.args.body.now) in
     let coding : Coding source c.args.count c.args.body.now positions = sound_coding c.args.from c.args.count c.args.body.now c.requires.0 in

@@ -1,4 +1,5 @@
 -- `recode_positions` meets its contract. The loop's invariant: the bits of the points passed are copied with the other form's prefixes, and none of their
+-- steps is outside. The measure is how many are left. Since the body is the coding of positions each code is there.
 use mathlib.Core.List.{List}
 use Prim.Native.Nat.{ℕ, ◌-◌}
 use lib.ListN.{take}

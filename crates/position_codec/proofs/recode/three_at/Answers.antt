@@ -1,3 +1,4 @@
+-- `three_at` meets its contract: code by code, each in the word without those before it.
 use mathlib.Core.Path.{◌≡◌, subst}
 use Prim.Native.Nat.{ℕ, ◌+◌, ◌-◌, ◌*◌, ◌%◌, ◌^◌, ◌≤◌, ◌<◌}
 use native.Mathlib.Omega.{arith}
@@ -10,7 +11,8 @@ use Rattle.position_codec.proofs.recode.Copying.{fore_shift, code-room, shared_r
 use Rattle.position_codec.proofs.recode.three_at.Goals as goal
 
 pub returns : goal.returns
-returns c = let three : (0 < c.lead_at-c.result.len) × (c.lead_at-c.result.len ≤ 16) = c.lead_at-c.ensures.0 (omega (arith, c.if-third-gt3.false)) in
+returns c =
+    let three : (0 < c.lead_at-c.result.len) × (c.lead_at-c.result.len ≤ 16) = c.lead_at-c.ensures.0 (omega (arith, c.if-third-gt3.false)) in
     let two : (0 < c.lead_at-b.result.len) × (c.lead_at-b.result.len ≤ 16) = c.lead_at-b.ensures.0 (omega (arith, c.if-second-gt3.false)) in
     let one : (0 < c.lead_at-a.result.len) × (c.lead_at-a.result.len ≤ 16) = c.lead_at-a.ensures.0 (omega (arith, c.if-row-gt3.false)) in
     let rs = table_of c.args.form in

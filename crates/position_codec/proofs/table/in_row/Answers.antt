@@ -1,3 +1,4 @@
+-- `in_row` meets its contract: the tables hold the ends of the row's range.
 use mathlib.Core.Path.{sym, ap, ◌∙◌}
 use mir.Syntax.{w64}
 use mir.Val.{to_z, of_z}

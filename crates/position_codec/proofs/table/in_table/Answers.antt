@@ -1,3 +1,4 @@
+-- `in_table` meets its contract: the table holds a step when its last row does.
 use mathlib.Core.Path.{ap, ◌∙◌}
 use lib.ListN.{get_or}
 use mir.Syntax.{w64}

@@ -1,3 +1,4 @@
+-- `lead_of` meets its contract, by the form.
 use Rattle.position_codec.proofs.table.Numbers.{old_leads}
 use Rattle.position_codec.proofs.table.lead_of.Goals as goal
 

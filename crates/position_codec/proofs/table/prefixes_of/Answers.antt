@@ -1,3 +1,4 @@
+-- `prefixes_of` meets its contract: each table's prefixes stand in its words.
 use Rattle.position_codec.proofs.table.Numbers.{old_prefix, wide_prefix}
 use Rattle.position_codec.proofs.table.prefixes_of.Goals as goal
 

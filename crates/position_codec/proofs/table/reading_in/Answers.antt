@@ -1,3 +1,4 @@
+-- `reading_in` meets its contract: by the row's highest step.
 use mathlib.Core.Bool.{true}
 use mathlib.Core.Path.{◌≡◌, ap, ◌∙◌}
 use Prim.Native.Nat.{◌<◌, ◌^◌}
@@ -14,7 +15,8 @@ use Rattle.position_codec.proofs.table.Residues.{Fitted, reading_low, lacks_from
 use Rattle.position_codec.proofs.table.reading_in.Goals as goal
 
 pub returns-then-x-high : goal.returns-then-x-high
-returns-then-x-high c = let words : FitsWord (get_or wide_rows c.args.row no_row) = row_fits c.args.row c.requires.0 in
+returns-then-x-high c =
+    let words : FitsWord (get_or wide_rows c.args.row no_row) = row_fits c.args.row c.requires.0 in
     let high_is : (get_or wide_rows c.args.row no_row).high ≡ high_of c.args.row = ap (λ (r : Row). r.high) (row_at c.args.row c.requires.0) in
     let full_row : full (get_or wide_rows c.args.row no_row) ≡ true = good_full no_row wide_rows (form_sound Wide).good c.args.row (omega (arith, c.requires.0, wide_count)) in
     let top_is : (get_or wide_rows c.args.row no_row).high ≡ pos (nat_abs (high_of c.args.row)) = (full_is (get_or wide_rows c.args.row no_row) full_row).high ∙ ap (λ (z : ℤ). pos (nat_abs z)) high_is in
@@ -23,7 +25,8 @@ returns-then-x-high c = let words : FitsWord (get_or wide_rows c.args.row no_row
     reading_low (get_or wide_rows c.args.row no_row) (nat_abs (high_of c.args.row)) fitted c.args.x c.requires.1 c.if-x-high.true
 
 pub overflow_sub-result : goal.overflow_sub-result
-overflow_sub-result c = let words : FitsWord (get_or wide_rows c.args.row no_row) = row_fits c.args.row c.requires.0 in
+overflow_sub-result c =
+    let words : FitsWord (get_or wide_rows c.args.row no_row) = row_fits c.args.row c.requires.0 in
     let high_is : (get_or wide_rows c.args.row no_row).high ≡ high_of c.args.row = ap (λ (r : Row). r.high) (row_at c.args.row c.requires.0) in
     let full_row : full (get_or wide_rows c.args.row no_row) ≡ true = good_full no_row wide_rows (form_sound Wide).good c.args.row (omega (arith, c.requires.0, wide_count)) in
     let top_is : (get_or wide_rows c.args.row no_row).high ≡ pos (nat_abs (high_of c.args.row)) = (full_is (get_or wide_rows c.args.row no_row) full_row).high ∙ ap (λ (z : ℤ). pos (nat_abs z)) high_is in
@@ -32,7 +35,8 @@ overflow_sub-result c = let words : FitsWord (get_or wide_rows c.args.row no_row
     omega (arith, c.width_of.ensures, fitted.width)
 
 pub overflow_sub-result-2 : goal.overflow_sub-result-2
-overflow_sub-result-2 c = let words : FitsWord (get_or wide_rows c.args.row no_row) = row_fits c.args.row c.requires.0 in
+overflow_sub-result-2 c =
+    let words : FitsWord (get_or wide_rows c.args.row no_row) = row_fits c.args.row c.requires.0 in
     let high_is : (get_or wide_rows c.args.row no_row).high ≡ high_of c.args.row = ap (λ (r : Row). r.high) (row_at c.args.row c.requires.0) in
     let full_row : full (get_or wide_rows c.args.row no_row) ≡ true = good_full no_row wide_rows (form_sound Wide).good c.args.row (omega (arith, c.requires.0, wide_count)) in
     let top_is : (get_or wide_rows c.args.row no_row).high ≡ pos (nat_abs (high_of c.args.row)) = (full_is (get_or wide_rows c.args.row no_row) full_row).high ∙ ap (λ (z : ℤ). pos (nat_abs z)) high_is in
@@ -41,7 +45,8 @@ overflow_sub-result-2 c = let words : FitsWord (get_or wide_rows c.args.row no_r
     rw c.width_of.ensures (lacks_from (get_or wide_rows c.args.row no_row) (nat_abs (high_of c.args.row)) fitted c.args.x c.requires.1 c.if-x-high.false)
 
 pub overflow_cast-result-2 : goal.overflow_cast-result-2
-overflow_cast-result-2 c = let words : FitsWord (get_or wide_rows c.args.row no_row) = row_fits c.args.row c.requires.0 in
+overflow_cast-result-2 c =
+    let words : FitsWord (get_or wide_rows c.args.row no_row) = row_fits c.args.row c.requires.0 in
     let high_is : (get_or wide_rows c.args.row no_row).high ≡ high_of c.args.row = ap (λ (r : Row). r.high) (row_at c.args.row c.requires.0) in
     let full_row : full (get_or wide_rows c.args.row no_row) ≡ true = good_full no_row wide_rows (form_sound Wide).good c.args.row (omega (arith, c.requires.0, wide_count)) in
     let top_is : (get_or wide_rows c.args.row no_row).high ≡ pos (nat_abs (high_of c.args.row)) = (full_is (get_or wide_rows c.args.row no_row) full_row).high ∙ ap (λ (z : ℤ). pos (nat_abs z)) high_is in
@@ -50,7 +55,8 @@ overflow_cast-result-2 c = let words : FitsWord (get_or wide_rows c.args.row no_
     rw c.width_of.ensures (record { sfits = lacks_small (get_or wide_rows c.args.row no_row) (nat_abs (high_of c.args.row)) fitted c.args.x c.requires.1 c.if-x-high.false })
 
 pub returns : goal.returns
-returns c = let words : FitsWord (get_or wide_rows c.args.row no_row) = row_fits c.args.row c.requires.0 in
+returns c =
+    let words : FitsWord (get_or wide_rows c.args.row no_row) = row_fits c.args.row c.requires.0 in
     let high_is : (get_or wide_rows c.args.row no_row).high ≡ high_of c.args.row = ap (λ (r : Row). r.high) (row_at c.args.row c.requires.0) in
     let full_row : full (get_or wide_rows c.args.row no_row) ≡ true = good_full no_row wide_rows (form_sound Wide).good c.args.row (omega (arith, c.requires.0, wide_count)) in
     let top_is : (get_or wide_rows c.args.row no_row).high ≡ pos (nat_abs (high_of c.args.row)) = (full_is (get_or wide_rows c.args.row no_row) full_row).high ∙ ap (λ (z : ℤ). pos (nat_abs z)) high_is in

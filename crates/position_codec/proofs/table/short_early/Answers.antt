@@ -1,3 +1,4 @@
+-- `short_early` meets its contract: the number counted from the lowest step of the row before.
 use mathlib.Core.Path.{ap₂, ◌∙◌}
 use Prim.Native.Nat.{ℕ, ◌+◌, ◌-◌, ◌/◌, ◌%◌}
 use lib.Dec.{ltb}

@@ -1,3 +1,4 @@
+-- `short_reading` meets its contract: the number counted from the row's lowest step.
 use mathlib.Core.Path.{ap, ◌∙◌}
 use Prim.Native.Nat.{ℕ, ◌+◌, ◌-◌, ◌/◌, ◌%◌, ◌^◌, ◌≤◌, ◌<◌}
 use native.Mathlib.Nat.{mod-lt, le_trans, sub-le}

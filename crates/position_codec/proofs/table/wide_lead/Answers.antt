@@ -1,3 +1,5 @@
+-- `wide_lead` meets its contract: five bits 1 are the last row's, and else the rows by four bits stand in one word, and the lengths of their
+-- codes in another.
 use Rattle.position_codec.proofs.table.Numbers.{last_leads, wide_leads}
 use Rattle.position_codec.proofs.table.wide_lead.Goals as goal
 

@@ -1,3 +1,4 @@
+-- `width_of` meets its contract: the widths stand in one word.
 use mathlib.Core.Path.{sym, ap, ◌∙◌}
 use Rattle.position_format.specs.Rows.{Row}
 use Rattle.position_codec.proofs.table.Numbers.{row_at}

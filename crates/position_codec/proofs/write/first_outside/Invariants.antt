@@ -1,4 +1,5 @@
 -- `first_outside` meets its contract. The loop's invariant: the table holds the step at each point passed.
+-- The measure is what is left of the length.
 use Prim.Native.Nat.{◌≤◌, ◌-◌}
 use lib.ListN.{length}
 use Rattle.position_format.specs.Rows.{rows}

@@ -1,4 +1,5 @@
 -- `put_positions` meets its contract. The loop's invariant: the bits of the points passed are written or held.
+-- The measure is what is left of the length.
 use mathlib.Core.List.{List}
 use mathlib.Core.Path.{◌≡◌}
 use Prim.Native.Nat.{ℕ, ◌-◌, ◌≤◌}

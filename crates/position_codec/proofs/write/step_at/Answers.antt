@@ -1,3 +1,4 @@
+-- `step_at` meets its contract: no position is too high.
 use Prim.Native.Nat.{◌-◌}
 use native.Mathlib.Omega.{arith}
 use Rattle.limits.proofs.Points.{high_none}

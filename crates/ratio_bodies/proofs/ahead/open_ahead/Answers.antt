@@ -1,3 +1,4 @@
+-- `open_ahead` meets its contract: a law for each outcome.
 use mathlib.Core.Path.{refl, sym, ap, ◌∙◌}
 use Prim.Native.Nat.{◌+◌, ◌-◌, ◌%◌, ◌≤◌, ◌<◌}
 use lib.ListN.{length, get_or, take, drop}
@@ -9,25 +10,29 @@ use Rattle.ratio_bodies.proofs.ahead.FirstByte.{rest_first, ahead-some, ahead-ex
 use Rattle.ratio_bodies.proofs.ahead.open_ahead.Goals as goal
 
 pub returns-then-b-eq-EXCEPTION : goal.returns-then-b-eq-EXCEPTION
-returns-then-b-eq-EXCEPTION c = let ten : c.args.at + 10 ≤ length c.args.body.now = c.requires.1 in
+returns-then-b-eq-EXCEPTION c =
+    let ten : c.args.at + 10 ≤ length c.args.body.now = c.requires.1 in
     ahead-exception (window_of window_size (take c.args.i c.args.ratios.now)) c.args.at c.args.body.now ten c.get_first.result c.if-b-eq-EXCEPTION.true c.get_first.ensures.0
 
 pub returns-then-i-p : goal.returns-then-i-p
-returns-then-i-p c = let b = get_or c.args.body.now c.args.at 0 in
+returns-then-i-p c =
+    let b = get_or c.args.body.now c.args.at 0 in
     let few : c.args.i ≤ length c.args.ratios.now = c.requires.0 in
     let ten : c.args.at + 10 ≤ length c.args.body.now = c.requires.1 in
     let byte : b < 256 = (c.shared_slice_known-3-1.given c.args.at).fits in
     place_far c.args.ratios.now c.args.i few (drop c.args.at c.args.body.now) b (rest_first c.args.at c.args.body.now) (ahead-some c.args.at c.args.body.now ten) byte c.if-b-eq-EXCEPTION.false c.if-i-p.true
 
 pub returns-then-p-eq-SIZE : goal.returns-then-p-eq-SIZE
-returns-then-p-eq-SIZE c = let b = get_or c.args.body.now c.args.at 0 in
+returns-then-p-eq-SIZE c =
+    let b = get_or c.args.body.now c.args.at 0 in
     let few : c.args.i ≤ length c.args.ratios.now = c.requires.0 in
     let ten : c.args.at + 10 ≤ length c.args.body.now = c.requires.1 in
     let byte : b < 256 = (c.shared_slice_known-3-1.given c.args.at).fits in
     place_past c.args.ratios.now c.args.i few (drop c.args.at c.args.body.now) b (rest_first c.args.at c.args.body.now) (ahead-some c.args.at c.args.body.now ten) byte c.if-b-eq-EXCEPTION.false c.if-p-eq-SIZE.true
 
 pub returns-then-b-lt-XOR : goal.returns-then-b-lt-XOR
-returns-then-b-lt-XOR c = let b = get_or c.args.body.now c.args.at 0 in
+returns-then-b-lt-XOR c =
+    let b = get_or c.args.body.now c.args.at 0 in
     let few : c.args.i ≤ length c.args.ratios.now = c.requires.0 in
     let ten : c.args.at + 10 ≤ length c.args.body.now = c.requires.1 in
     let byte : b < 256 = (c.shared_slice_known-3-1.given c.args.at).fits in
@@ -36,7 +41,8 @@ returns-then-b-lt-XOR c = let b = get_or c.args.body.now c.args.at 0 in
     u c.if-i-p.false c.if-p-eq-SIZE.false refl c.if-b-lt-XOR.true
 
 pub returns : goal.returns
-returns c = let b = get_or c.args.body.now c.args.at 0 in
+returns c =
+    let b = get_or c.args.body.now c.args.at 0 in
     let few : c.args.i ≤ length c.args.ratios.now = c.requires.0 in
     let ten : c.args.at + 10 ≤ length c.args.body.now = c.requires.1 in
     let byte : b < 256 = (c.shared_slice_known-3-1.given c.args.at).fits in

@@ -1,3 +1,4 @@
+-- `open_nth` meets its contract: the part before the ratio is its window, and the part from the offset on is what is left of the body.
 use mathlib.Core.Path.{ap₂, ◌∙◌}
 use Rattle.outputs.proofs.Outputs.Parts.{rest_is}
 use Rattle.ratio_format.specs.Open.{open_one}

@@ -1,3 +1,4 @@
+-- `xor_ahead` meets its contract: a law for each outcome.
 use Prim.Native.Nat.{◌/◌, ◌%◌}
 use native.Mathlib.Omega.{arith}
 use lib.ListN.{get_or}
@@ -9,7 +10,8 @@ pub returns-then-trail-len-gt8 : goal.returns-then-trail-len-gt8
 returns-then-trail-len-gt8 c = xor-ahead_high c.args.u c.args.at c.args.body.now c.requires (omega (arith, c.if-trail-len-gt8.true))
 
 pub raised-requires : goal.raised-requires
-raised-requires c = let b = get_or c.args.body.now c.args.at 0 in
+raised-requires c =
+    let b = get_or c.args.body.now c.args.at 0 in
     (omega arith, raised_fits c.get_first-m.result (b % 16) (b / 16) c.get_first-m.ensures.1 c.if-trail-len-gt8.false)
 
 pub returns : goal.returns

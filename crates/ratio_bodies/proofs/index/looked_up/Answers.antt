@@ -1,3 +1,4 @@
+-- `looked_up` meets its contract: no ratio with the same key is newer than the slot says.
 use mathlib.Core.Path.{ap}
 use Prim.Native.Nat.{ℕ}
 use native.Mathlib.Omega.{arith}

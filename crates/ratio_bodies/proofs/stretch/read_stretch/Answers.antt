@@ -1,3 +1,4 @@
+-- `read_stretch` meets its contract: the goals that the check leaves.
 use mathlib.Core.Path.{◌≡◌, refl, sym, ap, ◌∙◌}
 use mathlib.Core.Bool.{true}
 use Prim.Native.Nat.{◌+◌, ◌%◌, ◌≤◌, ◌<◌}
@@ -22,7 +23,8 @@ use Rattle.ratio_bodies.proofs.Taking.{taking_all, taking_stop, taking_more, tak
 use Rattle.ratio_bodies.proofs.stretch.read_stretch.Goals as goal
 
 pub returns-in_default : goal.returns-in_default
-returns-in_default c = let w = window_of window_size (take c.loop-i.i c.loop-i.ratios) in
+returns-in_default c =
+    let w = window_of window_size (take c.loop-i.i c.loop-i.ratios) in
     let rest = drop c.loop-i.at c.args.body.now in
     let more : c.loop-i.i < c.args.to = c.loop-i-test.true in (
       taking_stop strict_one c.args.to c.args.body.now c.args.ratios.now c.args.from c.args.begun c.loop-i.ratios c.loop-i.at c.loop-i.i c.loop-i.invariant.0 more Nothing
@@ -32,7 +34,8 @@ returns-in_default c = let w = window_of window_size (take c.loop-i.i c.loop-i.r
     )
 
 pub returns-then-not-accepts : goal.returns-then-not-accepts
-returns-then-not-accepts c = let w = window_of window_size (take c.loop-i.i c.loop-i.ratios) in
+returns-then-not-accepts c =
+    let w = window_of window_size (take c.loop-i.i c.loop-i.ratios) in
     let rest = drop c.loop-i.at c.args.body.now in
     let more : c.loop-i.i < c.args.to = c.loop-i-test.true in (
       taking_stop strict_one c.args.to c.args.body.now c.args.ratios.now c.args.from c.args.begun c.loop-i.ratios c.loop-i.at c.loop-i.i c.loop-i.invariant.0 more Nothing
@@ -42,7 +45,8 @@ returns-then-not-accepts c = let w = window_of window_size (take c.loop-i.i c.lo
     )
 
 pub mark-requires : goal.mark-requires
-mark-requires c = let w = window_of window_size (take c.loop-i.i c.loop-i.ratios) in
+mark-requires c =
+    let w = window_of window_size (take c.loop-i.i c.loop-i.ratios) in
     let rest = drop c.loop-i.at c.args.body.now in
     let more : c.loop-i.i < c.args.to = c.loop-i-test.true in
     let inside : c.loop-i.i < length c.loop-i.ratios = omega (arith, more, c.loop-i.invariant.0.sized, c.requires.1) in
@@ -52,7 +56,8 @@ mark-requires c = let w = window_of window_size (take c.loop-i.i c.loop-i.ratios
     (m.0, (window_inside window_size c.loop-i.ratios c.loop-i.i (omega (arith, inside)) (get_or c.args.body.now c.loop-i.at 0) m.1).1)
 
 pub overflow_add-next : goal.overflow_add-next
-overflow_add-next c = let w = window_of window_size (take c.loop-i.i c.loop-i.ratios) in
+overflow_add-next c =
+    let w = window_of window_size (take c.loop-i.i c.loop-i.ratios) in
     let rest = drop c.loop-i.at c.args.body.now in
     let more : c.loop-i.i < c.args.to = c.loop-i-test.true in
     let good : c.accepts.result ≡ true = c.if-not-accepts.false in
@@ -63,7 +68,8 @@ overflow_add-next c = let w = window_of window_size (take c.loop-i.i c.loop-i.ra
     omega (arith, taken.inside, c.well_formed)
 
 pub get_references-k-requires : goal.get_references-k-requires
-get_references-k-requires c = let w = window_of window_size (take c.loop-i.i c.loop-i.ratios) in
+get_references-k-requires c =
+    let w = window_of window_size (take c.loop-i.i c.loop-i.ratios) in
     let rest = drop c.loop-i.at c.args.body.now in
     let more : c.loop-i.i < c.args.to = c.loop-i-test.true in
     let inside : c.loop-i.i < length c.loop-i.ratios = omega (arith, more, c.loop-i.invariant.0.sized, c.requires.1) in
@@ -79,7 +85,8 @@ get_references-k-requires c = let w = window_of window_size (take c.loop-i.i c.l
     (omega (arith, more), omega (arith, c.requires.1, taken.sized), taken.inside, marks)
 
 pub loop-i-preserved : goal.loop-i-preserved
-loop-i-preserved c = let w = window_of window_size (take c.loop-i.i c.loop-i.ratios) in
+loop-i-preserved c =
+    let w = window_of window_size (take c.loop-i.i c.loop-i.ratios) in
     let rest = drop c.loop-i.at c.args.body.now in
     let more : c.loop-i.i < c.args.to = c.loop-i-test.true in
     let inside : c.loop-i.i < length c.loop-i.ratios = omega (arith, more, c.loop-i.invariant.0.sized, c.requires.1) in

@@ -1,3 +1,4 @@
+-- `accepts` meets its contract: the mark decides of a reference, the head of any other form.
 use mathlib.Core.Path.{◌≡◌, sym, ap, ap₂, ◌∙◌}
 use mathlib.Core.List.{List}
 use Prim.Native.Nat.{ℕ}
@@ -21,14 +22,16 @@ use Rattle.ratio_bodies.proofs.Marks.{mark_decides}
 use Rattle.ratio_bodies.proofs.strict.accepts.Goals as goal
 
 pub slot_of-slot-requires : goal.slot_of-slot-requires
-slot_of-slot-requires c = let window = window_of window_size (take c.args.i c.args.ratios.now) in
+slot_of-slot-requires c =
+    let window = window_of window_size (take c.args.i c.args.ratios.now) in
     let rest = drop c.args.at c.args.body.now in
     let named : c.args.n ≡ 1 → Named window c.args.v rest = λ e. named_one window c.args.v rest (c.requires.3 ∙ ap (Ratio c.args.v) e) in
     let n = named_at window c.args.v c.args.at c.args.body.now (named c.if-n-eq1.true) in
     (n.0, (window_inside window_size c.args.ratios.now c.args.i c.requires.0 (get_or c.args.body.now c.args.at 0) n.1).1)
 
 pub returns-then-n-eq1 : goal.returns-then-n-eq1
-returns-then-n-eq1 c = let window = window_of window_size (take c.args.i c.args.ratios.now) in
+returns-then-n-eq1 c =
+    let window = window_of window_size (take c.args.i c.args.ratios.now) in
     let rest = drop c.args.at c.args.body.now in
     let named : c.args.n ≡ 1 → Named window c.args.v rest = λ e. named_one window c.args.v rest (c.requires.3 ∙ ap (Ratio c.args.v) e) in
     let b = get_or c.args.body.now c.args.at 0 in
@@ -42,7 +45,8 @@ pub has_head-requires : goal.has_head-requires
 has_head-requires c = window_fit c.args.ratios.now c.args.i c.args.v c.choose_nth-f.result c.requires.0 c.choose_nth-f.ensures
 
 pub returns : goal.returns
-returns c = let window = window_of window_size (take c.args.i c.args.ratios.now) in
+returns c =
+    let window = window_of window_size (take c.args.i c.args.ratios.now) in
     let rest = drop c.args.at c.args.body.now in
     c.has_head.ensures ∙ ap₂ (λ (x : RatioForm) (s : List ℕ). begins (ratio_form_head x) s) c.choose_nth-f.ensures (rest_is c.args.at c.args.body.now)
     ∙ sym (head_decides c.args.v c.args.n window (window_few window_size (take c.args.i c.args.ratios.now)).0 rest

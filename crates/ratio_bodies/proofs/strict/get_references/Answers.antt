@@ -1,3 +1,4 @@
+-- `get_references` meets its contract: the goals that the check leaves.
 use mathlib.Core.Path.{◌≡◌, refl, sym, ap, ◌∙◌, subst}
 use mathlib.Core.List.{List}
 use Prim.Native.Nat.{ℕ, ◌+◌, ◌-◌, ◌%◌, ◌≤◌, ◌<◌}
@@ -17,12 +18,14 @@ use Rattle.ratio_bodies.proofs.Taking.{taking_start, taking_more}
 use Rattle.ratio_bodies.proofs.strict.get_references.Goals as goal
 
 pub loop-k-init : goal.loop-k-init
-loop-k-init c = let e : c.args.at + 0 ≡ c.args.at = omega arith in
+loop-k-init c =
+    let e : c.args.at + 0 ≡ c.args.at = omega arith in
     let f : c.args.i + 0 ≡ c.args.i = omega arith in
     rw (e, f) (taking_start strict_one c.args.to c.args.body.now c.args.ratios.now c.args.i c.args.at c.requires.0 c.requires.2, c.requires.3)
 
 pub loop-k-preserved : goal.loop-k-preserved
-loop-k-preserved c = let i = c.args.i + c.loop-k.k in
+loop-k-preserved c =
+    let i = c.args.i + c.loop-k.k in
     let at = c.args.at + c.loop-k.k in
     let w = window_of window_size (take i c.loop-k.ratios) in
     let rest = drop at c.args.body.now in

@@ -1,3 +1,4 @@
+-- `read_through` meets its contract: the goals that the check leaves.
 use mathlib.Core.List.{◌++◌, append_assoc}
 use mathlib.Core.Path.{◌≡◌, refl, sym, ap, ap₂, ◌∙◌}
 use Prim.Native.Nat.{ℕ, ◌+◌, ◌-◌, ◌≤◌, ◌<◌}
@@ -18,11 +19,12 @@ use Rattle.ratio_bodies.proofs.Taking.{onto_front}
 use Rattle.ratio_bodies.proofs.through.read_through.Goals as goal
 
 pub returns-then-r-to : goal.returns-then-r-to
-returns-then-r-to c = let ends : (c.loop-planes.from ≤ c.end_of-to.result) × (c.end_of-to.result ≤ c.args.count - c.loop-planes.before) × (c.end_of-to.result ≤ length c.loop-planes.ratios) = (
-  omega (arith, c.end_of-to.ensures, c.loop-planes.invariant.1, c.loop-planes.invariant.2.few),
-  omega (arith, c.end_of-to.ensures),
-  omega (arith, c.end_of-to.ensures),
-) in
+returns-then-r-to c =
+    let ends : (c.loop-planes.from ≤ c.end_of-to.result) × (c.end_of-to.result ≤ c.args.count - c.loop-planes.before) × (c.end_of-to.result ≤ length c.loop-planes.ratios) = (
+      omega (arith, c.end_of-to.ensures, c.loop-planes.invariant.1, c.loop-planes.invariant.2.few),
+      omega (arith, c.end_of-to.ensures),
+      omega (arith, c.end_of-to.ensures),
+    ) in
     let m = c.end_of-to.result - c.loop-planes.from in
     let t = taken_from strict_one window_size (window_of window_size (take c.loop-planes.from c.loop-planes.ratios)) m (drop c.loop-planes.begun c.args.body.now) in
     let many : c.read_stretch-r.result.count ≡ c.loop-planes.from + length t.ratios = c.read_stretch-r.ensures.0.0 in
@@ -38,11 +40,12 @@ returns-then-r-to c = let ends : (c.loop-planes.from ≤ c.end_of-to.result) × 
     all (λ f. omega (arith, many, ends.0, c.if-r-to.true))
 
 pub overflow_add-result-then-count-before : goal.overflow_add-result-then-count-before
-overflow_add-result-then-count-before c = let ends : (c.loop-planes.from ≤ c.end_of-to.result) × (c.end_of-to.result ≤ c.args.count - c.loop-planes.before) × (c.end_of-to.result ≤ length c.loop-planes.ratios) = (
-  omega (arith, c.end_of-to.ensures, c.loop-planes.invariant.1, c.loop-planes.invariant.2.few),
-  omega (arith, c.end_of-to.ensures),
-  omega (arith, c.end_of-to.ensures),
-) in
+overflow_add-result-then-count-before c =
+    let ends : (c.loop-planes.from ≤ c.end_of-to.result) × (c.end_of-to.result ≤ c.args.count - c.loop-planes.before) × (c.end_of-to.result ≤ length c.loop-planes.ratios) = (
+      omega (arith, c.end_of-to.ensures, c.loop-planes.invariant.1, c.loop-planes.invariant.2.few),
+      omega (arith, c.end_of-to.ensures),
+      omega (arith, c.end_of-to.ensures),
+    ) in
     let m = c.end_of-to.result - c.loop-planes.from in
     let t = taken_from strict_one window_size (window_of window_size (take c.loop-planes.from c.loop-planes.ratios)) m (drop c.loop-planes.begun c.args.body.now) in
     let many : c.read_stretch-r.result.count ≡ c.loop-planes.from + length t.ratios = c.read_stretch-r.ensures.0.0 in
@@ -51,11 +54,12 @@ overflow_add-result-then-count-before c = let ends : (c.loop-planes.from ≤ c.e
     omega (arith, many, most, few, c.ranges)
 
 pub loop-planes-preserved : goal.loop-planes-preserved
-loop-planes-preserved c = let ends : (c.loop-planes.from ≤ c.end_of-to.result) × (c.end_of-to.result ≤ c.args.count - c.loop-planes.before) × (c.end_of-to.result ≤ length c.loop-planes.ratios) = (
-  omega (arith, c.end_of-to.ensures, c.loop-planes.invariant.1, c.loop-planes.invariant.2.few),
-  omega (arith, c.end_of-to.ensures),
-  omega (arith, c.end_of-to.ensures),
-) in
+loop-planes-preserved c =
+    let ends : (c.loop-planes.from ≤ c.end_of-to.result) × (c.end_of-to.result ≤ c.args.count - c.loop-planes.before) × (c.end_of-to.result ≤ length c.loop-planes.ratios) = (
+      omega (arith, c.end_of-to.ensures, c.loop-planes.invariant.1, c.loop-planes.invariant.2.few),
+      omega (arith, c.end_of-to.ensures),
+      omega (arith, c.end_of-to.ensures),
+    ) in
     let m = c.end_of-to.result - c.loop-planes.from in
     let t = taken_from strict_one window_size (window_of window_size (take c.loop-planes.from c.loop-planes.ratios)) m (drop c.loop-planes.begun c.args.body.now) in
     let many : c.read_stretch-r.result.count ≡ c.loop-planes.from + length t.ratios = c.read_stretch-r.ensures.0.0 in

@@ -1,4 +1,5 @@
 -- `read_through` meets its contract. The invariant: those that were read are counted, and the last of them stand in the array with what strict
+-- reading keeps of them; where the array has room for all, nothing was read yet. The measure is how many there can still be.
 use mathlib.Core.Path.{◌≡◌}
 use Prim.Native.Nat.{◌+◌, ◌-◌, ◌≤◌}
 use lib.ListN.{length, take}

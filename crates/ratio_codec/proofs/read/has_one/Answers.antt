@@ -1,3 +1,4 @@
+-- `has_one` meets its contract.
 use native.Mathlib.Omega.{arith}
 use Rattle.ratio_codec.proofs.Heads.{one_short, one_is}
 use Rattle.ratio_codec.proofs.read.has_one.Goals as goal

@@ -1,3 +1,4 @@
+-- `has_two` meets its contract.
 use native.Mathlib.Omega.{arith}
 use Rattle.ratio_codec.proofs.Heads.{two_short, two-differs, two_is}
 use Rattle.ratio_codec.proofs.read.has_two.Goals as goal

@@ -1,3 +1,4 @@
+-- `raised` meets its contract: a shift by 8 bits for each byte.
 use native.Mathlib.Nat.{mod-eq_of_lt}
 use Rattle.bits.proofs.Digits.{pow_bytes}
 use Rattle.ratio_codec.proofs.read.raised.Goals as goal

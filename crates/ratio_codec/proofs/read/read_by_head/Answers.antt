@@ -1,3 +1,4 @@
+-- `read_by_head` meets its contract: an open reading, and the head of the form that is chosen for what was read.
 use mathlib.Core.List.{reverse}
 use mathlib.Core.Path.{◌≡◌, sym, ap, ◌∙◌}
 use Prim.Native.Nat.{◌≤◌}
@@ -21,14 +22,16 @@ pub has_head-requires : goal.has_head-requires
 has_head-requires c = chosen_fit c.args.window.now c.in-Ratio.v c.choose-f.result c.choose-f.ensures c.requires
 
 pub returns-then-has_head : goal.returns-then-has_head
-returns-then-has_head c = let is : c.read_one_open-r.result ≡ Ratio c.in-Ratio.v c.in-Ratio.n = c.in-Ratio.is in
+returns-then-has_head c =
+    let is : c.read_one_open-r.result ≡ Ratio c.in-Ratio.v c.in-Ratio.n = c.in-Ratio.is in
     let says : c.has_head.result ≡ begins (coded c.in-Ratio.v (reverse c.args.window.now)) c.args.s.now = let h : length (reverse c.args.window.now) ≤ window_size = rw length-reverse c.requires in
     c.has_head.ensures ∙ ap (λ (f : RatioForm). begins (ratio_form_head f) c.args.s.now) c.choose-f.ensures
     ∙ sym (head_decides c.in-Ratio.v c.in-Ratio.n (reverse c.args.window.now) h c.args.s.now (below_of 256 c.args.s.now (λ i. (c.shared_slice_known-2-1.given i).fits)) (sym c.read_one_open-r.ensures ∙ is)) in
     strict_good (reverse c.args.window.now) c.args.s.now c.read_one_open-r.result c.read_one_open-r.ensures c.in-Ratio.v c.in-Ratio.n c.has_head.result is says c.if-has_head.true
 
 pub returns : goal.returns
-returns c = let is : c.read_one_open-r.result ≡ Ratio c.in-Ratio.v c.in-Ratio.n = c.in-Ratio.is in
+returns c =
+    let is : c.read_one_open-r.result ≡ Ratio c.in-Ratio.v c.in-Ratio.n = c.in-Ratio.is in
     let says : c.has_head.result ≡ begins (coded c.in-Ratio.v (reverse c.args.window.now)) c.args.s.now = let h : length (reverse c.args.window.now) ≤ window_size = rw length-reverse c.requires in
     c.has_head.ensures ∙ ap (λ (f : RatioForm). begins (ratio_form_head f) c.args.s.now) c.choose-f.ensures
     ∙ sym (head_decides c.in-Ratio.v c.in-Ratio.n (reverse c.args.window.now) h c.args.s.now (below_of 256 c.args.s.now (λ i. (c.shared_slice_known-2-1.given i).fits)) (sym c.read_one_open-r.ensures ∙ is)) in

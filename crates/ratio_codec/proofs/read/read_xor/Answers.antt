@@ -1,3 +1,4 @@
+-- `read_xor` meets its contract: a law for each outcome.
 use Prim.Native.Nat.{◌/◌, ◌%◌}
 use native.Mathlib.Omega.{arith}
 use lib.ListN.{get_or}
@@ -15,7 +16,8 @@ pub returns-then-s-len : goal.returns-then-s-len
 returns-then-s-len c = xor_short c.args.u c.args.s.now c.if-s-eq0.false c.if-trail-len-gt8.false c.if-s-len.true
 
 pub raised-requires : goal.raised-requires
-raised-requires c = let b = get_or c.args.s.now 0 0 in
+raised-requires c =
+    let b = get_or c.args.s.now 0 0 in
     (omega arith, raised_fits c.middle_of-m.result (b % 16) (b / 16) c.middle_of-m.ensures.1 c.if-trail-len-gt8.false)
 
 pub returns : goal.returns

@@ -1,3 +1,4 @@
+-- `pass` meets its contract: two unequal ratios have a sum of at most 7, and any smaller sum has its bound.
 use mathlib.Core.List.{reverse}
 use Prim.Native.Nat.{◌-◌, ◌^◌}
 use native.Mathlib.Nat.{mod-eq_of_lt}
@@ -12,7 +13,8 @@ use Rattle.ratio_codec.proofs.search.Find.{find_from_le, find_from_passed}
 use Rattle.ratio_codec.proofs.search.pass.Goals as goal
 
 pub returns-then-sum-eq7 : goal.returns-then-sum-eq7
-returns-then-sum-eq7 c = let w = reverse c.args.window.now in
+returns-then-sum-eq7 c =
+    let w = reverse c.args.window.now in
     let known = reverse_below (2 ^ 64) c.args.window.now (below_of (2 ^ 64) c.args.window.now (λ k. (c.shared_slice_known-1.given k).fits)) in (
       omega arith,
       omega (arith, c.pass_equal.ensures, find_from_le c.args.v w c.args.from (rw length-reverse c.requires.0), length-reverse c.args.window.now),

@@ -1,3 +1,4 @@
+-- `pass_equal` meets its contract: the goals that the check leaves.
 use mathlib.Core.Path.{sym, ◌∙◌}
 use mathlib.Core.List.{reverse}
 use native.Mathlib.Omega.{arith}
@@ -13,5 +14,6 @@ pub loop-i-preserved : goal.loop-i-preserved
 loop-i-preserved c = (omega arith, sym (find_from_next c.args.v (reverse c.args.window.now) c.loop-i.i (rw length-reverse c.loop-i-test.true) (λ e. c.if-window-i.false (sym (reverse-back c.args.window.now c.loop-i.i c.loop-i-test.true) ∙ e))) ∙ c.loop-i.invariant.1)
 
 pub returns : goal.returns
-returns c = let w = reverse c.args.window.now in
+returns c =
+    let w = reverse c.args.window.now in
     find_from_end c.args.v w c.loop-i.i (omega (arith, length-reverse c.args.window.now)) ∙ c.loop-i.invariant.1

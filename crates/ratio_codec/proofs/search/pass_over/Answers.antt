@@ -1,3 +1,4 @@
+-- `pass_over` meets its contract: the goals that the check leaves.
 use mathlib.Core.List.{reverse}
 use Prim.Native.Nat.{◌-◌}
 use native.Mathlib.Omega.{arith}
@@ -8,7 +9,8 @@ use Rattle.ratio_format.proofs.Zeros.Bounds.{sum_under}
 use Rattle.ratio_codec.proofs.search.pass_over.Goals as goal
 
 pub loop-i-preserved : goal.loop-i-preserved
-loop-i-preserved c = let k = length c.args.window.now - 1 - c.loop-i.i in
+loop-i-preserved c =
+    let k = length c.args.window.now - 1 - c.loop-i.i in
     let known = (c.shared_slice_known-1.given k).fits in (
       omega arith,
       omega arith,

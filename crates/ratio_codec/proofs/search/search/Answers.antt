@@ -1,3 +1,4 @@
+-- `search` meets its contract: the goals that the check leaves.
 use mathlib.Core.Path.{sym, ap}
 use Prim.Native.Nat.{◌+◌, ◌-◌, ◌<◌}
 use native.Mathlib.Omega.{arith}
@@ -12,11 +13,13 @@ pub loop-i-init : goal.loop-i-init
 loop-i-init c = scanned_start c.args.v c.args.window.now
 
 pub returns-then-u-v : goal.returns-then-u-v
-returns-then-u-v c = let e = scanned_equal c.args.v c.args.window.now c.loop-i.i c.loop-i.place c.loop-i.sum c.loop-i.invariant (omega arith) c.if-u-v.true in
+returns-then-u-v c =
+    let e = scanned_equal c.args.v c.args.window.now c.loop-i.i c.loop-i.place c.loop-i.sum c.loop-i.invariant (omega arith) c.if-u-v.true in
     (sym (ap (λ (b : Best). b.place) e), sym (ap (λ (b : Best). b.sum) e))
 
 pub pass-i-requires : goal.pass-i-requires
-pass-i-requires c = let counted : Scanned c.args.v c.args.window.now (c.loop-i.i + 1) c.if-sum-s.place c.if-sum-s.sum = let k = (c.shared_slice_known-1.given (length c.args.window.now - 1 - c.loop-i.i)).fits in
+pass-i-requires c =
+    let counted : Scanned c.args.v c.args.window.now (c.loop-i.i + 1) c.if-sum-s.place c.if-sum-s.sum = let k = (c.shared_slice_known-1.given (length c.args.window.now - 1 - c.loop-i.i)).fits in
     let h : c.loop-i.i < length c.args.window.now = omega arith in
     let o = sum_other c.args.v (get_or c.args.window.now (length c.args.window.now - 1 - c.loop-i.i) 0) c.ranges.v.fits k (λ q. c.if-u-v.false (sym q)) in
     elim c.if-sum-s.branch [
@@ -26,7 +29,8 @@ pass-i-requires c = let counted : Scanned c.args.v c.args.window.now (c.loop-i.i
     let s = counted in (s.0, s.1)
 
 pub loop-i-preserved : goal.loop-i-preserved
-loop-i-preserved c = let counted : Scanned c.args.v c.args.window.now (c.loop-i.i + 1) c.if-sum-s.place c.if-sum-s.sum = let k = (c.shared_slice_known-1.given (length c.args.window.now - 1 - c.loop-i.i)).fits in
+loop-i-preserved c =
+    let counted : Scanned c.args.v c.args.window.now (c.loop-i.i + 1) c.if-sum-s.place c.if-sum-s.sum = let k = (c.shared_slice_known-1.given (length c.args.window.now - 1 - c.loop-i.i)).fits in
     let h : c.loop-i.i < length c.args.window.now = omega arith in
     let o = sum_other c.args.v (get_or c.args.window.now (length c.args.window.now - 1 - c.loop-i.i) 0) c.ranges.v.fits k (λ q. c.if-u-v.false (sym q)) in
     elim c.if-sum-s.branch [

@@ -1,3 +1,4 @@
+-- `encode` meets its contract: the chosen form is written.
 use mathlib.Core.Path.{subst}
 use Rattle.outputs.specs.Outputs.{Placed}
 use Rattle.ratio_format.specs.declared.RatioForm.{RatioForm}

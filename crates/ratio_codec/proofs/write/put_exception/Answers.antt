@@ -1,3 +1,4 @@
+-- `put_exception` meets its contract: the first byte is 255, and the ratio's eight bytes follow.
 use native.Mathlib.Omega.{arith}
 use Rattle.bits.proofs.Digits.{length_digits}
 use Rattle.ratio_codec.proofs.write.put_exception.Goals as goal

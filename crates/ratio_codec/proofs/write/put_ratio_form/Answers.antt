@@ -1,3 +1,4 @@
+-- `put_ratio_form` meets its contract: each form by the function that writes it.
 use mathlib.Core.Path.{◌≡◌, sym, subst}
 use mathlib.Core.List.{List}
 use Prim.Native.Nat.{ℕ}

@@ -1,3 +1,4 @@
+-- `maybe` meets its contract: bytes that are not 0 at a pair of places far apart leave no larger sum.
 use Rattle.ratio_search.proofs.Apart.{apart_le}
 use Rattle.ratio_search.proofs.pairs.maybe.Goals as goal
 

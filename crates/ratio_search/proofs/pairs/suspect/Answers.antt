@@ -1,3 +1,4 @@
+-- `suspect` meets its contract: the goals that the check leaves.
 use mathlib.Core.Logic.{⊎_map}
 use Prim.Native.Nat.{◌+◌, ◌-◌, ◌*◌}
 use native.Mathlib.Omega.{arith}

@@ -1,3 +1,4 @@
+-- `find_best` meets its contract: the goals that the check leaves.
 use mathlib.Core.Path.{◌≡◌, sym, ap, ap₂, ◌∙◌}
 use Prim.Native.Nat.{ℕ, ◌+◌, ◌-◌, ◌<◌}
 use native.Mathlib.Omega.{arith}
@@ -16,7 +17,8 @@ returns-then-x-eq0 c = searching_equal c.args.v c.args.ratios.now c.args.i c.loo
 
 pub pairs_of-p-requires : goal.pairs_of-p-requires
 unfolding sum_of
-pairs_of-p-requires c = let counted : Searching c.args.v c.args.ratios.now c.args.i (c.loop-q.q - 1) c.if-sum-s.at c.if-sum-s.trail c.if-sum-s.sum = let u = get_or c.args.ratios.now (c.loop-q.q - 1) 0 in
+pairs_of-p-requires c =
+    let counted : Searching c.args.v c.args.ratios.now c.args.i (c.loop-q.q - 1) c.if-sum-s.at c.if-sum-s.trail c.if-sum-s.sum = let u = get_or c.args.ratios.now (c.loop-q.q - 1) 0 in
     let known = (c.shared_slice_known-in-loop-q-1.given (c.loop-q.q - 1)).fits in
     let small = sum_other c.args.v u c.ranges.v.fits known (λ q. c.if-x-eq0.false (ap (bit_xor c.args.v) (sym q) ∙ xor_self c.args.v)) in
     let sum : sum_of c.args.v u ≡ c.lead_zeros.result + c.trail_zeros-t.result = ap₂ (λ (x y : ℕ). x + y) (sym c.lead_zeros.ensures.0) (sym c.trail_zeros-t.ensures.0) in
@@ -31,7 +33,8 @@ pairs_of-p-requires c = let counted : Searching c.args.v c.args.ratios.now c.arg
 
 pub loop-q-preserved : goal.loop-q-preserved
 unfolding sum_of
-loop-q-preserved c = let counted : Searching c.args.v c.args.ratios.now c.args.i (c.loop-q.q - 1) c.if-sum-s.at c.if-sum-s.trail c.if-sum-s.sum = let u = get_or c.args.ratios.now (c.loop-q.q - 1) 0 in
+loop-q-preserved c =
+    let counted : Searching c.args.v c.args.ratios.now c.args.i (c.loop-q.q - 1) c.if-sum-s.at c.if-sum-s.trail c.if-sum-s.sum = let u = get_or c.args.ratios.now (c.loop-q.q - 1) 0 in
     let known = (c.shared_slice_known-in-loop-q-1.given (c.loop-q.q - 1)).fits in
     let small = sum_other c.args.v u c.ranges.v.fits known (λ q. c.if-x-eq0.false (ap (bit_xor c.args.v) (sym q) ∙ xor_self c.args.v)) in
     let sum : sum_of c.args.v u ≡ c.lead_zeros.result + c.trail_zeros-t.result = ap₂ (λ (x y : ℕ). x + y) (sym c.lead_zeros.ensures.0) (sym c.trail_zeros-t.ensures.0) in

@@ -1,3 +1,4 @@
+-- `pass_blocks` meets its contract: the goals that the check leaves.
 use native.Mathlib.Omega.{arith}
 use Rattle.ratio_search.proofs.pairs.Blocks.{behind_block}
 use Rattle.ratio_search.proofs.search.pass_blocks.Goals as goal

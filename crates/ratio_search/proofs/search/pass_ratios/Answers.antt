@@ -1,3 +1,4 @@
+-- `pass_ratios` meets its contract: the goals that the check leaves.
 use native.Mathlib.Omega.{arith}
 use Rattle.ratio_format.specs.Zeros.{sum_of}
 use Rattle.ratio_window.proofs.Passed.{passed_more}

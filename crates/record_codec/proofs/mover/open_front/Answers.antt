@@ -1,3 +1,4 @@
+-- `open_front` meets its contract, by how the front and the head past it turn out.
 use mathlib.Core.Path.{◌≡◌, sym, ap, ◌∙◌}
 use Prim.Native.Nat.{ℕ, ◌+◌}
 use lib.Dec.{leb, eqb}
@@ -14,6 +15,7 @@ pub returns-then-number-ne0 : goal.returns-then-number-ne0
 returns-then-number-ne0 c = opened_front c.args.form c.args.input.now c.read_front-front.result c.read_front-front.ensures c.if-number-ne0.true _ c.no_front.ensures
 
 pub returns-then-is_in : goal.returns-then-is_in
-returns-then-is_in c = let found : FrontFound c.args.input.now c.read_front-front.result = c.read_front-front.ensures.found c.if-number-ne0.false in
+returns-then-is_in c =
+    let found : FrontFound c.args.input.now c.read_front-front.result = c.read_front-front.ensures.found c.if-number-ne0.false in
     let head_is : c.is_in.result ≡ head_of c.args.form c.args.input.now = c.is_in.ensures ∙ ap (λ (p : ℕ). both (leb (p + head_size) (length c.args.input.now)) (eqb (tag_at c.args.input.now p) (positions_tag c.args.form))) found.count.next in
     opened_form c.args.form c.args.input.now c.read_front-front.result c.read_front-front.ensures c.if-number-ne0.false (sym head_is ∙ c.if-is_in.true) _ c.no_front-then-is_in.ensures

@@ -1,3 +1,4 @@
+-- `check` meets its contract: the front is refused, or what is past it decides.
 use mathlib.Core.Path.{◌∙◌}
 use Rattle.ratio_format.specs.Bodies.{strict_ratios}
 use Rattle.record_codec.proofs.reader.ReadRecord.{front-refused}

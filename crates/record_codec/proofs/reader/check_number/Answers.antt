@@ -1,3 +1,4 @@
+-- `check_number` meets its contract: what a check answers fits one number.
 use mathlib.Core.Path.{sym, subst}
 use native.Mathlib.Omega.{arith}
 use Rattle.lists.proofs.Below.{below_of}
@@ -8,19 +9,22 @@ use Rattle.record_format.proofs.CheckClaims.Numbers.{number_tells}
 use Rattle.record_codec.proofs.reader.check_number.Goals as goal
 
 pub overflow_cast-result : goal.overflow_cast-result
-overflow_cast-result c = let told : TellsAnswer c.check-answer.result (check_number c.check-answer.result) = subst (λ (a : CheckAnswer). TellsAnswer a (check_number a)) (sym c.check-answer.ensures)
+overflow_cast-result c =
+    let told : TellsAnswer c.check-answer.result (check_number c.check-answer.result) = subst (λ (a : CheckAnswer). TellsAnswer a (check_number a)) (sym c.check-answer.ensures)
     (number_tells c.args.expected c.args.input.now (below_of 256 c.args.input.now (λ i. (c.shared_slice_known-1.given i).fits))) in
     omega (arith, told.sound c.if-number-eq0.true)
 
 pub overflow_mul-result : goal.overflow_mul-result
-overflow_mul-result c = let told : TellsAnswer c.check-answer.result (check_number c.check-answer.result) = subst (λ (a : CheckAnswer). TellsAnswer a (check_number a)) (sym c.check-answer.ensures)
+overflow_mul-result c =
+    let told : TellsAnswer c.check-answer.result (check_number c.check-answer.result) = subst (λ (a : CheckAnswer). TellsAnswer a (check_number a)) (sym c.check-answer.ensures)
     (number_tells c.args.expected c.args.input.now (below_of 256 c.args.input.now (λ i. (c.shared_slice_known-1.given i).fits))) in
     let t = told in
     let n = t.refused c.if-number-eq0.false in
     omega (arith, t.fits, n.1)
 
 pub overflow_add-result : goal.overflow_add-result
-overflow_add-result c = let told : TellsAnswer c.check-answer.result (check_number c.check-answer.result) = subst (λ (a : CheckAnswer). TellsAnswer a (check_number a)) (sym c.check-answer.ensures)
+overflow_add-result c =
+    let told : TellsAnswer c.check-answer.result (check_number c.check-answer.result) = subst (λ (a : CheckAnswer). TellsAnswer a (check_number a)) (sym c.check-answer.ensures)
     (number_tells c.args.expected c.args.input.now (below_of 256 c.args.input.now (λ i. (c.shared_slice_known-1.given i).fits))) in
     let t = told in
     let n = t.refused c.if-number-eq0.false in

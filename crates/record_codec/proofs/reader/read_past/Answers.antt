@@ -1,3 +1,4 @@
+-- `read_past` meets its contract: the points decide.
 use Rattle.record_parts.specs.Fields.{ratios_by}
 use Rattle.record_codec.proofs.reader.ReadRecord.{past_refused, past_found}
 use Rattle.record_codec.proofs.reader.read_past.Goals as goal

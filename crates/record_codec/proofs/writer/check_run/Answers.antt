@@ -1,3 +1,4 @@
+-- `check_run` meets its contract: a law of writing answers the test at which it stops.
 use mathlib.Core.Bool.{true}
 use mathlib.Core.Path.{◌≡◌, sym, ◌∙◌, subst}
 use Prim.Native.Nat.{ℕ, ◌≤◌, ◌<◌}
@@ -10,28 +11,33 @@ use Rattle.record_format.proofs.Writing.{run_unlisted, run_side, run_unpaired, r
 use Rattle.record_codec.proofs.writer.check_run.Goals as goal
 
 pub returns-then-not-is_rate : goal.returns-then-not-is_rate
-returns-then-not-is_rate c = let given_run = run c.args.rate c.args.side c.args.form c.args.positions.now c.args.ratios.now in
+returns-then-not-is_rate c =
+    let given_run = run c.args.rate c.args.side c.args.form c.args.positions.now c.args.ratios.now in
     run_unlisted given_run (sym c.is_rate.ensures ∙ c.if-not-is_rate.true)
 
 pub returns-then-side-gt-MAX_SIDE : goal.returns-then-side-gt-MAX_SIDE
-returns-then-side-gt-MAX_SIDE c = let given_run = run c.args.rate c.args.side c.args.form c.args.positions.now c.args.ratios.now in
+returns-then-side-gt-MAX_SIDE c =
+    let given_run = run c.args.rate c.args.side c.args.form c.args.positions.now c.args.ratios.now in
     let listed : is_rate c.args.rate ≡ true = sym c.is_rate.ensures ∙ c.if-not-is_rate.false in
     run_side given_run listed c.if-side-gt-MAX_SIDE.true
 
 pub returns-then-ratios-positions : goal.returns-then-ratios-positions
-returns-then-ratios-positions c = let given_run = run c.args.rate c.args.side c.args.form c.args.positions.now c.args.ratios.now in
+returns-then-ratios-positions c =
+    let given_run = run c.args.rate c.args.side c.args.form c.args.positions.now c.args.ratios.now in
     let listed : is_rate c.args.rate ≡ true = sym c.is_rate.ensures ∙ c.if-not-is_rate.false in
     run_unpaired given_run listed c.if-side-gt-MAX_SIDE.false c.if-ratios-positions.true
 
 pub returns-then-points_of-positions : goal.returns-then-points_of-positions
-returns-then-points_of-positions c = let given_run = run c.args.rate c.args.side c.args.form c.args.positions.now c.args.ratios.now in
+returns-then-points_of-positions c =
+    let given_run = run c.args.rate c.args.side c.args.form c.args.positions.now c.args.ratios.now in
     let listed : is_rate c.args.rate ≡ true = sym c.is_rate.ensures ∙ c.if-not-is_rate.false in
     let paired_run = given_run in
     let r = paired_run in
     run_many r listed c.if-side-gt-MAX_SIDE.false c.if-ratios-positions.false (subst (λ (m : ℕ). m < length r.positions) c.points_of.ensures c.if-points_of-positions.true)
 
 pub returns-then-high-positions : goal.returns-then-high-positions
-returns-then-high-positions c = let given_run = run c.args.rate c.args.side c.args.form c.args.positions.now c.args.ratios.now in
+returns-then-high-positions c =
+    let given_run = run c.args.rate c.args.side c.args.form c.args.positions.now c.args.ratios.now in
     let listed : is_rate c.args.rate ≡ true = sym c.is_rate.ensures ∙ c.if-not-is_rate.false in
     let paired_run = given_run in
     let few : let r = paired_run in length r.positions ≤ points_of r.form = let r = paired_run in subst (λ (n : ℕ). length r.positions ≤ n) c.points_of.ensures c.if-points_of-positions.false in
@@ -40,7 +46,8 @@ returns-then-high-positions c = let given_run = run c.args.rate c.args.side c.ar
     (run_high r listed c.if-side-gt-MAX_SIDE.false c.if-ratios-positions.false few (subst (λ (n : ℕ). n < length r.positions) c.first_high-high.ensures c.if-high-positions.true))
 
 pub returns : goal.returns
-returns c = let given_run = run c.args.rate c.args.side c.args.form c.args.positions.now c.args.ratios.now in
+returns c =
+    let given_run = run c.args.rate c.args.side c.args.form c.args.positions.now c.args.ratios.now in
     let listed : is_rate c.args.rate ≡ true = sym c.is_rate.ensures ∙ c.if-not-is_rate.false in
     let paired_run = given_run in
     let few : let r = paired_run in length r.positions ≤ points_of r.form = let r = paired_run in subst (λ (n : ℕ). length r.positions ≤ n) c.points_of.ensures c.if-points_of-positions.false in

@@ -1,3 +1,4 @@
+-- `check_steps` meets its contract, by the form.
 use Rattle.record_format.proofs.Writing.{steps-none}
 use Rattle.record_codec.proofs.writer.check_steps.Goals as goal
 

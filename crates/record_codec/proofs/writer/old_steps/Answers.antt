@@ -1,3 +1,4 @@
+-- `old_steps` meets its contract, by the first step outside.
 use mathlib.Core.Path.{subst}
 use Prim.Native.Nat.{ℕ, ◌≤◌, ◌<◌}
 use lib.ListN.{length}

@@ -1,3 +1,4 @@
+-- `put_record` meets its contract: the fields up to the positions', and then the ratios' field past them.
 use mathlib.Core.List.{[], ◌∷◌, ◌++◌, append_assoc}
 use mathlib.Core.Path.{◌≡◌, sym}
 use lib.ListN.{length}
@@ -8,7 +9,8 @@ use Rattle.record_codec.proofs.writer.put_record.Goals as goal
 
 pub returns-in_default : goal.returns-in_default
 unfolding record_of
-returns-in_default c = let given_run = run c.args.rate c.args.side c.args.form c.args.positions.now c.args.ratios.now in
+returns-in_default c =
+    let given_run = run c.args.rate c.args.side c.args.form c.args.positions.now c.args.ratios.now in
     let lead = lead_fields c.args.rate c.args.side c.args.form c.args.positions.now in
     let ratios_field_lem = ratios_field c.args.ratios.now ∷ [] in
     let last_then : fields_of given_run ≡ lead ++ ratios_field_lem = sym
@@ -19,7 +21,8 @@ returns-in_default c = let given_run = run c.args.rate c.args.side c.args.form c
 
 pub returns : goal.returns
 unfolding record_of
-returns c = let given_run = run c.args.rate c.args.side c.args.form c.args.positions.now c.args.ratios.now in
+returns c =
+    let given_run = run c.args.rate c.args.side c.args.form c.args.positions.now c.args.ratios.now in
     let lead = lead_fields c.args.rate c.args.side c.args.form c.args.positions.now in
     let ratios_field_lem = ratios_field c.args.ratios.now ∷ [] in
     let last_then : fields_of given_run ≡ lead ++ ratios_field_lem = sym

@@ -1,3 +1,4 @@
+-- `write` meets its contract, by what `check_run` and `put_record` answer.
 use mathlib.Core.Path.{◌≡◌, sym, ap, ◌∙◌}
 use Prim.Native.Nat.{ℕ}
 use native.Mathlib.Omega.{arith}
@@ -16,12 +17,14 @@ abbrev answer : ℕ → WriteAnswer
 answer n = record { number = 0; place = 0; length = n }
 
 pub returns-then-number-ne0 : goal.returns-then-number-ne0
-returns-then-number-ne0 c = let given_run = run c.args.rate c.args.side c.args.form c.args.positions.now c.args.ratios.now in
+returns-then-number-ne0 c =
+    let given_run = run c.args.rate c.args.side c.args.form c.args.positions.now c.args.ratios.now in
     let h = run-refused given_run c.args.out.now _ c.check_run-refusal.ensures c.if-number-ne0.true in
     (c.refuse_write.ensures.0 ∙ h.0, c.refuse_write.ensures.1 ∙ h.1)
 
 pub put_record-requires : goal.put_record-requires
-put_record-requires c = let given_run = run c.args.rate c.args.side c.args.form c.args.positions.now c.args.ratios.now in
+put_record-requires c =
+    let given_run = run c.args.rate c.args.side c.args.form c.args.positions.now c.args.ratios.now in
     let clear : (first_of (run_tests given_run)).number ≡ 0 = sym (ap (λ (f : Refusal). f.number) c.check_run-refusal.ensures) ∙ c.if-number-ne0.false in
     let r = given_run in
     let f = accepted_fits r (clear_accepts r clear) in
@@ -29,7 +32,8 @@ put_record-requires c = let given_run = run c.args.rate c.args.side c.args.form 
     (valid_codable r.form r.positions f.valid, few, omega (arith, few, f.paired))
 
 pub returns-in_default : goal.returns-in_default
-returns-in_default c = let out_length : length c.put_record.new.out ≡ length c.args.out.now = c.put_record.auto.out in
+returns-in_default c =
+    let out_length : length c.put_record.new.out ≡ length c.args.out.now = c.put_record.auto.out in
     let given_run = run c.args.rate c.args.side c.args.form c.args.positions.now c.args.ratios.now in
     let clear : (first_of (run_tests given_run)).number ≡ 0 = sym (ap (λ (f : Refusal). f.number) c.check_run-refusal.ensures) ∙ c.if-number-ne0.false in
     let r = given_run in
@@ -37,7 +41,8 @@ returns-in_default c = let out_length : length c.put_record.new.out ≡ length c
     (c.refuse_write-in_default.ensures.0 ∙ h.0, c.refuse_write-in_default.ensures.1 ∙ ap (λ (n : ℕ). replicate n 0) out_length ∙ h.1)
 
 pub returns : goal.returns
-returns c = let given_run = run c.args.rate c.args.side c.args.form c.args.positions.now c.args.ratios.now in
+returns c =
+    let given_run = run c.args.rate c.args.side c.args.form c.args.positions.now c.args.ratios.now in
     let clear : (first_of (run_tests given_run)).number ≡ 0 = sym (ap (λ (f : Refusal). f.number) c.check_run-refusal.ensures) ∙ c.if-number-ne0.false in
     let r = given_run in
     let g = wrote_all (record_of r) c.args.out.now _ _ c.put_record.ensures _ c.in-Done.is in

@@ -1,3 +1,4 @@
+-- `get_open` meets its contract: the body is read where all that was taken is as many ratios as the count, and every byte.
 use mathlib.Core.List.{List}
 use mathlib.Core.Option.{Option}
 use mathlib.Core.Path.{sym, subst}

@@ -1,3 +1,4 @@
+-- `has_tag` meets its contract: past the end of the input there is no tag, which counts as 0.
 use mathlib.Core.Path.{refl, sym, ap, ◌∙◌}
 use Prim.Native.Nat.{ℕ}
 use native.Mathlib.Omega.{arith}

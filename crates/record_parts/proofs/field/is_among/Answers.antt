@@ -1,3 +1,4 @@
+-- `is_among` meets its contract: the goals that the check leaves.
 use mathlib.Core.Path.{sym, ◌∙◌}
 use native.Mathlib.Omega.{arith}
 use Rattle.lists.proofs.Lists.{member_here, member_next, member_end}

@@ -1,3 +1,4 @@
+-- `read_count` meets its contract, by what `read_number` finds.
 use Rattle.record_parts.proofs.front.ReadFront.{count_tests_first, count_many, count_good}
 use Rattle.record_parts.proofs.front.read_count.Goals as goal
 

@@ -1,3 +1,4 @@
+-- `read_front` meets its contract, by what `read_rate`, `read_side` and `read_count` find.
 use Rattle.record_parts.proofs.front.ReadFront.{front_rate, front_side, front_count, front-found}
 use Rattle.record_parts.proofs.front.read_front.Goals as goal
 

@@ -1,3 +1,4 @@
+-- `read_number` meets its contract, by what `read_field` finds.
 use Rattle.record_parts.proofs.Fields.{number_inside}
 use Rattle.record_parts.proofs.front.ReadFront.{number_refused, number_found}
 use Rattle.record_parts.proofs.front.read_number.Goals as goal

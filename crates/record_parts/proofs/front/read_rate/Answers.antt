@@ -1,3 +1,4 @@
+-- `read_rate` meets its contract, by what `read_number` finds.
 use mathlib.Core.Path.{sym, ◌∙◌}
 use Rattle.record_parts.proofs.front.ReadFront.{rate_tests_first, rate_unlisted, rate_other, rate_good}
 use Rattle.record_parts.proofs.front.read_rate.Goals as goal

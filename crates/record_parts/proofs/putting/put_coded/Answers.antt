@@ -1,3 +1,4 @@
+-- `put_coded` meets its contract, by what `put_body` answers.
 use mathlib.Core.List.{[], ◌∷◌}
 use native.Mathlib.Omega.{arith}
 use Rattle.record_format.specs.Fields.{field_of}

@@ -1,3 +1,4 @@
+-- `put_number` meets its contract: the head, and then the body past it.
 use Rattle.record_parts.proofs.putting.Writings.{number_none, number_done, number_on}
 use Rattle.record_parts.proofs.putting.put_number.Goals as goal
 

@@ -1,3 +1,4 @@
+-- `put_recoded` meets its contract, by what `recode_positions` answers.
 use mathlib.Core.List.{[], ◌∷◌}
 use native.Mathlib.Omega.{arith}
 use Rattle.lists.specs.Optional.{list_of}
@@ -10,16 +11,19 @@ use Rattle.record_parts.proofs.putting.Recodings.{recoded_none, recoded_done}
 use Rattle.record_parts.proofs.putting.put_recoded.Goals as goal
 
 pub returns-then-out-lt-HEAD_SIZE : goal.returns-then-out-lt-HEAD_SIZE
-returns-then-out-lt-HEAD_SIZE c = let points = list_of (read_positions (table_of c.args.from) c.args.count c.args.body.now) in
+returns-then-out-lt-HEAD_SIZE c =
+    let points = list_of (read_positions (table_of c.args.from) c.args.count c.args.body.now) in
     let f = positions_field c.args.to points ∷ [] in
     c.recode_nowhere.ensures (laid f) c.args.out.now c.args.out.now (omega (arith, length-laid f, c.if-out-lt-HEAD_SIZE.true))
 
 pub returns-in_default-wrote : goal.returns-in_default-wrote
-returns-in_default-wrote c = let points = list_of (read_positions (table_of c.args.from) c.args.count c.args.body.now) in
+returns-in_default-wrote c =
+    let points = list_of (read_positions (table_of c.args.from) c.args.count c.args.body.now) in
     recoded_none c.args.to points c.args.out.now c.recode_positions-recoded.new.out c.recode_positions-recoded.result _ c.in-Put.is
     c.if-out-lt-HEAD_SIZE.false c.recode_positions-recoded.ensures c.in_default-wrote.is
 
 pub returns : goal.returns
-returns c = let points = list_of (read_positions (table_of c.args.from) c.args.count c.args.body.now) in
+returns c =
+    let points = list_of (read_positions (table_of c.args.from) c.args.count c.args.body.now) in
     recoded_done c.args.to points c.args.out.now c.recode_positions-recoded.new.out c.recode_positions-recoded.result _ c.in-Put.is
     c.if-out-lt-HEAD_SIZE.false c.recode_positions-recoded.ensures _ c.in-Done.is _ _ c.form_tag.ensures c.put_head.ensures

@@ -1,3 +1,4 @@
+-- `put_recoded_lead` meets its contract: the front, and the field of the recoded positions past it.
 use mathlib.Core.List.{[], ◌∷◌, ◌++◌}
 use mathlib.Core.Path.{sym, ap}
 use Prim.Native.Nat.{ℕ}
@@ -12,7 +13,8 @@ use Rattle.record_parts.proofs.putting.Recodings.{length-read, recoded_put}
 use Rattle.record_parts.proofs.putting.put_recoded_lead.Goals as goal
 
 pub returns-in_default : goal.returns-in_default
-returns-in_default c = let points = list_of (read_positions (table_of c.args.from) c.args.count c.args.body.now) in
+returns-in_default c =
+    let points = list_of (read_positions (table_of c.args.from) c.args.count c.args.body.now) in
     let field = positions_field c.args.to points ∷ [] in
     let all = lead_fields c.args.rate c.args.side c.args.to points in
     let front-first : FirstLaid (front_fields c.args.rate c.args.side c.args.count) field all c.put_front.result c.args.out.now c.put_front.new.out = record {
@@ -22,7 +24,8 @@ returns-in_default c = let points = list_of (read_positions (table_of c.args.fro
     c.recode_nowhere.ensures (laid all) c.args.out.now _ (first-laid_short front-first c.in_default.is)
 
 pub returns : goal.returns
-returns c = let points = list_of (read_positions (table_of c.args.from) c.args.count c.args.body.now) in
+returns c =
+    let points = list_of (read_positions (table_of c.args.from) c.args.count c.args.body.now) in
     let field = positions_field c.args.to points ∷ [] in
     let all = lead_fields c.args.rate c.args.side c.args.to points in
     let front-first : FirstLaid (front_fields c.args.rate c.args.side c.args.count) field all c.put_front.result c.args.out.now c.put_front.new.out = record {

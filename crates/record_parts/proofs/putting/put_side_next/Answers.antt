@@ -1,3 +1,4 @@
+-- `put_side_next` meets its contract: nothing, or what `put_number_next` puts.
 use Rattle.record_parts.proofs.putting.Writings.{side_none}
 use Rattle.record_parts.proofs.putting.put_side_next.Goals as goal
 

@@ -1,9 +1,9 @@
 -- Document 01, "The record" and "Positions": all numbers are written most significant digit first.
---   digits_of b k n   the lowest k digits of n in base b, most significant first
---   bytes_of k n      the lowest k bytes of n
---   bits_of k n       the lowest k bits of n
---   byte_of x j       byte j of x, byte 0 the lowest
---   number_of b ds    the number whose digits in base b are ds
+--   digits_of b k n  the lowest k digits of n in base b, most significant first
+--   bytes_of k n     the lowest k bytes of n
+--   bits_of k n      the lowest k bits of n
+--   byte_of x j      byte j of x, byte 0 the lowest
+--   number_of b ds   the number whose digits in base b are ds
 use Rattle.std.specs.Prelude.{List, [], ◌∷◌, ℕ, zero, suc, ◌+◌, ◌*◌, ◌/◌, ◌%◌, ◌^◌, length}
 
 -- the lowest k digits of n in base b

@@ -1,7 +1,7 @@
 -- Document 01, "Positions": bits are laid from the top bit of each byte down, and the last byte is filled with 0 bits.
 --   bits xs      the bits of the bytes xs, one byte after the other
 --   eights n ds  n bytes of eight bits each, taken from ds
---   fill_of n     how many 0 bits fill the last byte after n bits
+--   fill_of n    how many 0 bits fill the last byte after n bits
 --   pack ds      the bytes that the bits ds are laid in
 --   ahead n ds   the first n of the bits ds, with 0 bits past their end
 use Rattle.std.specs.Prelude.{List, [], ◌∷◌, ◌++◌, ℕ, zero, suc, ◌+◌, ◌-◌, ◌/◌, ◌%◌, length, take, drop, replicate}

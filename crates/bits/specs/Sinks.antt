@@ -1,7 +1,7 @@
 -- Bits on their way into an output, field after field (document 01, "Positions"). The standard term for a sink is a bit writer.
 --   Sound s                fewer than 64 bits are held, and `held` has no others
 --   Held ds s              of the bits ds, all that were laid, those from byte `at` on are held: they are the lower `width` bits of `held`
---   over_word p at x         the output p with the eight bytes of x at `at`, if there is room for them
+--   over_word p at x        the output p with the eight bytes of x at `at`, if there is room for them
 --   PlacedBits ds at o p   the bits ds before byte `at` were put at the front of o, which is now p, if there is room for them
 --   Laid es s r p q        from the sink s and the output p to r and q: the bits es come after all that were laid
 use Rattle.std.specs.Prelude.{cond, List, ◌++◌, ◌≡◌, ℕ, ◌+◌, ◌*◌, ◌^◌, ◌≤◌, ◌<◌, leb, length, take, drop}

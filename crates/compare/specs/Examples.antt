@@ -1,7 +1,7 @@
 -- Document 02, No. 7: lines of the comparing program and whole outputs, as one table, proved from the definitions by one statement.
 --   Example, example   a text, and its bytes as they should be
---   compared_text       the output for two runs that differ in every way: document 01's listed run, and other_run
---   refused_second, refused_first   the line of a refusal of an empty second file, `refused 10 at 0 in 2`, and of an empty first one
+--   compared_text      the output for two runs that differ in every way: document 01's listed run, and other_run
+--   refused_second, refused_first  the line of a refusal of an empty second file, `refused 10 at 0 in 2`, and of an empty first one
 --   examples           the rows; examples_hold: each is as it is given
 --   PrintsExample      the program's output for the records of these runs, for equal ones, and for files of which one or both are empty
 use Rattle.std.specs.Prelude.{List, [], ◌∷◌, map, ◌≡◌, refl, ℕ}

@@ -1,5 +1,5 @@
 -- Document 02, No. 7: the lines that the program prints, as ASCII codes, and the text of a list of differences. Single spaces; each line ends in one newline.
---   form_word .. in_word    the fixed parts of a line that no other program has
+--   form_word .. in_word   the fixed parts of a line that no other program has
 --   property_word p        the word of the property p, and a space
 --   kind_word k            the word of the kind k, `number`, `infinity` or `nan`, between two spaces
 --   property_line p a b    `rate 96000 88200`
@@ -8,7 +8,7 @@
 --   more_line n            `more 2`
 --   line_of d              the line of the difference d; nothing where there is no difference
 --   differences_text l     the text of the list l: its lines, in its order
---   refused_in_line n p w   `refused 10 at 0 in 2`: a refusal's number and place, and which record it was
+--   refused_in_line n p w  `refused 10 at 0 in 2`: a refusal's number and place, and which record it was
 use Rattle.std.specs.Prelude.{List, [], ◌∷◌, ◌++◌, ℕ}
 use Rattle.kind.specs.declared.Kind.{Kind}
 use Rattle.kind.specs.declared.Kind.TheVariants.{Number, Infinity, Nan}

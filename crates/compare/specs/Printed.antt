@@ -2,7 +2,7 @@
 --   line_limit         room for every line: 79 bytes
 --   text_limit         room for every text: a line for each of four properties, two for each of 4,096 points, and one more
 --   comparison_text c  the text of the comparison c: that of its list, or the line of the refusal
---   printed s t       the text for two files that hold the bytes s and t: each is read as far as every program reads
+--   printed s t        the text for two files that hold the bytes s and t: each is read as far as every program reads
 use Rattle.std.specs.Prelude.{cond, List, ℕ, ◌+◌, ◌*◌, eqb, take}
 use Rattle.limits.specs.Points.{max_points}
 use Rattle.inputs.specs.Inputs.{input_limit}

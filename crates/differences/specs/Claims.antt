@@ -1,6 +1,6 @@
 -- Document 02, No. 7, as statements. Those of two runs are proved in proofs/Claims and, InOrder, in proofs/Claims/Order; those of the calls in proofs/Claims/Calls;
 -- those of two strings of bytes in proofs/Comparisons.
---   value_of p r       the value of the property p of the run r
+--   value_of p r      the value of the property p of the run r
 --   HasBoth r q i     both runs have a point of index i
 --   Differs r q d     the runs r and q differ in what d says, and d has the values of both: document 02's words, for each case
 --   rank d            the place of d in the order of the list: rate, side, count, form; by rising index the position and then the ratio; more
@@ -13,16 +13,16 @@
 --   AtIndex           at an index that both lists have there is a difference exactly where the numbers are not the same, and which it is
 --   NoneBeyond        at an index that not both lists have there is no difference
 --   Tells p x y d     d is the difference in the property p between the values x and y
---   OverallExactly    what `overallOf` answers: a refusal with no difference beside it, or the differences that are of no index, each in its place
+--   OverallExactly    what `overall_of` answers: a refusal with no difference beside it, or the differences that are of no index, each in its place
 -- Of two strings of bytes:
 --   Compares          where they begin with the records of accepted runs the answer is their runs' differences, whatever follows either
 --   ComparesOnly      only such strings have an answer other than a refusal
 --   EmptyExactly      nothing is refused and the list is empty exactly when both begin with the same record
 --   RefusesFirst, RefusesSecond   all else is refused as a check refuses it with no rate expected, the first record first, with which it was; never by 14,
 --                     and never by 16
---   run_called a f     the run that a caller has: what a check answered, a, and of the outputs that a fetch left, f, the first `count` numbers
+--   run_called a f    the run that a caller has: what a check answered, a, and of the outputs that a fetch left, f, the first `count` numbers
 --   MakeUp, ByCalls   what the calls answer makes up the comparison, whatever room for the counts that the checks answered the fetches were lent: its
---                     refusal is that of `overallOf`, and its list the differences of that and those at each index
+--                     refusal is that of `overall_of`, and its list the differences of that and those at each index
 --   ComparisonTrailing   whatever follows a record changes no answer, also where the other record is refused; ComparisonFollowed: nor does what follows
 --                     any whole fields. Both are parts of demand 3
 use Rattle.std.specs.Prelude.{List, [], ◌∷◌, ◌++◌, ◌⊎◌, ◌↔◌, ◌≡◌, ℕ, ◌+◌, ◌*◌, ◌≤◌, ◌<◌, min, length, get_or, take}

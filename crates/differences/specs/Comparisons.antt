@@ -1,6 +1,6 @@
 -- Document 02, No. 7: two records laid side by side.
 --   Comparison              the refusal of one of two records (number, place, and which it was, 1 or 2), or 0, 0 and 0 with all differences
---   refused_comparison a w   the refusal that a check of the record w answered, a
+--   refused_comparison a w  the refusal that a check of the record w answered, a
 --   compared a r b q        the comparison by what a check finds in each: its answers a and b, and the runs r and q in the fields
 --   comparison s t          that of the records that the bytes s and t begin with: each is checked, with no rate expected
 use Rattle.std.specs.Prelude.{cond, List, [], ℕ, eqb}

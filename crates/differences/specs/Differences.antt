@@ -2,13 +2,13 @@
 --   property_difference p a b      the difference in the property p, whose values are a and b
 --   more_difference m n            how many points only the longer of two runs has, by their numbers of points
 --   values_at xs ys i              the values at the index i, where both lists have one there and they are not the same
---   position_by i z, ratio_by i z   the difference that the values z at the index i make, as positions and as ratios
+--   position_by i z, ratio_by i z  the difference that the values z at the index i make, as positions and as ratios
 --   position_at ts us i            the difference between the positions ts and us at the index i
 --   ratio_at vs ws i               that between the ratios vs and ws, by the kinds and the bits of both
---   listed d                      the list of the difference d: nothing where there is none
+--   listed d                       the list of the difference d: nothing where there is none
 --   points_to r q n                the differences at the indices below n, in rising order, the position's before the ratio's
---   differences r q               all differences of the runs r and q: rate, side, count, form, those at each index that both have, and the points
---                                 that only the longer one has
+--   differences r q                all differences of the runs r and q: rate, side, count, form, those at each index that both have, and the points
+--                                  that only the longer one has
 -- `Equal` says that there is no difference.
 use Rattle.std.specs.Prelude.{cond, List, [], ◌∷◌, ◌++◌, ℕ, zero, suc, ◌+◌, ◌-◌, min, eqb, ltb, length, get_or}
 use Rattle.lists.specs.Compare.{both}

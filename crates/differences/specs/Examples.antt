@@ -1,7 +1,7 @@
 -- Document 02, No. 7: pairs of runs and their differences, as one table, proved from the definitions by one statement.
 --   Example, example   two runs, and their differences as they should be
---   half, positive_zero, negative_zero   the kinds of 0.5, 0 and -0
---   other_run           a run that differs from document 01's listed run in every way, and has two points more
+--   half, positive_zero, negative_zero    the kinds of 0.5, 0 and -0
+--   other_run          a run that differs from document 01's listed run in every way, and has two points more
 --   special_run, opposite_run, empty_run, short_run, negative_run, smallest_run   other runs of the rows
 --   examples           the rows; examples_hold: each is as it is given
 use Rattle.std.specs.Prelude.{true, false, List, [], ◌∷◌, map, ◌≡◌, refl, pos, negsuc}

@@ -1,7 +1,7 @@
 -- Document 02, No. 7, in the numbers that a caller from C sees, as statements. Proved in proofs/NumberClaims.
 --   differs w i a b k l    numbers of a difference, each of them written out: what differs, the index, both values and both kinds
---   kindless, no_numbers    those of no kind and of no difference: all of them 0, written out and not by the definitions
---   refused_numbers n p w   those of the refusal n at the place p of the record w, 1 or 2: all else is 0
+--   kindless, no_numbers   those of no kind and of no difference: all of them 0, written out and not by the definitions
+--   refused_numbers n p w  those of the refusal n at the place p of the record w, 1 or 2: all else is 0
 --   DifferencesApart       no two differences have the same numbers
 --   OverallApart           nor have two answers of the differences that are of no index, with the refusal beside them
 --   RefusedAlone           where a record was refused, the first before the second, all numbers but the refusal's are 0

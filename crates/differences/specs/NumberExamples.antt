@@ -1,7 +1,7 @@
 -- Document 02, No. 7: differences and their numbers, as one table, proved from the definitions by one statement.
 --   Example, example   a difference, and its numbers as they should be
 --   examples           the rows; examples_hold: each is as it is given
---   first, second, refused_answer   what a check answered of two records, and of one that was refused
+--   first, second, refused_answer  what a check answered of two records, and of one that was refused
 --   overall_hold       the numbers of two records that differ in every property and in their counts
 --   refused_hold       those of a refusal of the second record
 use Rattle.std.specs.Prelude.{true, false, List, [], ◌∷◌, map, ◌≡◌, refl, pos, negsuc}

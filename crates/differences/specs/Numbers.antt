@@ -1,10 +1,10 @@
 -- A difference of two records as numbers: document 02, No. 7, for each case of the enum.
---   no_kind                 no kind of a ratio: all numbers are 0
---   property_number p       the number of the property p: 1 the rate, 2 the side, 3 the count, 4 the form
---   plain_numbers w i a b   what differs, w, at the index i, with the values a and b and no kinds
---   difference_numbers d    0 for no difference; the number of a property with both values; 5 with the index and both positions; 6 with the index, the
+--   no_kind                no kind of a ratio: all numbers are 0
+--   property_number p      the number of the property p: 1 the rate, 2 the side, 3 the count, 4 the form
+--   plain_numbers w i a b  what differs, w, at the index i, with the values a and b and no kinds
+--   difference_numbers d   0 for no difference; the number of a property with both values; 5 with the index and both positions; 6 with the index, the
 --                          bits and the kinds of both ratios; 7 with the number of points that only the longer run has; all else is 0
---   overall_numbers h       the same of each difference of h, beside the refusal
+--   overall_numbers h      the same of each difference of h, beside the refusal
 use Rattle.std.specs.Prelude.{ℕ}
 use Rattle.kind.specs.declared.KindAnswer.{KindAnswer}
 use Rattle.kind.specs.Numbers.{zero_float, kind_numbers}

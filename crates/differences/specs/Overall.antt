@@ -1,7 +1,7 @@
 -- Document 02, No. 7: the differences that are of no index, by what a check answered of each of two records.
---   refused_overall n p w   a refusal: its number, its place, and which record it was, 1 or 2; no difference beside it
---   overall_sound a b       the differences where neither was refused
---   overall_of a b          the refusal of the first record, else that of the second, else the differences
+--   refused_overall n p w  a refusal: its number, its place, and which record it was, 1 or 2; no difference beside it
+--   overall_sound a b      the differences where neither was refused
+--   overall_of a b         the refusal of the first record, else that of the second, else the differences
 use Rattle.std.specs.Prelude.{cond, ℕ, eqb}
 use Rattle.record_format.specs.declared.CheckAnswer.{CheckAnswer}
 use Rattle.differences.specs.declared.Property.TheVariants.{Rate, Side, Count, Form}

@@ -1,9 +1,9 @@
 -- The example of document 02, No. 1, that the program's page shows: index 1 of the points 0 and 960 with two ratios.
 --   explained_run d  the run, on the side d
 --   explained_text o the two lines, as ASCII codes, where the offset's digits are o
---   PrintsExample   of the run's record and the text "1" the program prints them, without a side and, four bytes further on, with one
+--   PrintsExample    of the run's record and the text "1" the program prints them, without a side and, four bytes further on, with one
 --   Example, example, examples   lines, each with its bytes; examples_hold: each is as it is given
---   index_examples  what texts of an index are
+--   index_examples   what texts of an index are
 use Rattle.std.specs.Prelude.{List, [], ◌∷◌, ◌++◌, map, ◌≡◌, refl, ℕ, ◌+◌, ◌^◌}
 use Rattle.std.proofs.Math.Option.{none, some}
 use Rattle.lists.specs.Lists.{first_index}

@@ -1,8 +1,8 @@
 -- Document 02, No. 1: the index that the program is given, a text of ASCII codes.
---   is_digit c      c is one of 0 to 9
---   digit_of c      the digit of that code
---   not_digit c     it is not
---   given_index t   the number that the text t is, in base 10: digits alone, at least one, leading zeros allowed; or nothing
+--   is_digit c     c is one of 0 to 9
+--   digit_of c     the digit of that code
+--   not_digit c    it is not
+--   given_index t  the number that the text t is, in base 10: digits alone, at least one, leading zeros allowed; or nothing
 --   capped o       the number as far as it can be an index: 4,096 stands for all from there on, and for none
 use Rattle.std.specs.Prelude.{Bool, not, cond, List, map, ℕ, ◌-◌, min, leb, eqb, length}
 use Rattle.std.proofs.Math.Option.{Option, none, some}

@@ -1,8 +1,8 @@
 -- Document 02, No. 1: the lines that the program prints, as ASCII codes. Single spaces; each line ends in one newline.
---   bytes_word .. empty_line      the fixed parts of a line that no other program has
---   cost_line i v n o            `ratio 1 c00e666666666666 3 bytes at 43`: index, the ratio's bits, how many bytes it took, the first one's offset
---   xor_line p l t               the reason of an xor form
---   reason_line r                the reason: `equal to place 3`, `xor with place 0, 1 leading and 6 trailing zero bytes`, `exception, best sum 1`,
+--   bytes_word .. empty_line    the fixed parts of a line that no other program has
+--   cost_line i v n o           `ratio 1 c00e666666666666 3 bytes at 43`: index, the ratio's bits, how many bytes it took, the first one's offset
+--   xor_line p l t              the reason of an xor form
+--   reason_line r               the reason: `equal to place 3`, `xor with place 0, 1 leading and 6 trailing zero bytes`, `exception, best sum 1`,
 --                               `exception, window empty`; or the line of a refusal, as the listing has it
 use Rattle.std.specs.Prelude.{List, [], ◌∷◌, ◌++◌, ℕ}
 use Rattle.text.specs.Lines.{newline, space, ratio_word, refused_line}

@@ -1,14 +1,14 @@
 -- Document 02, No. 1: what the program prints, given a record's bytes and the text of an index.
---   body_limit            how many bytes the body of a run's ratios has at most
---   argument_limit        how many bytes of an argument it reads at most: Linux passes no longer one, where a page has 4,096 bytes
---   text_limit            how many bytes it prints at most
---   body_in s             the offset of the body of the ratios' field in the bytes s
---   cost_of vs i          how many bytes the ratio of index i takes
---   offset_of b vs i      where the first of them stands, in a body that begins at offset b: past those of the ratios before it
---   cost_text b vs i      the line of that, of an index below the count
---   point_text b vs i     the text for an index: both lines, or the line of a refusal
---   index_text b vs o     the same of an index that may be none
---   answer_text s a q t   the text for the answer a of a check of the bytes s, by which q is the run
+--   body_limit           how many bytes the body of a run's ratios has at most
+--   argument_limit       how many bytes of an argument it reads at most: Linux passes no longer one, where a page has 4,096 bytes
+--   text_limit           how many bytes it prints at most
+--   body_in s            the offset of the body of the ratios' field in the bytes s
+--   cost_of vs i         how many bytes the ratio of index i takes
+--   offset_of b vs i     where the first of them stands, in a body that begins at offset b: past those of the ratios before it
+--   cost_text b vs i     the line of that, of an index below the count
+--   point_text b vs i    the text for an index: both lines, or the line of a refusal
+--   index_text b vs o    the same of an index that may be none
+--   answer_text s a q t  the text for the answer a of a check of the bytes s, by which q is the run
 --   printed s t          the program's whole output for the input s and the text t
 use Rattle.std.specs.Prelude.{cond, List, [], ◌++◌, ℕ, ◌+◌, ◌*◌, ltb, eqb, length, get_or, take}
 use Rattle.std.proofs.Math.Option.{Option, none, some}

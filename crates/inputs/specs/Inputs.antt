@@ -1,7 +1,7 @@
 -- Document 01, "Bytes to compare", the listing, with the limit of document 02, No. 3: what a program reads of its input. Every program reads as far.
---   input_limit     how many bytes a program reads at most
---   check_input s   what a check finds in the input s: in at most input_limit bytes of it, with no rate expected
---   run_input s     the run in the fields of those bytes
+--   input_limit    how many bytes a program reads at most
+--   check_input s  what a check finds in the input s: in at most input_limit bytes of it, with no rate expected
+--   run_input s    the run in the fields of those bytes
 --   ReadsFar       input up to 65,536 bytes is read whole, and bytes past these change nothing; proved in proofs/Inputs
 use Rattle.std.specs.Prelude.{List, ◌++◌, ◌≡◌, ℕ, ◌^◌, ◌≤◌, length, take}
 use Rattle.record_format.specs.Checking.{run_in, checked}

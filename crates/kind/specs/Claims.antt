@@ -1,6 +1,6 @@
 -- Document 01, "Kinds and span", as statements about the answer in numbers. ShowsKind is proved in proofs/Claims, KindsApart in proofs/Numbers.
---   kind_is k s v b   numbers of a kind, each of them written out: the kind, whether it is a negative infinity, the value and the bits
---   float_zero        0 as a float, written out and not by the definitions
+--   kind_is k s v b  numbers of a kind, each of them written out: the kind, whether it is a negative infinity, the value and the bits
+--   float_zero       0 as a float, written out and not by the definitions
 --   ShowsKind        what is shown of any 64 bits, told by their sign, their 11 bits of exponent and their 52 of fraction
 --   KindsApart       no two kinds have the same numbers
 use Rattle.std.specs.Prelude.{false, ◌≡◌, ℕ, ◌/◌, ◌%◌, ◌^◌, ◌≤◌, ◌<◌, Float, pos}

@@ -1,6 +1,6 @@
 -- A ratio's kind as numbers: document 01, "Kinds and span", for each case of the enum.
---   zero_float       0 as a float
---   kind_numbers k   kind 0 with the value of a number, 1 with the sign of an infinity, 2 with the bits of a not-a-number; all else is 0
+--   zero_float      0 as a float
+--   kind_numbers k  kind 0 with the value of a number, 1 with the sign of an infinity, 2 with the bits of a not-a-number; all else is 0
 use Rattle.std.specs.Prelude.{cond, Float}
 use Rattle.std.specs.Float.{binary64}
 use Rattle.std.specs.Float.Ieee.{of_bits}

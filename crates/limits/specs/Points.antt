@@ -1,8 +1,8 @@
 -- Document 01, "Numbers that bound it", with document 02, No. 3: points and positions.
---   max_points       the largest number of points of a run; max_wide_points: of one in the wide form
---   max_position     the largest position, a sample index
---   too_high t       t is above it
---   first_high ts    the index of the first position above it; the length where there is none
+--   max_points      the largest number of points of a run; max_wide_points: of one in the wide form
+--   max_position    the largest position, a sample index
+--   too_high t      t is above it
+--   first_high ts   the index of the first position above it; the length where there is none
 use Rattle.std.specs.Prelude.{Bool, List, ℕ, ◌-◌, ◌^◌, ltb}
 use Rattle.lists.specs.Lists.{first_index}
 

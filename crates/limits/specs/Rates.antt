@@ -1,10 +1,10 @@
 -- Document 01, "Numbers that bound it", and document 02, No. 4: the rates, in the standard term sample rates, in samples
 -- a second.
---   times_one_two_four b   b times one, two and four
---   rates               44,100 and 48,000, each times one, two and four
---   is_rate r            r is one of the rates
---   six_rates            document 01's list
---   RateRule            the rates are the numbers of that list and no others
+--   times_one_two_four b  b times one, two and four
+--   rates                 44,100 and 48,000, each times one, two and four
+--   is_rate r             r is one of the rates
+--   six_rates             document 01's list
+--   RateRule              the rates are the numbers of that list and no others
 use Rattle.std.specs.Prelude.{Bool, List, [], ◌∷◌, ◌++◌, ◌≡◌, ℕ, ◌*◌}
 use Rattle.lists.specs.Lists.{member}
 

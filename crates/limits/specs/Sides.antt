@@ -1,6 +1,6 @@
 -- Document 02, No. 2: the side of the disc that a run is cut on, 0 for none.
---   max_side     the largest side
---   is_side n    n is a side that a record stores: 1 to 26
+--   max_side    the largest side
+--   is_side n   n is a side that a record stores: 1 to 26
 use Rattle.std.specs.Prelude.{Bool, ℕ, leb}
 use Rattle.lists.specs.Compare.{both}
 

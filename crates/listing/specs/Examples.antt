@@ -1,9 +1,9 @@
 -- Document 01, "Bytes to compare", and document 02, No. 2 and No. 3: lines of the listing and its whole output, as one table, proved from the
 -- definitions by one statement.
---   Example, example         a text, and its bytes as they should be
+--   Example, example           a text, and its bytes as they should be
 --   listed_text, refused_text  the output in full, and the line of a refusal; sided_text: the output of the same run on side 4; paused_text: that of a
---                            run in the wide form
---   examples                 the rows; examples_hold: each is as it is given
+--                              run in the wide form
+--   examples                   the rows; examples_hold: each is as it is given
 use Rattle.std.specs.Prelude.{◌≡◌, refl, List, [], ◌∷◌, ◌++◌, map, ℕ, pos, negsuc, replicate, take, drop}
 use Rattle.bits.specs.Digits.{digits_of}
 use Rattle.text.specs.Lines.{refused_line}

@@ -1,11 +1,11 @@
 -- Document 01, "Bytes to compare", the listing, with the side of document 02, No. 2: its lines and its whole text. Single spaces; each line
 -- ends in one newline.
---   span_word                              the fixed part of a line that no other program has
---   rate_line r, count_line n, span_line z   `rate 96000`, `count 3`, `span 20`
---   side_line d                            `side 4`, and nothing for side 0
---   point_line t v                         `960 3fe0000000000000`: a position and the bits of its ratio
---   point_lines ts vs                      the lines of the points
---   listing r d z ts vs                   the text of a run of rate r, side d and span z, with positions ts and ratios vs
+--   span_word                               the fixed part of a line that no other program has
+--   rate_line r, count_line n, span_line z  `rate 96000`, `count 3`, `span 20`
+--   side_line d                             `side 4`, and nothing for side 0
+--   point_line t v                          `960 3fe0000000000000`: a position and the bits of its ratio
+--   point_lines ts vs                       the lines of the points
+--   listing r d z ts vs                     the text of a run of rate r, side d and span z, with positions ts and ratios vs
 use Rattle.std.specs.Prelude.{List, [], ◌∷◌, ◌++◌, ℕ, zero, suc, ℤ, length}
 use Rattle.text.specs.Lines.{newline, space, rate_word, side_word, count_word}
 use Rattle.text.specs.Numbers.{decimal, hex16, signed}

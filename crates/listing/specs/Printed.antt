@@ -1,7 +1,7 @@
 -- Document 01, "Bytes to compare", the listing, with the side of document 02, No. 2: what the program prints.
---   text_limit       how many bytes it prints at most
---   listing_of r     the listing of the run r: its rate, its side unless that is 0, its count, its span, and each point
---   text_of a r      the text for the answer a of a check, by which r is the run: that run's listing, or the line of the refusal
+--   text_limit      how many bytes it prints at most
+--   listing_of r    the listing of the run r: its rate, its side unless that is 0, its count, its span, and each point
+--   text_of a r     the text for the answer a of a check, by which r is the run: that run's listing, or the line of the refusal
 --   printed s       the text for the input s
 use Rattle.std.specs.Prelude.{cond, List, ℕ, ◌+◌, ◌*◌, eqb}
 use Rattle.limits.specs.Points.{max_points}

@@ -1,6 +1,6 @@
 -- Short operations on lists that the definitions use.
 --   member x l       x is an element of l
---   first_index p l   the index, from 0, of the first element that p holds of; the length where there is none
+--   first_index p l  the index, from 0, of the first element that p holds of; the length where there is none
 use Rattle.std.specs.Prelude.{Bool, true, false, cond, List, [], ◌∷◌, ℕ, zero, suc, eqb}
 
 -- whether x is in the list

@@ -1,6 +1,6 @@
 -- A list, or nothing: what decoding gives.
 --   missing o   there is no list
---   list_of o    the list, if there is one; else the empty one
+--   list_of o   the list, if there is one; else the empty one
 use Rattle.std.specs.Prelude.{Bool, true, false, List, [], ℕ}
 use Rattle.std.proofs.Math.Option.{Option, none, some}
 

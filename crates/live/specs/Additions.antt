@@ -1,7 +1,7 @@
 -- An addition to a state that passed its tests, by what a coder of one ratio did with the output (`Wrote`, crate outputs).
---   wrote_answer w       the answer: 0 with the number of bytes, or 6 where there was no room
---   wrote_state w s v    the state after the ratio v, or the state s itself
---   wrote_output w p     the output p that the coder left, or zeros
+--   wrote_answer w      the answer: 0 with the number of bytes, or 6 where there was no room
+--   wrote_state w s v   the state after the ratio v, or the state s itself
+--   wrote_output w p    the output p that the coder left, or zeros
 use Rattle.std.specs.Prelude.{List, ℕ}
 use Rattle.outputs.specs.declared.Wrote.{Wrote}
 use Rattle.outputs.specs.declared.Wrote.TheVariants.{Done, NoRoom}

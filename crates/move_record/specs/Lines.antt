@@ -1,9 +1,9 @@
 -- Document 02, No. 5: the lines of the program, as ASCII codes. Single spaces; each ends in one newline.
---   line_limit          room for every line: 53 bytes
+--   line_limit           room for every line: 53 bytes
 --   moved_word, to_word  the fixed parts of that of a move
---   moved_line u n      `moved 1234 to 1240`: the bytes used of the record read, and the length of the one written
---   answer_line a       the line for the answer a of a move; that of a refusal is the listing's
---   usage_line          `usage: move_record wide|old RECORD NEW`, for a call that asks for no form
+--   moved_line u n       `moved 1234 to 1240`: the bytes used of the record read, and the length of the one written
+--   answer_line a        the line for the answer a of a move; that of a refusal is the listing's
+--   usage_line           `usage: move_record wide|old RECORD NEW`, for a call that asks for no form
 use Rattle.std.specs.Prelude.{cond, List, [], ◌∷◌, ◌++◌, ℕ, eqb}
 use Rattle.record_format.specs.declared.MoveAnswer.{MoveAnswer}
 use Rattle.text.specs.Lines.{newline, refused_line}

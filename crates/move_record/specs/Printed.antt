@@ -1,15 +1,15 @@
 -- Document 02, No. 5: what the program prints and writes, given the number of its arguments, the first of them and a file's bytes.
 --   blank_record                     an output with room for every record, all 0
 --   move_input f s                   the move of the input s to the form f: at most input_limit bytes of it, into such an output
---   standard_output, standard_error   the numbers of the streams that a line can go to
---   Response                        what the program does: the stream that its line goes to, whether it makes a file, the bytes of that file, and the
---                                   line, which goes out where no file is to be made or once it stands
+--   standard_output, standard_error  the numbers of the streams that a line can go to
+--   Response                         what the program does: the stream that its line goes to, whether it makes a file, the bytes of that file, and the
+--                                    line, which goes out where no file is to be made or once it stands
 --   move_response m                  that of the move m
 --   usage_response                   that of a call that asks for no form
 --   response_to a s                  that of a call that asks for the form a, or for none, and the input s
---   response n w s                  that of a call with n arguments and the word w, as `formAsked` takes them, and the input s
---   Told q r o l p                  what the function that does all but read, write and print leaves of the response q: its answer r, an output that was
---                                   blank_record and is now o, and room for the line that was l and is now p
+--   response n w s                   that of a call with n arguments and the word w, as `form_asked` takes them, and the input s
+--   Told q r o l p                   what the function that does all but read, write and print leaves of the response q: its answer r, an output that was
+--                                    blank_record and is now o, and room for the line that was l and is now p
 use Rattle.std.specs.Prelude.{Bool, false, List, [], ◌≡◌, ℕ, ◌≤◌, eqb, ℤ, pos, length, take, replicate}
 use Rattle.outputs.specs.Outputs.{over}
 use Rattle.position_format.specs.declared.Form.{Form}

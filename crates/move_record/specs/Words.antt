@@ -1,6 +1,6 @@
 -- Document 02, No. 5: the words that name a form to the program, as ASCII codes, and the calls of the program that ask for one. `wide` and `old`, whole
 -- and in small letters.
---   wide_word, old_word   the two
+--   wide_word, old_word  the two
 --   word_of f            that of the form f
 --   form_named w         the form that the word w names, or none
 --   argument_count       how many arguments the program takes, with its own name before them: 4

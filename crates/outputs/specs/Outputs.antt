@@ -1,13 +1,13 @@
--- What a lent output holds after a call. `over` and `overAt` say what stands in it; `Placed` and `Filled` what an internal function says that it
+-- What a lent output holds after a call. `over` and `over_at` say what stands in it; `Placed` and `Filled` what an internal function says that it
 -- did. Document 01 says nothing of internal functions: they leave an output as they please where they fail, and the call above them then
 -- fills it with zeros; a slice keeps its length in any case. The same is said of bits by `PlacedBits` (bits), of a text at an index by `PlacedAt`
 -- (text), and of ratios, with how many were taken, by `TakenInto` (ratio_bodies).
 --   zeros l            as many zeros as l is long: document 01's output after a refusal
 --   over bs o          bs at the front of the output o, whose rest stays: document 01's output after a success
---   over_at o at n bs   o with the n elements from `at` on replaced by bs, of which there are n
+--   over_at o at n bs  o with the n elements from `at` on replaced by bs, of which there are n
 --   Placed bs w o p    the bytes bs were put at the front of o, which is now p; or there was no room for them
 --   Left w p           past the bytes that a writer says by w that it put into p there is a rest, which may be empty
---   both_wrote n w      what two writers wrote: the first n bytes, and the second what w says; BothFit n w: a number of 64 bits holds it
+--   both_wrote n w     what two writers wrote: the first n bytes, and the second what w says; BothFit n w: a number of 64 bits holds it
 --   Next bs w v p q    bs were put past the bytes of a writer that said w and left p, which is now q; v says what both wrote
 --   Filled l b o p     the list l was put at the front of o, which is now p; or there is no such list
 use Rattle.std.specs.Prelude.{Bool, true, false, List, ◌++◌, ◌≡◌, ℕ, ◌+◌, ◌^◌, ◌≤◌, ◌<◌, length, take, drop, replicate}

@@ -1,6 +1,6 @@
 -- Document 01, "Positions": the points of a run one after the other, as they are written and read.
---   next_bits rs i a b t    the bits of a position t at point i, after the positions a and b
---   point_bits rs ts i      the bits of point i of the positions ts
+--   next_bits rs i a b t   the bits of a position t at point i, after the positions a and b
+--   point_bits rs ts i     the bits of point i of the positions ts
 --   Stands rs i a b ds t   the bits ds begin with those of the position t at point i, after the positions a and b
 use Rattle.std.specs.Prelude.{true, cond, List, ◌≡◌, ℕ, ◌-◌, ◌≤◌, ltb, get_or}
 use Rattle.lists.specs.Compare.{begins}

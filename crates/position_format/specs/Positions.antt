@@ -3,13 +3,13 @@
 --   position_bits rs ts       the bits of the positions ts: the first two raw, then the codes of the steps
 --   coded_positions rs ts     those bits laid in bytes
 --   valid_positions rs ts     every position is in its range, and every step in the table
---   StepTaken                a step and the bits after its code
+--   StepTaken                 a step and the bits after its code
 --   step_at rs ds             the step whose code stands at the front of the bits ds, and the bits after it
---   at_least_zero z            a number that is not below zero, else 0
---   after a b z              the position after a and b whose step is z, and 0 where it would be negative
+--   at_least_zero z           a number that is not below zero, else 0
+--   after a b z               the position after a and b whose step is z, and 0 where it would be negative
 --   decoded_steps rs n a b ds the n positions after a and b whose steps stand in ds
 --   decoded_bits rs n ds      the n positions that the bits ds give
---   decoded rs n body        the n positions that a body gives, if it is a coding at all
+--   decoded rs n body         the n positions that a body gives, if it is a coding at all
 --   read_positions rs n body  the n positions that the body is the coding of, or nothing
 -- Fill bits are, in the standard term, padding. A body is read by decoding it and coding the result again. So a row other than the first
 -- that holds a step, a 1 among the fill bits, a byte too many, bits too few and a position outside its range are each refused, whatever the

@@ -1,15 +1,15 @@
 -- Document 01, "Positions", and document 02, No. 3: the tables of steps.
 --   Row             a row: the prefix's bits, how many bits follow, the lowest and the highest step that it holds
 --   rows            document 01's table
---   wide_rows        the wide table: document 01's first four rows, its last row under a longer prefix, and a row of 64 bits for all other steps
+--   wide_rows       the wide table: document 01's first four rows, its last row under a longer prefix, and a row of 64 bits for all other steps
 --   row, neg        a row by its parts; -n
 --   holds r z       the row r holds the step z
---   in_table rs z    some row holds it
+--   in_table rs z   some row holds it
 --   residue k z     z modulo 2 ^ k
---   code_in r z      the code of z by the row r: the prefix, then z modulo 2 ^ width
---   code_length r    how many bits the codes by the row r have
+--   code_in r z     the code of z by the row r: the prefix, then z modulo 2 ^ width
+--   code_length r   how many bits the codes by the row r have
 --   code rs z       the code of z by the first row that holds it
---   row_of rs z      the index of the first row that holds z; no_row: what stands for a row past the table
+--   row_of rs z     the index of the first row that holds z; no_row: what stands for a row past the table
 --   reading r x     the one number inside the row's range that is x modulo 2 ^ width, of a row that holds 2 ^ width numbers, 0 among them
 -- The definitions that go by a table take it as an argument, and their laws are proved of every table that passes one computed test
 -- (proofs/Tables, sound_table): no prefix begins another or has more than 5 bits, each row holds 2 ^ width numbers, 0 among them, codes have

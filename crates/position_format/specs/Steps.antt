@@ -1,11 +1,11 @@
 -- Document 01, "Positions": steps. The standard term is the second difference, or delta of deltas.
 --   step_of a b t        the step at a point t after the points a and b: (t - b) - (b - a), exactly
 --   steps_from a b ts    the steps at the points ts after the points a and b
---   steps ts            the steps of a list of positions, from the third on
+--   steps ts             the steps of a list of positions, from the third on
 --   step_here ts i       the step at the point of index i
---   outside rs z        the table does not hold the step z
+--   outside rs z         the table does not hold the step z
 --   first_outside rs ts  the index of the first point whose step the table does not hold; where there is none, the number of positions, or 2
---                       for fewer than two
+--                        for fewer than two
 use Rattle.std.specs.Prelude.{Bool, not, List, [], ◌∷◌, ℕ, ◌+◌, ◌-◌, ℤ, pos, ◌-ℤ◌, get_or}
 use Rattle.lists.specs.Lists.{first_index}
 use Rattle.position_format.specs.Rows.{Row, in_table}

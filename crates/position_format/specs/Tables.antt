@@ -1,6 +1,6 @@
 -- Document 02, No. 3: the two forms that positions are coded in; the standard term is an encoding. The form is declared in src/lib.rt.
---   table_of f      the table of steps of the form f
---   points_of f     the largest number of points of a run in that form
+--   table_of f     the table of steps of the form f
+--   points_of f    the largest number of points of a run in that form
 --   EveryStep      in the wide form each step between positions in range has a code, so no list of positions in range has a step outside
 --   OldSteps       a step that one of document 01's first four rows holds has the same code in both forms; one that only its last row holds has 1111
 --                  in the old form and 11110 in the wide one, and then the same 32 bits

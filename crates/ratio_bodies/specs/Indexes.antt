@@ -1,6 +1,6 @@
 -- An index of the ratios passed, by a key of their value. Internal: document 01 says nothing of it.
 --   keys                   how many keys there are
---   key_of v                the key of the value v
+--   key_of v               the key of the value v
 --   Bounded ns i           an entry for each key, none of which names a ratio from i on: an entry is 1 more than an index, or 0
 --   Indexed ns l i         of the first i ratios of l, none with a key is newer than its entry says
 --   NearlyIndexed ns l i   the same but for those that are equal to the last of them, which may still be to be noted

@@ -1,5 +1,5 @@
 -- Marks of the ratios of a window: whether a ratio occurs again later in it. Internal: document 01 says nothing of them.
---   slot_of i p      the slot of the ratio at place p of the window of ratio i
+--   slot_of i p     the slot of the ratio at place p of the window of ratio i
 --   Last l k i      the ratio at index k of l does not occur again before index i
 --   Again l k i     it does
 --   Marks ms l i    the marks ms say so for the window of ratio i

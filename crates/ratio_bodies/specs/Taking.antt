@@ -1,5 +1,5 @@
 -- What a reader of a body of ratios answers, and what its output then holds. Internal: document 01 says nothing of it.
---   took_of t           the numbers of what was taken: how many ratios, and how many bytes they used
+--   took_of t          the numbers of what was taken: how many ratios, and how many bytes they used
 --   TakenInto t r o p  r is what was taken, and the ratios taken stand at the front of the output o, which is then p and whose rest stays
 --   TakenOnto t from begun count at o p   the same past the first `from` numbers of o, from the offset `begun` on: `count` numbers then stand in p,
 --                      and `at` is the offset past the bytes used

@@ -1,5 +1,5 @@
 -- The bytes with which a ratio form begins, before its middle or its ratio.
---   ratio_form_head f    a place; a place plus 128 and the two counts; 255
+--   ratio_form_head f  a place; a place plus 128 and the two counts; 255
 use Rattle.std.specs.Prelude.{List, [], ◌∷◌, ℕ, ◌+◌, ◌*◌}
 use Rattle.ratio_format.specs.RatioForms.{xor_byte, exception_byte}
 use Rattle.ratio_format.specs.declared.RatioForm.{RatioForm}

@@ -1,4 +1,4 @@
--- The open rule as document 01 words it (specs/OpenRule): what `openOne` and `openRatios` answer is what the rule says.
+-- The open rule as document 01 words it (specs/OpenRule): what `open_one` and `open_ratios` answer is what the rule says.
 use mathlib.Core.Path.{◌≡◌, refl, sym, ap, ap₂, ◌∙◌, subst}
 use mathlib.Core.Bool.{Bool, true, false}
 use mathlib.Core.List.{List, [], ◌∷◌, ◌++◌, append-nil, append_assoc}

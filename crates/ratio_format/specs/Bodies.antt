@@ -1,18 +1,18 @@
 -- Document 01, "Ratios": the coding of a list of ratios, and what a body is the coding, or an open form, of.
---   coded_from size w vs    the ratios vs coded one after the other, from the window w of that size
---   coded_ratios vs         from a fresh window of our size: the body of the ratios' field
+--   coded_from size w vs     the ratios vs coded one after the other, from the window w of that size
+--   coded_ratios vs          from a fresh window of our size: the body of the ratios' field
 --   before, at_end, on_ratio the parts of a reading: a ratio before the rest, the end of the bytes, what follows a ratio
---   open_from size w n s    the n ratios that the open rule reads from the bytes s, every byte used; or nothing
---   open_ratios n s         from a fresh window of our size
---   if_coded s o            what was read openly, where the bytes s are its coding
---   strict_ratios n s       the n ratios that the bytes s are the coding of, or nothing
---   Taken                  what reading takes from the front of bytes: the ratios, and how many bytes they used
+--   open_from size w n s     the n ratios that the open rule reads from the bytes s, every byte used; or nothing
+--   open_ratios n s          from a fresh window of our size
+--   if_coded s o             what was read openly, where the bytes s are its coding
+--   strict_ratios n s        the n ratios that the bytes s are the coding of, or nothing
+--   Taken                    what reading takes from the front of bytes: the ratios, and how many bytes they used
 --   none_taken, and_taken    no ratio; a ratio and its bytes before what the rest gives; on_taken: what follows a ratio, or none
---   after_taken vs k t      the ratios vs, of k bytes, before what t has
---   taken_from r size w n s the ratios that the rule r reads one by one from the bytes s, at most n, up to the first that it does not read
---   open_taken n s          by the open rule, from a fresh window of our size
---   strict_taken n s        strictly
---   whole_taken n s t       the ratios of t, where they are n and used every byte of s; or nothing
+--   after_taken vs k t       the ratios vs, of k bytes, before what t has
+--   taken_from r size w n s  the ratios that the rule r reads one by one from the bytes s, at most n, up to the first that it does not read
+--   open_taken n s           by the open rule, from a fresh window of our size
+--   strict_taken n s         strictly
+--   whole_taken n s t        the ratios of t, where they are n and used every byte of s; or nothing
 use Rattle.std.specs.Prelude.{cond, List, [], ◌∷◌, ◌++◌, ℕ, zero, suc, ◌+◌, eqb, length, drop}
 use Rattle.std.proofs.Math.Option.{Option, none, some}
 use Rattle.lists.specs.Compare.{both, same}

@@ -1,11 +1,11 @@
 -- Document 01, "Ratios": the choice of a form for a ratio, against the window, newest first. A reference is, in the standard term, a back
 -- reference, and an exception a literal.
---   find v w     the smallest place of v in the window; the window's length where it is not in it
---   Best         a place and its sum
---   newer s b    the better of a newer ratio with the sum s and the best b of an older window
---   best v w     the largest sum over the window, at the smallest place that has it; sum 0 of an empty window
+--   find v w      the smallest place of v in the window; the window's length where it is not in it
+--   Best          a place and its sum
+--   newer s b     the better of a newer ratio with the sum s and the best b of an older window
+--   best v w      the largest sum over the window, at the smallest place that has it; sum 0 of an empty window
 --   xor_form p x  the xor form at place p, where x is the xor
---   ratio_form v w   the form: a reference, else the best xor where its sum is 2 or more, else an exception
+--   ratio_form v w  the form: a reference, else the best xor where its sum is 2 or more, else an exception
 use Rattle.std.specs.Prelude.{cond, List, [], ◌∷◌, ℕ, ◌+◌, ◌-◌, ◌/◌, ◌^◌, leb, ltb, eqb, length, get_or}
 use Rattle.std.specs.Int.Bits.{bit_xor}
 use Rattle.ratio_format.specs.declared.RatioForm.{RatioForm}

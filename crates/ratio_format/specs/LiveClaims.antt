@@ -2,15 +2,15 @@
 -- LiveJoined and LiveStays in proofs/Lives.
 --   RefusesAdd s o n a p t   a refusal by n of an addition to the state s with the output o: a is its answer, p the output and t the state afterwards
 --   AddsSo s v b o a p t     what an addition of the ratio v, whose bytes are b, answers and leaves, in each case
---   Adds                     every addition does so, with the bytes that are written for the ratio against the state's window
---   StartsFresh              a live coding starts with no ratio seen and a fresh window
+--   Adds                       every addition does so, with the bytes that are written for the ratio against the state's window
+--   StartsFresh                a live coding starts with no ratio seen and a fresh window
 --   Tick               what an addition is given: a ratio, and the output that is lent for it
---   ratios_of ts        the ratios of the ticks ts, in their order
+--   ratios_of ts       the ratios of the ticks ts, in their order
 --   Roomy ts           each output has at least nine cells
 --   tick_state s t, tick_bytes s t   the state after one tick, and the bytes written at it
---   add_numbers s ts    the numbers that successive additions answer, from the state s
---   add_joined s ts     the bytes that they write, joined
---   add_taken s ts      the ratios of those that answered 0
+--   add_numbers s ts   the numbers that successive additions answer, from the state s
+--   add_joined s ts    the bytes that they write, joined
+--   add_taken s ts     the ratios of those that answered 0
 --   LiveBody           the bytes of successive additions, joined, are the ratios body
 --   LiveJoined         whatever was refused, they are the body of the ratios that were added
 --   LiveStays          no addition makes a good state bad

@@ -2,7 +2,7 @@
 --   state vs fill seen        a state whose first cells are the ratios vs, and the others 0
 --   AddExample                a state, a ratio and an output; and the answer, the output and the state afterwards
 --   adds s v o n p t          such an example of a success with n bytes; refuses s v o n: of a refusal by n, with zeros in the output and the state as it was
---   add_examples               the rows; add_examples_hold: each is as it is given
+--   add_examples              the rows; add_examples_hold: each is as it is given
 use Rattle.std.specs.Prelude.{List, [], ◌∷◌, ◌++◌, map, ◌≡◌, refl, ℕ, ◌-◌, length, replicate}
 use Rattle.bits.specs.Digits.{digits_of}
 use Rattle.refusals.specs.Tests.{first_of}

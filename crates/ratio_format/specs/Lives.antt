@@ -5,10 +5,10 @@
 --   bad_live s         the state is bad
 --   state_tests s      the tests of an addition that need no bytes: 7, 3
 --   added_to s v       the state after the ratio v was added
---   Coder             a coder of one ratio: a ratio and a window, newest first, to bytes
---   add_tests_by k s v o   the tests of an addition by the coder k, in their order: 7, 3, 6
---   add_bytes_by, add_refusal_by, add_answer_by, add_output_by, add_state_by    the definitions below by any coder, their first argument; document 01's are
---                     these at the coder `coded`
+--   Coder              a coder of one ratio: a ratio and a window, newest first, to bytes
+--   add_tests_by k s v o  the tests of an addition by the coder k, in their order: 7, 3, 6
+--   add_bytes_by, add_refusal_by, add_answer_by, add_output_by, add_state_by  the definitions below by any coder, their first argument; document 01's are
+--                      these at the coder `coded`
 --   add_bytes s v      the bytes of the ratio v in the state s
 --   add_refusal s v o  the refusal of an addition, or none
 --   add_answer s v o   the answer: number, place and the number of bytes written

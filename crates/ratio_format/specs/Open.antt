@@ -1,8 +1,8 @@
 -- Document 01, "Ratios": the open rule for one ratio, and strict reading of one: lenient and canonical decoding.
---   open_xor u s       after the byte of a place that holds u: the two counts in one byte, and the middle
---   open_one w s       the ratio at the front of the bytes s, against the window w, by the open rule
---   strict_of w s r    an open reading r, accepted only so
---   strict_one w s     the same, accepted only where the bytes are those that are written for that ratio
+--   open_xor u s      after the byte of a place that holds u: the two counts in one byte, and the middle
+--   open_one w s      the ratio at the front of the bytes s, against the window w, by the open rule
+--   strict_of w s r   an open reading r, accepted only so
+--   strict_one w s    the same, accepted only where the bytes are those that are written for that ratio
 use Rattle.std.specs.Prelude.{cond, List, [], ◌∷◌, ℕ, ◌+◌, ◌-◌, ◌*◌, ◌/◌, ◌%◌, ◌^◌, leb, ltb, length, get_or, take}
 use Rattle.std.specs.Int.Bits.{bit_xor}
 use Rattle.lists.specs.Compare.{begins}

@@ -2,7 +2,7 @@
 --   OpenExample, reads     a count, a body, and the ratios that it is read as, or nothing
 --   one                    the exception of the ratio 1
 --   back n                 the body of the ratio 5, an exception, and of n ratios 6: an exception, and then references to place 0
---   open_examples           the rows; open_examples_hold: each is as it is given
+--   open_examples          the rows; open_examples_hold: each is as it is given
 use Rattle.std.specs.Prelude.{List, [], ◌∷◌, ◌++◌, map, ◌≡◌, refl, ℕ, ◌-◌, replicate}
 use Rattle.std.proofs.Math.Option.{Option, none, some}
 use Rattle.bits.specs.Digits.{number_of}

@@ -1,9 +1,9 @@
 -- Document 01, "Ratios": the open rule as it is worded there, form by form, as a relation, and that open reading is by it. Proved in proofs/OpenRule.
 --   OpenReads w s r   the open rule reads the string s, against the window w, as r: a ratio with the number of its bytes, or nothing
---   OpenForms         of every window and every string of bytes the open rule says exactly one thing, and `openOne` answers it
+--   OpenForms         of every window and every string of bytes the open rule says exactly one thing, and `open_one` answers it
 --   ReadAs w vs s     s is the ratios vs one after the other, each in bytes that the open rule reads as it, and no byte more; the window, w at
 --                     first, takes each ratio as it is read
---   OpenBodies        of every count and every string of bytes `openRatios` gives the ratios vs exactly when they are as many as the count, and the
+--   OpenBodies        of every count and every string of bytes `open_ratios` gives the ratios vs exactly when they are as many as the count, and the
 --                     string is read as them from a fresh window; else it gives nothing
 use Rattle.std.specs.Prelude.{List, [], ◌∷◌, ◌++◌, ◌↔◌, ◌≡◌, ℕ, ◌+◌, ◌*◌, ◌≤◌, ◌<◌, length, get_or, take, replicate}
 use Rattle.std.proofs.Math.Option.{some}

@@ -1,9 +1,9 @@
 -- Document 01, "Ratios": the bytes of one ratio.
 --   xor_byte        the first byte of an xor form at place 0; below it a first byte is a place
 --   exception_byte  the first byte of an exception
---   written v f    the bytes of the ratio v in the form f
---   coded v w      the bytes of v against the window w
---   Fit n f        the numbers of the form f are those of a form against a window of n ratios
+--   written v f     the bytes of the ratio v in the form f
+--   coded v w       the bytes of v against the window w
+--   Fit n f         the numbers of the form f are those of a form against a window of n ratios
 use Rattle.std.specs.Prelude.{List, [], ◌∷◌, ℕ, ◌+◌, ◌*◌, ◌≤◌, ◌<◌}
 use Rattle.bits.specs.Digits.{bytes_of}
 use Rattle.ratio_format.specs.declared.RatioForm.{RatioForm}

@@ -1,16 +1,16 @@
 -- Document 01, "Ratios" (Stepping, and kept states) and "Numbers that come back": reading coded ratios one by one. The standard term is a
 -- pull decoder. What document 01 calls a reader's place is the offset in its body of the next form.
---   make_tests n        the test of making a reader with the count n: 15
+--   make_tests n       the test of making a reader with the count n: 15
 --   made n             number and place of making
---   made_body n b       the body that the reader then holds
---   made_cursor n       the rest of the reader: place 0, the count, none seen and a fresh window
---   bad_cursor b c      the reader's state is bad
---   next_read b c       the next ratio, read strictly at the reader's place; is_nothing, ratio_of, used_of: whether none was, its bits, its bytes
---   all_given c         as many ratios were given as the count says
---   step_tests b c      the tests of a step in their order: 7, then 8 or 18
---   step_refusal b c    the refusal of a step, the end among them, or none
---   step_answer b c     the answer: number, place and the ratio
---   step_cursor b c     the reader's state afterwards
+--   made_body n b      the body that the reader then holds
+--   made_cursor n      the rest of the reader: place 0, the count, none seen and a fresh window
+--   bad_cursor b c     the reader's state is bad
+--   next_read b c      the next ratio, read strictly at the reader's place; is_nothing, ratio_of, used_of: whether none was, its bits, its bytes
+--   all_given c        as many ratios were given as the count says
+--   step_tests b c     the tests of a step in their order: 7, then 8 or 18
+--   step_refusal b c   the refusal of a step, the end among them, or none
+--   step_answer b c    the answer: number, place and the ratio
+--   step_cursor b c    the reader's state afterwards
 use Rattle.std.specs.Prelude.{Bool, true, false, cond, List, [], ◌∷◌, ℕ, ◌+◌, ltb, eqb, length, drop}
 use Rattle.lists.specs.Compare.{both}
 use Rattle.refusals.specs.declared.Refusal.{Refusal}

@@ -1,19 +1,19 @@
 -- Document 01, "Stepping" and "Numbers that come back": what is said of making a reader, of a step, and of successive ones. Proved in
 -- proofs/SteppingClaims; those of successive steps, CursorStays and MadeStays in proofs/Stepping.
---   Makes              what making a reader answers, and the reader that it gives
---   GoodReader b c     the state c of a reader of the body b is not bad
+--   Makes               what making a reader answers, and the reader that it gives
+--   GoodReader b c      the state c of a reader of the body b is not bad
 --   RefusesStep c n a d   a refusal by n of a step from the state c, or the end: a is its answer, d the state afterwards
---   StepsSo b c a d    what a step through the body b answers and leaves, in each case
---   Steps              every step does so
+--   StepsSo b c a d     what a step through the body b answers and leaves, in each case
+--   Steps               every step does so
 --   step_answers b c n  the answers of n successive steps through the body b, from the state c
 --   step_cursors b c n  the state after them
 --   ratio_given v       the answer of a step that gives the ratio v
---   ended              the answer of a step when all are given and the body is used up
---   SteppingGives      a reader of a coded body gives its ratios one by one, and from then on the end
---   SteppingEnds       the end leaves the reader's state
---   SteppingOnly       no other body is read so
---   CursorStays        no step makes a good state bad
---   MadeStays          every reader that is made is good
+--   ended               the answer of a step when all are given and the body is used up
+--   SteppingGives       a reader of a coded body gives its ratios one by one, and from then on the end
+--   SteppingEnds        the end leaves the reader's state
+--   SteppingOnly        no other body is read so
+--   CursorStays         no step makes a good state bad
+--   MadeStays           every reader that is made is good
 use Rattle.std.specs.Prelude.{false, List, [], ◌∷◌, ◌++◌, map, ◌≡◌, ℕ, zero, suc, ◌+◌, ◌^◌, ◌≤◌, ◌<◌, min, length, drop, replicate}
 use Rattle.lists.specs.Below.{Below}
 use Rattle.limits.specs.Points.{max_points}

@@ -1,10 +1,10 @@
 -- Document 01, "Stepping" and "Numbers that come back": readers that are made and steps, as tables, computed from the definitions by one statement each.
 --   reader place count seen vs fill   a reader's state whose window's first cells are the ratios vs, and the others 0
 --   MakeExample, makes n b f k c      a count and a body, and what making gives: its number, the body that is held and the state
---   make_examples                      the rows; make_examples_hold: each is as it is given
+--   make_examples                     the rows; make_examples_hold: each is as it is given
 --   StepExample                       a body and a state, and the answer and the state afterwards
 --   gives b c v d                     such an example of the ratio v; refuses b c n: of a refusal by n, with the state as it was
---   step_examples                      the rows; step-examples_hold: each is as it is given
+--   step_examples                     the rows; step-examples_hold: each is as it is given
 --   only_the_form                     a form, and then a byte that begins none: the ratio, and then 18
 use Rattle.std.specs.Prelude.{List, [], ◌∷◌, ◌++◌, map, ◌≡◌, refl, ℕ, ◌-◌, length, replicate}
 use Rattle.lists.specs.Compare.{begins}

@@ -1,9 +1,9 @@
 -- Document 01, "Ratios": the window, a list of the preceding ratios. The standard term is a sliding window; its fill is the number of cells
 -- in use. What document 01 calls a place in the window is an index, 0 for the newest.
---   window_size      how many ratios it holds
+--   window_size     how many ratios it holds
 --   push n v w      the window w of size n after the ratio v: repeats are kept
---   window_of n vs   the window of size n after the ratios vs, in the order in which they came
---   fresh_window     a kept window that holds none
+--   window_of n vs  the window of size n after the ratios vs, in the order in which they came
+--   fresh_window    a kept window that holds none
 --   held w          the ratios of a kept window, newest first
 --   pushed w v      a kept window after the ratio v
 use Rattle.std.specs.Prelude.{cond, List, [], ◌∷◌, ◌++◌, reverse, ℕ, ◌+◌, ltb, take, drop, set, replicate}

@@ -1,9 +1,9 @@
 -- Document 01, "Ratios": leading and trailing zero bytes.
---   zeros_at bs       how many zeros the list bs begins with
---   lead_zeros x      the leading zero bytes of a number of 64 bits
---   trail_zeros x     its trailing zero bytes
---   equal_sum         the sum of a ratio and itself: eight zero bytes, from either end
---   sum_of v u        both counts of v xor u together: document 01's sum
+--   zeros_at bs      how many zeros the list bs begins with
+--   lead_zeros x     the leading zero bytes of a number of 64 bits
+--   trail_zeros x    its trailing zero bytes
+--   equal_sum        the sum of a ratio and itself: eight zero bytes, from either end
+--   sum_of v u       both counts of v xor u together: document 01's sum
 use Rattle.std.specs.Prelude.{List, [], ◌∷◌, reverse, ℕ, ◌+◌}
 use Rattle.std.specs.Int.Bits.{bit_xor}
 use Rattle.std.specs.Int.Count.{under}

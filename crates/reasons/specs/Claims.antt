@@ -1,15 +1,15 @@
 -- Document 02, No. 1, as statements about the answer `explained` and its numbers; ReasonsApart is proved in proofs/Numbers, each other in proofs/Claims.
---   NoneEqual v w n        no ratio of the window w before place n is v; NoneAbove v w s: none of it has a sum above s
---   Says v w r             what the reason r says of the ratio v is true of the window w
---   SaysTrue               the answer for an index says what is true of the window there
---   SaysOne                no two answers are true of the same ratio and window
---   WindowIs               what that window holds: the ratio before the index at place 0, up to 127 of them, and not the ratio itself
---   ratio_form_named v w r   the ratio form of v that the reason r names; a refusal names none
---   NamesRatioForm         it is the ratio form that the writer chooses there, and its bytes are those at that point of the body of the whole run
---   OnlyWindow             the answer goes by the ratio at the index and the 127 before it, and by no other
+--   NoneEqual v w n         no ratio of the window w before place n is v; NoneAbove v w s: none of it has a sum above s
+--   Says v w r              what the reason r says of the ratio v is true of the window w
+--   SaysTrue                the answer for an index says what is true of the window there
+--   SaysOne                 no two answers are true of the same ratio and window
+--   WindowIs                what that window holds: the ratio before the index at place 0, up to 127 of them, and not the ratio itself
+--   ratio_form_named v w r  the ratio form of v that the reason r names; a refusal names none
+--   NamesRatioForm          it is the ratio form that the writer chooses there, and its bytes are those at that point of the body of the whole run
+--   OnlyWindow              the answer goes by the ratio at the index and the 127 before it, and by no other
 --   refused_numbers n       the numbers of the refusal n, each of them written out: its place and all else is 0
---   RefusesExactly         it is the refusal 3 for more than 4,096 ratios, else 22 for an index not below their number, and else no refusal, in numbers too
---   ReasonsApart           no two answers have the same numbers
+--   RefusesExactly          it is the refusal 3 for more than 4,096 ratios, else 22 for an index not below their number, and else no refusal, in numbers too
+--   ReasonsApart            no two answers have the same numbers
 use Rattle.std.specs.Prelude.{List, ◌++◌, ◌≡◌, ℕ, ◌+◌, ◌-◌, ◌/◌, ◌^◌, ◌≤◌, ◌<◌, min, length, get_or, take, drop}
 use Rattle.std.proofs.Math.Option.{Option, none, some}
 use Rattle.std.specs.Int.Bits.{bit_xor}

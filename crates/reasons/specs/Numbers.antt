@@ -1,5 +1,5 @@
 -- The reason for a ratio's bytes as numbers: document 02, No. 1, for each case of the enum.
---   reason_numbers r   reason 1 with the place of a reference, 2 with the place, both counts and the sum of an xor form, 3 with the best sum of an
+--   reason_numbers r  reason 1 with the place of a reference, 2 with the place, both counts and the sum of an xor form, 3 with the best sum of an
 --                     exception, 4 for an empty window, 0 with the number and the place of a refusal; all else is 0
 use Rattle.std.specs.Prelude.{◌+◌}
 use Rattle.reasons.specs.declared.Reason.{Reason}

@@ -4,7 +4,7 @@
 --   window_at vs i     the window of the ratio of index i among the ratios vs
 --   explain_tests vs i the tests of the call in their order: 3, 22
 --   reason_by f r      the refusal f, or the reason r where there is none
---   explained vs i    the whole answer: the reason for the ratio of index i, or the refusal
+--   explained vs i     the whole answer: the reason for the ratio of index i, or the refusal
 use Rattle.std.specs.Prelude.{not, cond, List, [], ◌∷◌, ℕ, leb, ltb, eqb, length, get_or, take}
 use Rattle.std.specs.Int.Bits.{bit_xor}
 use Rattle.limits.specs.Points.{max_points}

@@ -2,7 +2,7 @@
 --   NotThere f s       no test of the front applies to the bytes s, and past it stands no whole head with the tag of the form f
 --   Movable f s g      that, and g is the front
 --   Opened f s g       the refusal of the front g, or else that
---   ended_move w n o    the move whose writer said w and left the output o: 6, or the record, for which n bytes of the input were used
+--   ended_move w n o   the move whose writer said w and left the output o: 6, or the record, for which n bytes of the input were used
 use Rattle.std.specs.Prelude.{◌≡◌, false, List, ℕ, ◌+◌, leb, eqb, length}
 use Rattle.lists.specs.Compare.{both}
 use Rattle.refusals.specs.Tests.{refusal, first_of}

@@ -1,9 +1,9 @@
 -- Answers by example: what an example of reading and of writing is, and that every one of a table is as it is given.
---   given_rate, given_side d, given_count n   bytes of fields: the rate 96,000, a side that stores d, a count
---   two_open t              the fields of two points at 0, the positions' with the tag t, whose ratios are the exceptions 0 and 1: no coding, but an open form
+--   given_rate, given_side d, given_count n  bytes of fields: the rate 96,000, a side that stores d, a count
+--   two_open t             the fields of two points at 0, the positions' with the tag t, whose ratios are the exceptions 0 and 1: no coding, but an open form
 --   sound d n f u          what a check answers of a record at 96,000 on side d, with n points, the form's tag f and u bytes
 --   ReadExample, ReadsSo   the expected rate, the room for numbers, the input, and the answers of check, fetch and open reading
---   alike, open_only, no_room   such examples in which all answer alike, in which only open reading accepts, and in which there is no room to read into
+--   alike, open_only, no_room  such examples in which all answer alike, in which only open reading accepts, and in which there is no room to read into
 --   WriteExample, WritesSo a run, the room for bytes, and the answer; wrote: such an example
 use Rattle.std.specs.Prelude.{◌≡◌, List, [], ◌∷◌, ◌++◌, map, ℕ, replicate}
 use Rattle.bits.specs.Digits.{bytes_of}

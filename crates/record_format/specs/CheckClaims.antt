@@ -1,8 +1,8 @@
 -- Document 02, No. 8: the check, as statements. The refusals of each field, with their places and their order, stand in FrontClaims and PointClaims. Each is
 -- proved in proofs/CheckClaims, and NumberTells in proofs/CheckClaims/Numbers.
 --   Expects e r        the expected rate e is r, or none is
---   refused_found n p   what the refusal n at the place p answers: zeros beside them
---   run_check r         what a check answers of the record of r: its rate, side, count, form's tag and size
+--   refused_found n p  what the refusal n at the place p answers: zeros beside them
+--   run_check r        what a check answers of the record of r: its rate, side, count, form's tag and size
 --   ChecksBack r e s   a check of the bytes s gives back the numbers of r, or 14 at 0 where another rate is expected; and the run in their fields is r
 --   ChecksRecord       so it is of each run's record, whatever follows it
 --   ChecksExactly      a check accepts bytes exactly when they begin with some run's record whose rate is the expected one, or none is expected

@@ -1,13 +1,13 @@
 -- Document 02, No. 8: what a check finds in bytes; the standard term is validation. It needs no output, and every reading into outputs, every move and
 -- every comparison is defined over it.
---   run_by k s            the run in the fields of the bytes s, its ratios by the reading k; where the bytes are refused, a run that no answer shows
---   run_in s              the same, its ratios read strictly
---   refused_check f       the answer of the refusal f
---   sound_check s         the answer of a record: its rate, its side (0 for none), its count, the tag of its form, and its size
+--   run_by k s           the run in the fields of the bytes s, its ratios by the reading k; where the bytes are refused, a run that no answer shows
+--   run_in s             the same, its ratios read strictly
+--   refused_check f      the answer of the refusal f
+--   sound_check s        the answer of a record: its rate, its side (0 for none), its count, the tag of its form, and its size
 --   found k e s          what the reading k finds in the bytes s, with the rate e expected (0 for none): the refusal, or the record's numbers
 --   checked e s          what a check finds: the ratios' field must be the coding of its ratios
---   place_base            by which C multiplies a refusal's number
---   check_number a        the answer a as one number, for C: 65,536 times the refusal's number plus its place, or the size
+--   place_base           by which C multiplies a refusal's number
+--   check_number a       the answer a as one number, for C: 65,536 times the refusal's number plus its place, or the size
 use Rattle.std.specs.Prelude.{cond, List, ℕ, ◌+◌, ◌*◌, eqb}
 use Rattle.std.proofs.Math.Option.{Option}
 use Rattle.lists.specs.Optional.{list_of}

@@ -8,7 +8,7 @@
 --   Bytes s             s is a string of bytes
 --   Beginning a b       the string a is a beginning of b, in the standard term a prefix: b is a and then any bytes, or none
 --   joined rs           the records of the runs rs, joined in their order: their concatenation
---   count_place d        the offset of the count's field past a front with the side d, 7 or 11: what count_at finds there; positions_place d: that of
+--   count_place d       the offset of the count's field past a front with the side d, 7 or 11: what count_at finds there; positions_place d: that of
 --                       the positions', 12 or 16
 --   FieldPlaces         these offsets, in numbers
 --   WritesRun, Writes   writing gives exactly the record, where the run is accepted and there is room for it, and else the refusal, and zeros

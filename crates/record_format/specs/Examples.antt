@@ -1,10 +1,10 @@
 -- Document 01, "Bytes to compare": the rows marked P, and beside them the listing's run on a side, steps at other ends of rows in each form and a run
 -- in the wide form, as one table, proved from the definitions by one statement.
---   Subject, code_of        what is shown, and its code
---   Example, example       such a subject, and its code as it should be: what document 01 gives for it, but for the run on a side, other ends of rows, and what is wide
+--   Subject, code_of         what is shown, and its code
+--   Example, example         such a subject, and its code as it should be: what document 01 gives for it, but for the run on a side, other ends of rows, and what is wide
 --   listed_run, listed_bytes the run of the listing, and its 46 bytes; sided_run, sided_bytes: the same run on side 4, and its 50 bytes
 --   paused_run, paused_bytes a run in the wide form that the old one does not take: the tape is rewound at the third point
---   examples               the rows; examples_hold: each is as it is given
+--   examples                 the rows; examples_hold: each is as it is given
 use Rattle.std.specs.Prelude.{◌≡◌, refl, List, [], ◌∷◌, ◌++◌, map, ℕ, ◌+◌, ◌-◌, ◌^◌, ℤ, pos, replicate, drop}
 use Rattle.bits.specs.Digits.{digits_of, bits_of, bytes_of, number_of}
 use Rattle.bits.specs.Packing.{eights, pack}

@@ -1,7 +1,7 @@
 -- Document 02, No. 8: fetch, as statements. Which refusal stands first, and where, is the check's (FrontClaims, PointClaims), with 16 put in after the
 -- front. Each is proved in proofs/FetchClaims.
---   refused_fetch n p ts vs   the whole answer of the refusal n at the place p: zeros beside them, and both outputs 0 from end to end
---   run_fetch r ts vs         the whole answer of a success: the run's count, its positions and its ratios at the front of the outputs, whose rest stays
+--   refused_fetch n p ts vs  the whole answer of the refusal n at the place p: zeros beside them, and both outputs 0 from end to end
+--   run_fetch r ts vs        the whole answer of a success: the run's count, its positions and its ratios at the front of the outputs, whose rest stays
 --   FetchesBack r e s ..     a fetch from the bytes s gives back each position and each ratio of r, given room; 14 at 0 where another rate is expected; 16 at
 --                            the count's field where an output lacks room
 --   FetchesRecord            so it is from each run's record, whatever follows it

@@ -1,13 +1,13 @@
 -- Document 01, "Numbers that come back", and document 02, No. 8: reading into outputs, the caller's buffers: fetch, and open reading. It has the tests of a
 -- check, and 16 among them; what it leaves in the outputs is the run that is found.
---   lacks_room m n c        an output lacks room for c numbers, in the standard term capacity; room_tests s m n: the test of it
---   read_tests k e s m n    the tests in their order: those of a record, with that of the room after the front
---   as_read a               what a check answers, as open reading returns it
+--   lacks_room m n c       an output lacks room for c numbers, in the standard term capacity; room_tests s m n: the test of it
+--   read_tests k e s m n   the tests in their order: those of a record, with that of the room after the front
+--   as_read a              what a check answers, as open reading returns it
 --   Answer                 what a reading returns, and both outputs afterwards
---   refusal_answer, record_answer, answer_by   that of a refusal, of a record, and by a list of tests
---   read_with k e s ts vs   reading the bytes s into the outputs ts and vs, with the reading k of the ratios' field and the rate e expected (0 for none)
---   read_open               open reading: number, place, rate, side, count, the form's tag, bytes used, and both outputs afterwards
---   Fetched, as_fetched     what a fetch returns, and both outputs afterwards; that of an answer
+--   refusal_answer, record_answer, answer_by  that of a refusal, of a record, and by a list of tests
+--   read_with k e s ts vs  reading the bytes s into the outputs ts and vs, with the reading k of the ratios' field and the rate e expected (0 for none)
+--   read_open              open reading: number, place, rate, side, count, the form's tag, bytes used, and both outputs afterwards
+--   Fetched, as_fetched    what a fetch returns, and both outputs afterwards; that of an answer
 --   fetched                fetch, in standard terms decoding into the caller's buffers: number, place, count, and both outputs afterwards
 use Rattle.std.specs.Prelude.{Bool, true, cond, List, [], ◌∷◌, ◌++◌, ℕ, ltb, length}
 use Rattle.std.proofs.Math.Option.{Option}

@@ -1,19 +1,19 @@
 -- Document 01, "The record": fields. The standard term is tag, length, value.
 --   Field                   a tag and a body
---   field_of t b             such a field
---   tag_size, length_size     how many bytes a field's tag and the length of its body take
---   head_size                how many bytes stand before a field's body: its head, in the standard term a header
---   max_body                 the longest body that a head can state
---   field_bytes f            the bytes of the field f: the tag, the length of the body in two bytes, and the body
+--   field_of t b            such a field
+--   tag_size, length_size   how many bytes a field's tag and the length of its body take
+--   head_size               how many bytes stand before a field's body: its head, in the standard term a header
+--   max_body                the longest body that a head can state
+--   field_bytes f           the bytes of the field f: the tag, the length of the body in two bytes, and the body
 --   laid fs                 the fields fs, laid end to end
---   tag_at s p               the tag of the field at the offset p of the bytes s, and 0, which is no field's, past their end
---   length_at s p            its stated length
---   body_at s p              its body
---   next_at s p              the offset past it
---   head_tests s tags p      the tests of the head of a field at p: whole, and a tag of the list
---   length_tests s n p       the test of the stated length, where one is asked for
---   body_tests s p           the test of its whole body
---   field_tests s tags n p   the tests of a field at p before those of its contents: head, stated length where one is asked for, body
+--   tag_at s p              the tag of the field at the offset p of the bytes s, and 0, which is no field's, past their end
+--   length_at s p           its stated length
+--   body_at s p             its body
+--   next_at s p             the offset past it
+--   head_tests s tags p     the tests of the head of a field at p: whole, and a tag of the list
+--   length_tests s n p      the test of the stated length, where one is asked for
+--   body_tests s p          the test of its whole body
+--   field_tests s tags n p  the tests of a field at p before those of its contents: head, stated length where one is asked for, body
 use Rattle.std.specs.Prelude.{not, List, [], ◌∷◌, ◌++◌, ℕ, ◌+◌, ◌-◌, ◌^◌, ltb, eqb, length, get_or, take, drop}
 use Rattle.std.proofs.Math.Option.{Option, none, some}
 use Rattle.lists.specs.Lists.{member}

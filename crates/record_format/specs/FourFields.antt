@@ -1,7 +1,7 @@
 -- Document 01, "The record": "Four fields in this order, each once". Records in the old form without a side are as they were before document 02,
 -- No. 2 and No. 3.
---   four_fields r ts vs   the four fields of document 01, for the rate r, the positions ts and the ratios vs
---   four_tests r ts vs    document 01's tests 1 to 5 of writing
+--   four_fields r ts vs  the four fields of document 01, for the rate r, the positions ts and the ratios vs
+--   four_tests r ts vs   document 01's tests 1 to 5 of writing
 --   SameRecord           the record of the run on side 0, in the old form, is these four fields, laid end to end
 --   RefusesBySide        a run in the old form with any side is refused as document 01 says of it without one, but that 21 stands after 1; so on
 --                        side 0 it is accepted exactly when it was, and refused by 6 when it was, since its record is the same

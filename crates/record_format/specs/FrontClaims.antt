@@ -1,17 +1,17 @@
 -- What reading finds in the fields of the rate, the side and the count, as statements of `found`: of every reading k of the ratios' field, so of the check
 -- and, by what FetchClaims and OpenReading say of outputs, of fetch and of open reading; and of all bytes that follow. Each is proved in
 -- proofs/FrontClaims.
---   rate_bytes r, side_bytes d   the field of the rate r, and the field of a side that stores d
---   RateRefused                the rate's field: 10 at 0 for a cut head, 11 for another tag than 1, 12 for another length than 4, 10 for fewer bytes
---   RateFirst                  13 and 14 stand before all that follows the rate
---   HeadCut                    past the rate fewer bytes than a head: 10 at 7; past a side: 10 at 11
---   TagRefused                 past the rate a tag that is neither 2 nor 6: 11 at 7; past a side a tag that is not 2: 11 at 11
---   LengthRefused              a side's field of another length than 1: 12 at 7
---   BodyCut                    a side's field without its byte: 10 at 7
---   SideRefused                a stored side that is 0 or above 26: 20 at 7
---   CountRefused               a count's field of another length than 2: 12 at 7, or past a side at 11; one without its two bytes: 10 there
---   shifted d a                the answer a with each offset four bytes further on and, of a success, the side d
---   SideShifts                 a side's field shifts what follows it by four bytes and changes nothing else: not the refusal's number, not a point
+--   rate_bytes r, side_bytes d  the field of the rate r, and the field of a side that stores d
+--   RateRefused                 the rate's field: 10 at 0 for a cut head, 11 for another tag than 1, 12 for another length than 4, 10 for fewer bytes
+--   RateFirst                   13 and 14 stand before all that follows the rate
+--   HeadCut                     past the rate fewer bytes than a head: 10 at 7; past a side: 10 at 11
+--   TagRefused                  past the rate a tag that is neither 2 nor 6: 11 at 7; past a side a tag that is not 2: 11 at 11
+--   LengthRefused               a side's field of another length than 1: 12 at 7
+--   BodyCut                     a side's field without its byte: 10 at 7
+--   SideRefused                 a stored side that is 0 or above 26: 20 at 7
+--   CountRefused                a count's field of another length than 2: 12 at 7, or past a side at 11; one without its two bytes: 10 there
+--   shifted d a                 the answer a with each offset four bytes further on and, of a success, the side d
+--   SideShifts                  a side's field shifts what follows it by four bytes and changes nothing else: not the refusal's number, not a point
 use Rattle.std.specs.Prelude.{true, false, cond, List, ◌∷◌, ◌++◌, ◌⊎◌, ◌≡◌, ℕ, ◌+◌, ◌^◌, ◌≤◌, ◌<◌, eqb, length}
 use Rattle.std.proofs.Math.Option.{Option}
 use Rattle.bits.specs.Digits.{bytes_of}

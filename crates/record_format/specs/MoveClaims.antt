@@ -1,8 +1,8 @@
 -- Document 02, No. 5: what moves do, as statements. FormFirst is proved in proofs/Moves, each other in proofs/MoveClaims; that bytes behind a record change
 -- no move is a part of demand 3 (TrailingBytes and MoveFollowed, in Claims). Together with ChecksOnly, FormFirst, CheckFirst, ToWide and ToOld say the
 -- answer to every string of bytes.
---   not_moved n p o    the answer of the refusal n at the place p
---   moved_to r q o     that of a success: the record of the run r was read, and that of the run q written
+--   not_moved n p o   the answer of the refusal n at the place p
+--   moved_to r q o    that of a success: the record of the run r was read, and that of the run q written
 --   ByRoom f r q ..   the move of the record of r to the form f writes that of q, or is refused by 6, exactly where there is no room for it
 --   ToWide            an accepted run in the old form: 3 above 3,500 points; else the same run is accepted in the wide form, and the move is refused by 6 alone,
 --                     exactly where there is no room for that record

@@ -3,11 +3,11 @@
 --   MoveExample   the form moved to, what is read, the room for bytes, which are 7 before, and the answer with the output
 --   refuses, moves   such an example of a refusal n at p, and of a success that uses u bytes and writes ws
 --   stepped t ps  the record of four points with the steps 2,049 and 5,000, with the tag t and the positions' body ps
---   stepped_old, stepped_wide   that record in each form
---   no_points t    the last two fields of a record without points, the positions' with the tag t
+--   stepped_old, stepped_wide  that record in each form
+--   no_points t   the last two fields of a record without points, the positions' with the tag t
 --   wide ts       the record of a run in the wide form with the positions ts and ratios that are all 0; old ts: in the old form
---   odd_run f      a run in the form f on side 26 at 44,100, with ratios whose bits a coding through doubles could change: 0, -0 and two not-a-numbers
---   move_rows      the rows; moves_hold: each is as it is given
+--   odd_run f     a run in the form f on side 26 at 44,100, with ratios whose bits a coding through doubles could change: 0, -0 and two not-a-numbers
+--   move_rows     the rows; moves_hold: each is as it is given
 use Rattle.std.specs.Prelude.{◌≡◌, refl, List, [], ◌∷◌, ◌++◌, map, ℕ, ◌+◌, ◌-◌, ◌^◌, length, take, drop, replicate}
 use Rattle.lists.specs.Lists.{member, first_index}
 use Rattle.lists.specs.Compare.{begins, same}

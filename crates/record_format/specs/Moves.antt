@@ -1,14 +1,14 @@
 -- Document 02, No. 5: moving a record to the other form; the standard term is transcoding. Document 02's "run in it" is the rate, the side, the
 -- positions and the ratios.
---   other_form f        the form that is not f
---   in_form f r         the run r in the form f, and nothing else of it changed
---   source_tests f s    the tests of a record that is to be moved to the form f: those of a check in their order, with no rate expected, but that
+--   other_form f       the form that is not f
+--   in_form f r        the run r in the form f, and nothing else of it changed
+--   source_tests f s   the tests of a record that is to be moved to the form f: those of a check in their order, with no rate expected, but that
 --                      at the positions' field the other form's tag alone is good
---   target_tests f ts   those of its positions in the form f: 3 toward wide, 5 toward old
---   move_tests f s o    all tests of a move, with 6, which asks for room for the record that is written
+--   target_tests f ts  those of its positions in the form f: 3 toward wide, 5 toward old
+--   move_tests f s o   all tests of a move, with 6, which asks for room for the record that is written
 --   Move               what a move returns, and the output afterwards
---   refused_move, record_move   that of a refusal, and of a record
---   move_of f s o       moving the record that the bytes s begin with to the form f, at the front of the output o: number, place, the length written and
+--   refused_move, record_move  that of a refusal, and of a record
+--   move_of f s o      moving the record that the bytes s begin with to the form f, at the front of the output o: number, place, the length written and
 --                      the bytes used, and the output afterwards
 use Rattle.std.specs.Prelude.{cond, List, [], ◌∷◌, ◌++◌, ℕ, ltb, length}
 use Rattle.refusals.specs.declared.Refusal.{Refusal}

@@ -1,7 +1,7 @@
 -- Document 01, "Ratios" and "Numbers that come back": open reading of a record, by the open rule as document 01 words it. Which refusal stands first, and
 -- where, is what FrontClaims and PointClaims say of every reading, with 16 put in after the front. Each is proved in proofs/OpenReading.
---   refused_read n p         what the refusal n at the place p returns; refused_by n p ts vs: its whole answer
---   run_answer r ts vs       the whole answer to the record of r: the run, its count, its form's tag and its record's length, and each point
+--   refused_read n p        what the refusal n at the place p returns; refused_by n p ts vs: its whole answer
+--   run_answer r ts vs      the whole answer to the record of r: the run, its count, its form's tag and its record's length, and each point
 --   OpensBack r e s ..      open reading of the bytes s gives back the run r, given room; 14 at 0 where another rate is expected; 16 at the count's field
 --                           where an output lacks room
 --   OpensRecord             so it is of each run's record, whatever follows it

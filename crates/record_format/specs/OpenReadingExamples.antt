@@ -1,8 +1,8 @@
 -- Open reading of records, as one table, computed from the definitions by one statement.
---   two_with body           the record at 96,000 of two points at 0 whose ratios' field has this body, in the old form
+--   two_with body          the record at 96,000 of two points at 0 whose ratios' field has this body, in the old form
 --   openly, neither        such a record: check and fetch give 18, and open reading accepts; or all give 18
---   open_reads              the rows; open_reads_hold: each is as it is given
---   open_ratios_lem            what open reading leaves in the ratios' output
+--   open_reads             the rows; open_reads_hold: each is as it is given
+--   open_ratios_lem        what open reading leaves in the ratios' output
 use Rattle.std.specs.Prelude.{List, [], ◌∷◌, ◌++◌, map, ◌≡◌, refl, ℕ, ◌+◌, length, replicate}
 use Rattle.lists.specs.Lists.{member, first_index}
 use Rattle.lists.specs.Compare.{begins, same}

@@ -1,7 +1,7 @@
 -- What reading finds past the rate and the side, as statements of `found`: the count, the positions' field in either form and the ratios' field. They are
 -- of every reading k of the ratios' field, so of the check and, by what FetchClaims and OpenReading say of outputs, of fetch and of open reading; and of all
 -- bytes that follow. Each is proved in proofs/PointClaims.
---   front_bytes r d n   the fields of the rate r, the side d unless it is 0, and the count n
+--   front_bytes r d n  the fields of the rate r, the side d unless it is 0, and the count n
 --   CountFirst      15 above 4,096 points, before the positions' field is looked at
 --   TagFirst        10 for a cut head of the positions' field; 11 for a tag that is neither 3 nor 5; 15, at the count's field, for tag 5 above 3,500
 --                   points, before the body

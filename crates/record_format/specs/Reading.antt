@@ -1,20 +1,20 @@
 -- Document 01, "The record" and "Numbers that come back", with the side and the form of document 02, No. 2 and No. 3: where the fields of a record stand,
 -- what they hold, and the tests of reading. No output has a part in them.
 --   rate_at, side_at s, count_at s, positions_at s, ratios_at s   the offset of each field, by what it holds
---   has_side s              a side's field stands past the rate's
---   end_at s                the offset past the record
+--   has_side s               a side's field stands past the rate's
+--   end_at s                 the offset past the record
 --   rate_in, side_in, count_in   the numbers in the fields of the rate, of the side (0 where there is none) and of the count
---   form_in s               the form that the tag of the positions' field names
---   positions_in s          the positions that the positions' field is the coding of, in its form, or nothing
---   ratios_in k s           the ratios that the reading k of the ratios' field gives, or nothing
---   other_rate e r          another rate is expected than r
---   rate_tests, side_tests, count_tests   the tests of their fields; front_tests e s: of all three, with the expected rate e (0 for none)
---   many_tests s            the test of the count by the form
---   positions_tests_by tags s   those of the positions' field, whose tag must be one of the list; positions_tests: of either form's
---   ratios_tests            those of the ratios' field
---   points_tests_by tags k s   those of the points: the positions' field and then the ratios'; points_tests: of either form's
+--   form_in s                the form that the tag of the positions' field names
+--   positions_in s           the positions that the positions' field is the coding of, in its form, or nothing
+--   ratios_in k s            the ratios that the reading k of the ratios' field gives, or nothing
+--   other_rate e r           another rate is expected than r
+--   rate_tests, side_tests, count_tests  the tests of their fields; front_tests e s: of all three, with the expected rate e (0 for none)
+--   many_tests s             the test of the count by the form
+--   positions_tests_by tags s    those of the positions' field, whose tag must be one of the list; positions_tests: of either form's
+--   ratios_tests             those of the ratios' field
+--   points_tests_by tags k s  those of the points: the positions' field and then the ratios'; points_tests: of either form's
 --   record_tests_by tags k e s   those of a record in their order, with the reading k of the ratios' field, where the tag of the positions' field must be
---                          one of the list; record_tests: of either form's
+--                            one of the list; record_tests: of either form's
 -- The reading k of the ratios' field is, in the standard term, its decoder. Strict and open reading, in standard terms canonical and lenient decoding, differ
 -- in it only: strict_ratios or open_ratios.
 use Rattle.std.specs.Prelude.{Bool, not, cond, List, [], ◌∷◌, ◌++◌, ℕ, ltb, eqb}

@@ -1,15 +1,15 @@
 -- Document 01, "What a run record holds" and "The record", with the side and the form of document 02, No. 2 and No. 3.
 --   Run, run       a rate, a side, the form that it is written in, positions and ratios. The standard term is a time series; its points are its
 --                  samples, a sample position and the ratio there, the 64 bits of an IEEE 754 double. The side is that of the disc, 0 for none
---   rate_tag .. ratios_tag   the tags of the fields, by what they hold; that of the positions' field is by its form, and positions_tags has them all
---   form_of t       the form that the tag t names
---   rate_size, side_size, count_size   how many bytes the rate, the side and the count take
---   side_fields n   the field of the side n, an optional one: none for side 0; side_length n: how many bytes it takes
---   rate_field r, count_field n, positions_field f ts, ratios_field vs   the fields of the rate r, of the count n, of the positions ts in the form f, and of
+--   rate_tag .. ratios_tag  the tags of the fields, by what they hold; that of the positions' field is by its form, and positions_tags has them all
+--   form_of t      the form that the tag t names
+--   rate_size, side_size, count_size  how many bytes the rate, the side and the count take
+--   side_fields n  the field of the side n, an optional one: none for side 0; side_length n: how many bytes it takes
+--   rate_field r, count_field n, positions_field f ts, ratios_field vs  the fields of the rate r, of the count n, of the positions ts in the form f, and of
 --                  the ratios vs
---   front_fields r d n   the fields of the rate r, of the side d unless it is 0, and of the count n
---   fields_of r     the fields of the record of the run r: those, coded positions, coded ratios, each once, in this order
---   record_of r     the record of the run r: its fields laid end to end
+--   front_fields r d n  the fields of the rate r, of the side d unless it is 0, and of the count n
+--   fields_of r    the fields of the record of the run r: those, coded positions, coded ratios, each once, in this order
+--   record_of r    the record of the run r: its fields laid end to end
 use Rattle.std.specs.Prelude.{cond, List, [], ◌∷◌, ◌++◌, ℕ, zero, suc, ◌+◌, eqb, length}
 use Rattle.bits.specs.Digits.{bytes_of}
 use Rattle.position_format.specs.declared.Form.{Form}

@@ -1,5 +1,5 @@
 -- Document 02, No. 2: answers of reading and of writing with a side, as one table each, computed from the definitions by one statement.
---   no_points                        the positions' and the ratios' field of no points
+--   no_points                       the positions' and the ratios' field of no points
 --   expecting e s a                 check, fetch and open reading of s with room for two points, where the rate e is expected, give a
 --   reads, reads_hold               the rows, and that each is as it is given
 --   writes, writes_hold             likewise of writing

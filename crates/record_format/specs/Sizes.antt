@@ -1,17 +1,17 @@
 -- Document 01, "Numbers that bound it", with document 02, No. 2 and No. 3: the sizes of a record and of its bodies, as statements. Each is proved
 -- in proofs/Sizes.
---   min_record, max_record   the fewest and the most bytes of a record
---   max_positions_body f, max_ratios_body f   the most bytes of the bodies of positions and of ratios of a run in the form f
+--   min_record, max_record  the fewest and the most bytes of a record
+--   max_positions_body f, max_ratios_body f  the most bytes of the bodies of positions and of ratios of a run in the form f
 --   longest_on f d   the most bytes of the record of a run in the form f on the side d
---   Within          an accepted run's record has 18 to 61,709 bytes: in the old form 18 to 55,321 on side 0, and 22 to 55,325 on any other, in the
---                   wide form 18 to 61,705 and 22 to 61,709; its positions' body has at most 18,439 or 30,187, its ratios' at most 36,864 or 31,500
---   NoPoints        the record of no points has 18 bytes, or 22 on a side, and at each rate of the list, on each side and in each form that run is
---                   accepted
+--   Within           an accepted run's record has 18 to 61,709 bytes: in the old form 18 to 55,321 on side 0, and 22 to 55,325 on any other, in the
+--                    wide form 18 to 61,705 and 22 to 61,709; its positions' body has at most 18,439 or 30,187, its ratios' at most 36,864 or 31,500
+--   NoPoints         the record of no points has 18 bytes, or 22 on a side, and at each rate of the list, on each side and in each form that run is
+--                    accepted
 --   first_values f n the values f 0, f 1, .., n of them; swing f, which goes as far as far_of f, and two_ends: those of the longest run's positions and
---                   ratios
---   longest f d     a run in the form f on the side d whose record is as long as it can be
---   Reached         in each form and on each side it is accepted, and its record and its positions' body have that length: 55,321 and 55,325
---                   bytes, 61,705 and 61,709, and 18,439 and 30,187
+--                    ratios
+--   longest f d      a run in the form f on the side d whose record is as long as it can be
+--   Reached          in each form and on each side it is accepted, and its record and its positions' body have that length: 55,321 and 55,325
+--                    bytes, 61,705 and 61,709, and 18,439 and 30,187
 use Rattle.std.specs.Prelude.{true, List, [], ◌∷◌, ◌≡◌, ℕ, zero, suc, ◌+◌, ◌*◌, ◌/◌, ◌%◌, ◌^◌, ◌≤◌, length}
 use Rattle.limits.specs.Rates.{is_rate}
 use Rattle.limits.specs.Sides.{max_side}

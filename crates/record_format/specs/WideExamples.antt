@@ -3,7 +3,7 @@
 --   escaped x                       the code of the row of 64 bits with the bits of x
 --   BodyExample, body, bodies       what is read from such a body by the wide table; bodies_hold: each is as it is given
 --   front n, sided n                the fields of the rate 96000 and the count n, without a side and on side 4
---   room_for m s a                   check, fetch and open reading of s with room for m points give a
+--   room_for m s a                  check, fetch and open reading of s with room for m points give a
 --   reads, reads_hold               the rows, and that each is as it is given; open_points: what open reading leaves in the outputs
 --   writes, writes_hold             likewise of writing
 use Rattle.std.specs.Prelude.{◌≡◌, refl, List, [], ◌∷◌, ◌++◌, map, ℕ, ◌+◌, ◌-◌, ◌^◌, replicate}

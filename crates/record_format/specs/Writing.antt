@@ -1,11 +1,11 @@
 -- Document 01, "Numbers that come back", with 21 of document 02, No. 2, and the form of No. 3: writing a run.
---   outside_tests f ts   the test of the steps of the positions ts: 5, only in the old form
---   run_tests r          the tests of writing on the run alone, in their order: 1, 21, 2 to 5, each over the whole run; 3 and 5 by the form
+--   outside_tests f ts  the test of the steps of the positions ts: 5, only in the old form
+--   run_tests r         the tests of writing on the run alone, in their order: 1, 21, 2 to 5, each over the whole run; 3 and 5 by the form
 --   accepts r           none of them applies: the writer accepts the run
---   write_tests r o      all tests, with 6, which asks for room for the whole record
---   write_refusal r o    the refusal of writing, or none
---   write_answer r o     the answer: number, place and the record's length
---   write_output r o     the output o afterwards
+--   write_tests r o     all tests, with 6, which asks for room for the whole record
+--   write_refusal r o   the refusal of writing, or none
+--   write_answer r o    the answer: number, place and the record's length
+--   write_output r o    the output o afterwards
 use Rattle.std.specs.Prelude.{Bool, not, cond, List, [], ◌∷◌, ◌++◌, ℕ, ltb, eqb, length}
 use Rattle.refusals.specs.declared.Refusal.{Refusal}
 use Rattle.limits.specs.Rates.{is_rate}

@@ -2,7 +2,7 @@
 -- proofs/WritingClaims.
 --   FormNumbers     a form's tag names it, and every number but 5 the old one
 --   RecordFields    the fields of a record in each form, with the tags and lengths that the documents give
---   wide_tests r ts vs   the tests of writing, all but 21 and 6, for a run in the wide form: 3 at 3,500, and no 5
+--   wide_tests r ts vs  the tests of writing, all but 21 and 6, for a run in the wide form: 3 at 3,500, and no 5
 --   RefusesWide     a run in the wide form is refused by these, but that 21 stands after 1
 --   AcceptsWide     so positions in their range are never refused for a step
 --   FormsApart      no record in one form begins one in the other

@@ -1,19 +1,19 @@
 -- What the functions that read and write the parts of a record say of what they did.
---   longest_field        the most bytes that a field can take
+--   longest_field       the most bytes that a field can take
 --   farthest n          the farthest offset that n fields can end at
---   max_place            offsets up to here are returned as places, in 32 bits
---   length_asked l       the length that a field must state, or nothing; length_good: whether a length is that one
+--   max_place           offsets up to here are returned as places, in 32 bits
+--   length_asked l      the length that a field must state, or nothing; length_good: whether a length is that one
 --   PartRead ..         a field of a record, read at the offset p by these tests: their refusal, or the offset past it
 --   FieldRead ..        the same, with the start of its body
 --   NumberRead ..       the same of a field that holds a number, with the number
 --   SideRead s f        the same of the side's field, which may be missing: then the side is 0, and the count's stands in its place
---   no_front g           a front with the refusal g, and zeros
+--   no_front g          a front with the refusal g, and zeros
 --   CountFound s c q p  of the bytes s: the count c, the place q of its field, and the offset p past it
 --   FrontFound s f      the front f of the bytes s: these, rate and side
 --   FrontRead e s f     the same, or its refusal
---   tag_of, coded_by      of a coding: its field's tag, and the body of numbers
+--   tag_of, coded_by    of a coding: its field's tag, and the body of numbers
 --   Codable c ns        the numbers ns can be coded so
---   ratios_by r          the ratios of a body, strictly or by the open rule
+--   ratios_by r         the ratios of a body, strictly or by the open rule
 --   FoundInto ..        whether there is a list of c numbers, and where the output has room for them they stand at its front
 --   RoomToRead ..       the output has the room that the reading needs: strictly none, by the open rule for the count c
 --   RatiosDue ..        the ratios' field stands at the offset p, and the count is c

@@ -1,5 +1,5 @@
 -- The fields of a record that stand before the ratios', and what a writer says that recodes their positions.
---   lead_fields r d f ts      those of the rate r, of the side d unless it is 0, of the count, and of the positions ts in the form f
+--   lead_fields r d f ts     those of the rate r, of the side d unless it is 0, of the count, and of the positions ts in the form f
 --   RecodedAs f ts bs r o p  the bytes bs, in which the positions ts stand in the form f, were put at the front of o, which is now p, or there was no
 --                            room for them; or r is the index of the first point whose step the table of f does not hold. That is told whatever the
 --                            room

@@ -2,8 +2,8 @@
 --   Test           whether it applies, the number that it gives, and the place beside it
 --   test b n p     such a test
 --   refusal n p    the refusal with the number n at the place p
---   no_refusal      a success: number 0, place 0
---   first_of ts     the refusal of the first test that applies, or no_refusal
+--   no_refusal     a success: number 0, place 0
+--   first_of ts    the refusal of the first test that applies, or no_refusal
 --   refused f      f is a refusal: its number is not 0
 -- In standard terms a refusal is an error, its number an error code, and the place beside it an error position: an index, or a field's offset.
 use Rattle.std.specs.Prelude.{Bool, not, cond, List, [], ◌∷◌, ℕ, eqb}

@@ -1,20 +1,20 @@
 -- Document 01, "Numbers that come back", and document 02, No. 6: what refuses a span, what a span is, whatever way it is computed, and where it is what
 -- document 01 had. Each is proved in proofs/Claims.
---   SpanAccepted r ts  a rate of the list, at most 4,096 positions, and each at most 2^62 - 1
---   AcceptsOnly        no other rate and positions are given a span
+--   SpanAccepted r ts   a rate of the list, at most 4,096 positions, and each at most 2^62 - 1
+--   AcceptsOnly         no other rate and positions are given a span
 --   refused_span n p    the answer of the refusal n at the place p
---   RefusesSpan        which refusal each other rate and positions get: 1, then 3, then 4 with the index of the first position out of range
+--   RefusesSpan         which refusal each other rate and positions get: 1, then 3, then 4 with the index of the first position out of range
 --   span_of z           the answer with the span z
---   IsFloor m z r      m is the largest whole number that is not above z / r
---   RoundsDown         of every accepted rate and positions, two or more, the span is the largest whole number of milliseconds that is not above the exact
---                      quotient
---   ZeroShort          of no points or one it is 0
+--   IsFloor m z r       m is the largest whole number that is not above z / r
+--   RoundsDown          of every accepted rate and positions, two or more, the span is the largest whole number of milliseconds that is not above the exact
+--                       quotient
+--   ZeroShort           of no points or one it is 0
 --   toward_zero z r     z divided by r, rounded toward zero, which is document 01's rounding; the standard term is the truncated quotient
 --   answer_with r ts z  the answer of a span, with its tests, if the milliseconds were z
---   Exact r ts         the rate divides the dividend, so that the division leaves no remainder
---   SameSpan           there, or where the last position is not below the first, the answer is document 01's, refusals too
---   OneLess            and everywhere else it has a millisecond less, or is the same refusal
---   SpanFits           of any rate and any positions the span is of less than 2^62 milliseconds, so that 64 bits hold it with its sign
+--   Exact r ts          the rate divides the dividend, so that the division leaves no remainder
+--   SameSpan            there, or where the last position is not below the first, the answer is document 01's, refusals too
+--   OneLess             and everywhere else it has a millisecond less, or is the same refusal
+--   SpanFits            of any rate and any positions the span is of less than 2^62 milliseconds, so that 64 bits hold it with its sign
 use Rattle.std.specs.Prelude.{true, false, List, [], ◌∷◌, ◌++◌, ◌⊎◌, ◌≡◌, ℕ, ◌^◌, ◌≤◌, ◌<◌, ℤ, pos, nat_abs, ◌-ℤ◌, ◌*ℤ◌, length, get_or, ◌≤ℤ◌}
 use Rattle.std.specs.Int.Signed.{quot_z}
 use Rattle.lists.specs.Below.{Below}

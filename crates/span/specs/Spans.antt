@@ -1,11 +1,11 @@
 -- Document 01, "Kinds and span" and "Numbers that come back", and document 02, No. 6: the span of a run. The standard term is its duration, signed, in
 -- milliseconds.
---   rounded_down z r       z divided by r, a number above 0, and rounded down; the standard term is the floor of the quotient
---   first_position ts      the first position, by index; last_position ts: the last
+--   rounded_down z r      z divided by r, a number above 0, and rounded down; the standard term is the floor of the quotient
+--   first_position ts     the first position, by index; last_position ts: the last
 --   dividend ts           last minus first position, times 1,000
 --   milliseconds r ts     the same, divided by the rate r and rounded down
---   span_tests r ts        the tests of a span in their order: 1, 3, 4
---   span_answer f z        the answer by the refusal f, or the milliseconds z
+--   span_tests r ts       the tests of a span in their order: 1, 3, 4
+--   span_answer f z       the answer by the refusal f, or the milliseconds z
 --   spanned r ts          the whole answer
 use Rattle.std.specs.Prelude.{not, cond, List, [], ◌∷◌, ℕ, ◌-◌, ltb, ℤ, pos, ◌-ℤ◌, ◌*ℤ◌, length, get_or}
 use Rattle.std.specs.Int.Signed.{shr_z}

@@ -1,6 +1,6 @@
 -- Document 01, "Bytes to compare", the listing, with the side of document 02, No. 2: what the lines of several programs share. Single spaces; each
 -- line ends in one newline.
---   newline, space, ratio_word .. at_word   fixed parts of a line
+--   newline, space, ratio_word .. at_word  fixed parts of a line
 --   refused_line n p                       `refused 10 at 0`: a refusal's number and place
 use Rattle.std.specs.Prelude.{List, [], ◌∷◌, ◌++◌, ℕ}
 use Rattle.text.specs.Numbers.{decimal}

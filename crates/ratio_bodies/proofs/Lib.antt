@@ -2,4 +2,4 @@ pub mod Marks
 pub mod Taking
 pub mod Indexes
 pub mod Sliding
-pub mod Turns
+pub mod PutRatios

@@ -8,7 +8,7 @@ use lib.ListN.{length, drop, replicate, length-replicate}
 use Rattle.ratio_search.specs.BytePlanes.{cells}
 use Rattle.ratio_search.proofs.BytePlanes.{kept_start}
 use Rattle.ratio_bodies.proofs.Indexes.{nearly_start}
-use Rattle.ratio_bodies.proofs.Turns.{Writing, part, writing_start, writing_full, writing_on, writing_more}
+use Rattle.ratio_bodies.proofs.PutRatios.{Writing, part, writing_start, writing_full, writing_on, writing_more}
 use Rattle.ratio_bodies.proofs.repeats.Repeated.{repeats_coded, repeats_nearly}
 use Rattle.ratio_bodies.proofs.put_ratios.Goals as goal
 

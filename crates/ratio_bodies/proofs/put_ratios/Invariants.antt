@@ -4,7 +4,7 @@ use Prim.Native.Nat.{◌-◌, ◌≤◌}
 use lib.ListN.{length}
 use Rattle.ratio_search.specs.BytePlanes.{Kept}
 use Rattle.ratio_bodies.specs.Indexes.{NearlyIndexed}
-use Rattle.ratio_bodies.proofs.Turns.{Writing}
+use Rattle.ratio_bodies.proofs.PutRatios.{Writing}
 use Rattle.ratio_bodies.proofs.put_ratios.Given as goal
 
 abbrev pub invariant-loop-i : goal.invariant-loop-i

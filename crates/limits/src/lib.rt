@@ -34,6 +34,7 @@ pub fn is_rate(rate: u32) -> bool
 }
 
 // Whether a number is a side that a record stores.
+#[tactic(auto, unfolding(crate::specs::Sides::is_side))]
 pub fn is_side(side: u32) -> bool
     ensures { result ≡ is_side side }
 {
@@ -41,6 +42,7 @@ pub fn is_side(side: u32) -> bool
 }
 
 // The index of the first position above the largest, or their number where there is none.
+#[tactic(auto, using(crate::proofs::Points::first_here))]
 pub fn first_high(positions: &[u64]) -> usize
     ensures { result ≡ first_high positions.now }
 {

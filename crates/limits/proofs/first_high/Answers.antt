@@ -7,12 +7,6 @@ use Rattle.limits.specs.Points.{max_position, too_high}
 use Rattle.lists.proofs.Lists.{first_le, first_next, first_found}
 use Rattle.limits.proofs.first_high.Goals as goal
 
-pub returns-then-positions-i-gt-MAX_POSITION : goal.returns-then-positions-i-gt-MAX_POSITION
-returns-then-positions-i-gt-MAX_POSITION c =
-    let ts = c.args.positions.now in
-    let l = c.loop-i in
-    sym (first_found too_high 0 ts l.i c.loop-i-test.true l.invariant (lt-ltb max_position (get_or ts l.i 0) c.if-positions-i-gt-MAX_POSITION.true))
-
 pub loop-i-preserved : goal.loop-i-preserved
 loop-i-preserved c =
     let ts = c.args.positions.now in

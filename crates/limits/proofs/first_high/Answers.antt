@@ -1,10 +1,9 @@
 -- `first_high` meets its contract: the goals that the check leaves.
-use mathlib.Core.Path.{sym}
 use native.Mathlib.Omega.{arith}
-use borrow.Author.Tests.{lt-ltb, le-ltb}
+use borrow.Author.Tests.{le-ltb}
 use lib.ListN.{get_or}
 use Rattle.limits.specs.Points.{max_position, too_high}
-use Rattle.lists.proofs.Lists.{first_le, first_next, first_found}
+use Rattle.lists.proofs.Lists.{first_le, first_next}
 use Rattle.limits.proofs.first_high.Goals as goal
 
 pub loop-i-preserved : goal.loop-i-preserved

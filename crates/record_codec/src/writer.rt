@@ -68,6 +68,7 @@ fn check_steps(form: Form, positions: &[u64]) -> Refusal
 }
 
 // The refusal of a run by tests 1, 21 and 2 to 5, in this order, each over the whole run.
+#[tactic(auto, using(crate::proofs::writer::CheckRun::side_refused))]
 fn check_run(rate: u32, side: u32, form: Form, positions: &[u64], ratios: &[u64]) -> Refusal
     ensures { result ≡ first_of (run_tests (run rate side form positions.now ratios.now)) }
 {

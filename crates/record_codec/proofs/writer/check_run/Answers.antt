@@ -2,12 +2,13 @@
 use mathlib.Core.Bool.{true}
 use mathlib.Core.Path.{◌≡◌, sym, ◌∙◌, subst}
 use Prim.Native.Nat.{ℕ, ◌≤◌, ◌<◌}
+use native.Mathlib.Omega.{arith}
 use lib.ListN.{length}
 use Rattle.limits.specs.Points.{first_high}
 use Rattle.limits.specs.Rates.{is_rate}
 use Rattle.position_format.specs.Tables.{points_of}
 use Rattle.record_format.specs.Runs.{run}
-use Rattle.record_format.proofs.Writing.{run_unlisted, run_side, run_unpaired, run_many, run_high, run-steps}
+use Rattle.record_format.proofs.Writing.{run_unlisted, run_unpaired, run_many, run_high, run-steps}
 use Rattle.record_codec.proofs.writer.check_run.Goals as goal
 
 pub returns-then-not-is_rate : goal.returns-then-not-is_rate
@@ -15,17 +16,11 @@ returns-then-not-is_rate c =
     let given_run = run c.args.rate c.args.side c.args.form c.args.positions.now c.args.ratios.now in
     run_unlisted given_run (sym c.is_rate.ensures ∙ c.if-not-is_rate.true)
 
-pub returns-then-side-gt-MAX_SIDE : goal.returns-then-side-gt-MAX_SIDE
-returns-then-side-gt-MAX_SIDE c =
-    let given_run = run c.args.rate c.args.side c.args.form c.args.positions.now c.args.ratios.now in
-    let listed : is_rate c.args.rate ≡ true = sym c.is_rate.ensures ∙ c.if-not-is_rate.false in
-    run_side given_run listed c.if-side-gt-MAX_SIDE.true
-
 pub returns-then-ratios-positions : goal.returns-then-ratios-positions
 returns-then-ratios-positions c =
     let given_run = run c.args.rate c.args.side c.args.form c.args.positions.now c.args.ratios.now in
     let listed : is_rate c.args.rate ≡ true = sym c.is_rate.ensures ∙ c.if-not-is_rate.false in
-    run_unpaired given_run listed c.if-side-gt-MAX_SIDE.false c.if-ratios-positions.true
+    run_unpaired given_run listed (omega arith) c.if-ratios-positions.true
 
 pub returns-then-points_of-positions : goal.returns-then-points_of-positions
 returns-then-points_of-positions c =
@@ -33,7 +28,7 @@ returns-then-points_of-positions c =
     let listed : is_rate c.args.rate ≡ true = sym c.is_rate.ensures ∙ c.if-not-is_rate.false in
     let paired_run = given_run in
     let r = paired_run in
-    run_many r listed c.if-side-gt-MAX_SIDE.false c.if-ratios-positions.false (subst (λ (m : ℕ). m < length r.positions) c.points_of.ensures c.if-points_of-positions.true)
+    run_many r listed (omega arith) c.if-ratios-positions.false (subst (λ (m : ℕ). m < length r.positions) c.points_of.ensures c.if-points_of-positions.true)
 
 pub returns-then-high-positions : goal.returns-then-high-positions
 returns-then-high-positions c =
@@ -43,7 +38,7 @@ returns-then-high-positions c =
     let few : let r = paired_run in length r.positions ≤ points_of r.form = let r = paired_run in subst (λ (n : ℕ). length r.positions ≤ n) c.points_of.ensures c.if-points_of-positions.false in
     let r = paired_run in
     rw c.first_high-high.ensures
-    (run_high r listed c.if-side-gt-MAX_SIDE.false c.if-ratios-positions.false few (subst (λ (n : ℕ). n < length r.positions) c.first_high-high.ensures c.if-high-positions.true))
+    (run_high r listed (omega arith) c.if-ratios-positions.false few (subst (λ (n : ℕ). n < length r.positions) c.first_high-high.ensures c.if-high-positions.true))
 
 pub returns : goal.returns
 returns c =
@@ -54,4 +49,4 @@ returns c =
     let none_high : let ts = paired_run.positions in length ts ≤ first_high ts = let ts = paired_run.positions in
     subst (λ (n : ℕ). length ts ≤ n) c.first_high-high.ensures c.if-high-positions.false in
     let r = paired_run in
-    run-steps r listed c.if-side-gt-MAX_SIDE.false c.if-ratios-positions.false few none_high c.check_steps.result c.check_steps.ensures
+    run-steps r listed (omega arith) c.if-ratios-positions.false few none_high c.check_steps.result c.check_steps.ensures

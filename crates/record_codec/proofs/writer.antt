@@ -1,0 +1,2 @@
+-- Laws of how the functions of `writer` go.
+pub mod CheckRun

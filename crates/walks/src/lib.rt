@@ -1,2 +1,3 @@
-// Proofs by hand of functions that the borrow checker does not cover: rules for what each such walk begins and ends with. It has no function.
+// Rules for proofs by hand of functions that the borrow checker does not cover: what each such walk begins and ends with. It has no function, and no
+// crate rests on it.
 #![tactic(auto)]

@@ -52,7 +52,7 @@ pub fn get_ahead(s: &[u8], at: usize) -> u64
 }
 
 // Bits on their way into an output: whole bytes stand before `at`, and `held` has the `width` bits after them.
-#[derive(Drop)]
+#[derive(Clone, Copy)]
 pub struct Sink {
     pub at: usize,
     pub held: u64,

@@ -25,7 +25,7 @@ fn output_room() -> [u8; TEXT]
 }
 
 // A word of up to 10 bytes: the first `length` of these.
-#[derive(Drop)]
+#[derive(Clone, Copy)]
 pub struct Label {
     pub bytes: [u8; 10],
     pub length: usize,

@@ -37,7 +37,7 @@ pub enum Difference {
 }
 
 // Two values that are not the same, or else nothing.
-#[derive(Drop)]
+#[derive(Clone, Copy)]
 pub enum Values {
     Nothing,
     Other(u64, u64),
@@ -60,7 +60,7 @@ pub struct OverallDifferences {
 // many points only the longer run has, 0 nothing; the index; the first record's value and the second's, or for 7 the number of points; of ratios
 // both kinds.
 #[repr(C)]
-#[derive(Drop)]
+#[derive(Clone, Copy)]
 pub struct DifferenceAnswer {
     pub what: u32,
     pub index: u64,
@@ -73,7 +73,7 @@ pub struct DifferenceAnswer {
 // The differences that are of no index (rate, side, count, form, and how many points only the longer run has), or the refusal: its number, its
 // place, and which record it was, 1 or 2.
 #[repr(C)]
-#[derive(Drop)]
+#[derive(Clone, Copy)]
 pub struct OverallAnswer {
     pub number: u32,
     pub place: u32,

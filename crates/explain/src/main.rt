@@ -26,7 +26,7 @@ const ARGUMENT: usize = 131072;
 const TEXT: usize = 206;
 
 // The bytes of a ratio: how many stand before them in the body, and how many they are.
-#[derive(Drop)]
+#[derive(Clone, Copy)]
 pub struct RatioExtent {
     pub before: usize,
     pub cost: usize,

@@ -15,7 +15,7 @@ pub enum Kind {
 
 // A kind in numbers, for C: 0 for a number with its value, 1 for an infinity with whether it is negative, 2 for a not-a-number with its bits.
 #[repr(C)]
-#[derive(Drop)]
+#[derive(Clone, Copy)]
 pub struct KindAnswer {
     pub kind: u32,
     pub negative: u32,

@@ -13,7 +13,7 @@ use ratio_codec::encode;
 use ratio_format::{AddAnswer, Live, Window, push_cells};
 
 // The answer of an addition and the state after it.
-#[derive(Drop)]
+#[derive(Clone, Copy)]
 pub struct Addition {
     pub answer: AddAnswer,
     pub state: Live,
@@ -68,7 +68,7 @@ fn refuse(number: u32, state: Live, out: &mut [u8]) -> Addition
 }
 
 // The answer of an addition, and the numbers of the state after it.
-#[derive(Drop)]
+#[derive(Clone, Copy)]
 struct AfterAdding {
     answer: AddAnswer,
     fill: u64,

@@ -8,7 +8,7 @@ use ratio_format::{Cursor, StepAnswer, Window};
 use refusals::Refusal;
 
 // The coded ratios, the offset of the next form, the count, the number of ratios given and the window.
-#[derive(Drop)]
+#[derive(Clone, Copy)]
 pub struct Reader<'a> {
     pub body: &'a [u8],
     pub place: u64,
@@ -18,7 +18,7 @@ pub struct Reader<'a> {
 }
 
 // The answer of making a reader, and the reader.
-#[derive(Drop)]
+#[derive(Clone, Copy)]
 pub struct Making<'a> {
     pub number: u32,
     pub place: u32,
@@ -72,7 +72,7 @@ pub fn next<'s, 'a>(r: &'s mut Reader<'a>) -> StepAnswer
 }
 
 // The answers of making a reader and of its first two steps.
-#[derive(Drop)]
+#[derive(Clone, Copy)]
 pub struct Two {
     pub made: Refusal,
     pub first: StepAnswer,

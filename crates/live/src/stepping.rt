@@ -12,7 +12,7 @@ use refusals::Refusal;
 
 // What making a reader answers, and the state that the reader starts with.
 #[repr(C)]
-#[derive(Drop)]
+#[derive(Clone, Copy)]
 pub struct Begun {
     pub refusal: Refusal,
     pub cursor: Cursor,
@@ -20,7 +20,7 @@ pub struct Begun {
 
 // The answer of a step and the state after it.
 #[repr(C)]
-#[derive(Drop)]
+#[derive(Clone, Copy)]
 pub struct Step {
     pub answer: StepAnswer,
     pub cursor: Cursor,
@@ -85,7 +85,7 @@ fn bad_state(body: &[u8], place: u64, count: u64, seen: u64, fill: u64) -> bool
 }
 
 // What a step finds: the number of the refusal, or 0 with the ratio and how many bytes it takes.
-#[derive(Drop)]
+#[derive(Clone, Copy)]
 struct Found {
     number: u32,
     ratio: u64,

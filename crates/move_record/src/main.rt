@@ -45,7 +45,7 @@ const LINE: usize = 53;
 const ARGUMENTS: usize = 4;
 
 // What the first argument names: a form, or none.
-#[derive(Drop)]
+#[derive(Clone, Copy)]
 pub enum Word {
     To(Form),
     Other,
@@ -53,7 +53,7 @@ pub enum Word {
 
 // What the program is to do: the stream that the line goes to, whether a file is to be made, how many bytes of the output are to be saved in it, and
 // how many bytes the line has.
-#[derive(Drop)]
+#[derive(Clone, Copy)]
 pub struct Outcome {
     pub stream: i32,
     pub moved: bool,

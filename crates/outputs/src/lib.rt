@@ -5,7 +5,7 @@ ghost use Rattle.std.specs.Prelude.{◌≡◌};
 ghost use Rattle.outputs.specs.Outputs.{zeros, Placed, Left, both_wrote, BothFit, Next};
 
 // What an internal writer did: the number of bytes that it wrote, or that there is no room for them.
-#[derive(Drop)]
+#[derive(Clone, Copy)]
 pub enum Wrote {
     Done(usize),
     NoRoom,

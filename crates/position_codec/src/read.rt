@@ -19,14 +19,14 @@ use position_format::Form;
 const MAX_BYTES: usize = 35327;
 
 // The position at which a step leads.
-#[derive(Drop)]
+#[derive(Clone, Copy)]
 pub enum GotPosition {
     At(u64),
     Nothing,
 }
 
 // The position whose bits stand at the front of bits, and how many they are.
-#[derive(Drop)]
+#[derive(Clone, Copy)]
 pub enum GotPoint {
     Point(u64, usize),
     Nothing,

@@ -20,7 +20,7 @@ use outputs::Wrote;
 use position_format::Form;
 
 // What recoding did: the index of the first point whose step the table does not hold, or what it wrote.
-#[derive(Drop)]
+#[derive(Clone, Copy)]
 pub enum Recoded {
     Outside(usize),
     Put(Wrote),

@@ -43,14 +43,14 @@ const LENS_BY: u64 = 0x24100c0c09090909;
 const WIDE_LENS_BY: u64 = 0x25100c0c09090909;
 
 // The prefixes of a table's rows as words: their values, and how many bits each has.
-#[derive(Drop)]
+#[derive(Clone, Copy)]
 pub struct Prefixes {
     pub values: u64,
     pub lens: u64,
 }
 
 // A code: the `size` bits of the prefix, and then the `width` bits of `rest`.
-#[derive(Drop)]
+#[derive(Clone, Copy)]
 pub struct Code {
     pub size: usize,
     pub prefix: u64,
@@ -59,14 +59,14 @@ pub struct Code {
 }
 
 // Where a code begins: its row, and how many bits it has.
-#[derive(Drop)]
+#[derive(Clone, Copy)]
 pub struct Lead {
     pub row: usize,
     pub len: usize,
 }
 
 // The step whose code stands at the front of bits, and how many bits that has.
-#[derive(Drop)]
+#[derive(Clone, Copy)]
 pub enum GotStep {
     Step(i64, usize),
     Nothing,

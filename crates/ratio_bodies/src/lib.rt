@@ -93,7 +93,7 @@ pub fn put_ratios(ratios: &[u64], out: &mut [u8]) -> Wrote
 }
 
 // What a reader of a body took from its front: how many ratios, and how many bytes they used.
-#[derive(Drop)]
+#[derive(Clone, Copy)]
 pub struct Took {
     pub count: usize,
     pub used: usize,

@@ -13,7 +13,7 @@ use ratio_format::Read;
 use ratio_search::{CELLS, SLOTS};
 
 // How far strict reading has come: how many ratios stand in the array, the offset in the body, and up to which ratio the planes go.
-#[derive(Drop)]
+#[derive(Clone, Copy)]
 pub struct Stretch {
     pub count: usize,
     pub at: usize,

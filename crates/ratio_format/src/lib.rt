@@ -7,7 +7,7 @@ ghost use Rattle.ratio_format.specs.Lives.{fresh_live};
 
 // How one ratio is written: a place of the window; the xor with the ratio at a place, by its trailing zero bytes, the middle's length
 // and the middle as a number; or the ratio itself.
-#[derive(Drop)]
+#[derive(Clone, Copy)]
 pub enum RatioForm {
     Reference(usize),
     Xor {
@@ -20,7 +20,7 @@ pub enum RatioForm {
 }
 
 // What reading one ratio finds: the ratio and the number of bytes it takes, or no ratio.
-#[derive(Drop)]
+#[derive(Clone, Copy)]
 pub enum Read {
     Ratio(u64, usize),
     Nothing,
@@ -104,7 +104,7 @@ impl Live {
 
 // The answer of a live addition: number and place of the refusal, or 0 and 0 with the number of bytes written.
 #[repr(C)]
-#[derive(Drop)]
+#[derive(Clone, Copy)]
 pub struct AddAnswer {
     pub number: u32,
     pub place: u32,
@@ -113,7 +113,7 @@ pub struct AddAnswer {
 
 // What a reader keeps beside its body: the offset of the next form, the count, the number of ratios given and the window.
 #[repr(C)]
-#[derive(Drop)]
+#[derive(Clone, Copy)]
 pub struct Cursor {
     pub place: u64,
     pub count: u64,
@@ -123,7 +123,7 @@ pub struct Cursor {
 
 // The answer of a step: number and place of the refusal, or 0 and 0 with the ratio.
 #[repr(C)]
-#[derive(Drop)]
+#[derive(Clone, Copy)]
 pub struct StepAnswer {
     pub number: u32,
     pub place: u32,

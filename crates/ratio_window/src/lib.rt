@@ -9,7 +9,7 @@ ghost use Rattle.ratio_format.specs.Zeros.{lead_zeros, trail_zeros, sum_of};
 use ratio_format::Window;
 
 // A place of the window and the sum there.
-#[derive(Drop)]
+#[derive(Clone, Copy)]
 pub struct Best {
     pub place: usize,
     pub sum: usize,

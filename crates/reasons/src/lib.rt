@@ -12,7 +12,7 @@ use ratio_window::{EQUAL_SUM, lead_zeros, trail_zeros, window_start};
 
 // A reference to the place of an equal ratio; the xor with the ratio at a place, by its leading and trailing zero bytes; an exception with
 // the best sum found, or because the window is empty; or the number and the place of a refusal.
-#[derive(Drop)]
+#[derive(Clone, Copy)]
 pub enum Reason {
     Reference(usize),
     Xor {
@@ -28,7 +28,7 @@ pub enum Reason {
 // A reason in numbers, for C: 1, equal to the ratio at a place; 2, the xor with the ratio at a place, with its zero bytes and their sum; 3, an
 // exception with the best sum found; 4, an exception since the window is empty; 0, a refusal.
 #[repr(C)]
-#[derive(Drop)]
+#[derive(Clone, Copy)]
 pub struct ExplainAnswer {
     pub number: u32,
     pub place: u32,

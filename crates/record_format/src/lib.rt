@@ -3,7 +3,7 @@
 
 // The answer of writing: number and place of the refusal, or 0 and 0 with the record's length.
 #[repr(C)]
-#[derive(Drop)]
+#[derive(Clone, Copy)]
 pub struct WriteAnswer {
     pub number: u32,
     pub place: u32,
@@ -26,7 +26,7 @@ pub struct CheckAnswer {
 
 // The answer of a fetch: number and place of the refusal, or 0 and 0 with the count of points.
 #[repr(C)]
-#[derive(Drop)]
+#[derive(Clone, Copy)]
 pub struct FetchAnswer {
     pub number: u32,
     pub place: u32,
@@ -36,7 +36,7 @@ pub struct FetchAnswer {
 // The answer of open reading: number and place of the refusal, or 0 and 0 with the rate, the side (0 for none), the count of points, the tag of
 // their form (3 or 5) and the bytes used.
 #[repr(C)]
-#[derive(Drop)]
+#[derive(Clone, Copy)]
 pub struct ReadAnswer {
     pub number: u32,
     pub place: u32,

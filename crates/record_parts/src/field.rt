@@ -14,14 +14,14 @@ pub(crate) const TAG_SIZE: usize = 1;
 pub(crate) const LENGTH_SIZE: usize = HEAD_SIZE - TAG_SIZE;
 
 // The length that a field must state.
-#[derive(Drop)]
+#[derive(Clone, Copy)]
 pub enum Length {
     Any,
     Exactly(usize),
 }
 
 // A field: its refusal, or where its body starts and ends.
-#[derive(Drop)]
+#[derive(Clone, Copy)]
 pub struct FieldBody {
     pub refusal: Refusal,
     pub from: usize,

@@ -12,7 +12,7 @@ use record_format::{COUNT_SIZE, COUNT_TAG, RATE_AT, RATE_SIZE, RATE_TAG, SIDE_SI
 use refusals::Refusal;
 
 // A field that holds a number: its refusal, or the number and the offset past it.
-#[derive(Drop)]
+#[derive(Clone, Copy)]
 pub struct Number {
     pub refusal: Refusal,
     pub value: u64,
@@ -20,7 +20,7 @@ pub struct Number {
 }
 
 // Rate, side and count: their refusal, or all three, the offset of the count's field, and the offset past it.
-#[derive(Drop)]
+#[derive(Clone, Copy)]
 pub struct Front {
     pub refusal: Refusal,
     pub rate: u32,

@@ -7,7 +7,7 @@ use position_format::Form;
 use refusals::Refusal;
 
 // Positions and ratios: their refusal, or the form of the positions, the offset of the ratios' field, and the offset past it.
-#[derive(Drop)]
+#[derive(Clone, Copy)]
 pub struct Points {
     pub refusal: Refusal,
     pub form: Form,

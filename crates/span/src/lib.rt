@@ -6,7 +6,7 @@ ghost use Rattle.span.specs.Spans.{rounded_down, spanned};
 
 // Number and place of the refusal, or 0 and 0 with the milliseconds.
 #[repr(C)]
-#[derive(Drop)]
+#[derive(Clone, Copy)]
 pub struct SpanAnswer {
     pub number: u32,
     pub place: u32,

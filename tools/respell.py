@@ -1,7 +1,7 @@
 #!/usr/bin/env python3
 """Writes the definitions and lemmas of this repository in today's spelling: snake case, and a dash only between two names.
 
-usage: respell.py [FILE..]     at the top of the repository, once, after /opt/rattle/port/port.py
+usage: respell.py [FILE..]     at the top of the repository, once, after the kit's port.py
 
 The names stand in respell.tsv beside this file: the old one, the new one, and the word 'field' where a record has a field of the name.
 It rewrites the .antt and .rt files below crates/, or the files that are given. In .rt it turns names with capitals alone, since a dash is a

@@ -19,13 +19,6 @@ pub enum RatioForm {
     Exception,
 }
 
-// What reading one ratio finds: the ratio and the number of bytes it takes, or no ratio.
-#[derive(Clone, Copy)]
-pub enum Read {
-    Ratio(u64, usize),
-    Nothing,
-}
-
 // The preceding ratios, oldest first, and how many of the cells are filled.
 #[repr(C)]
 #[derive(Clone, Copy)]

@@ -56,11 +56,7 @@ fn shift(cells: &mut [u64], v: u64)
     requires { length cells.old ≡ window_size }
     ensures { cells.new ≡ drop 1 cells.old ++ (v ∷ []) }
 {
-    let mut i: usize = 0;
-    while i < Window::SIZE - 1 {
-        cells[i] = cells[i + 1];
-        i += 1;
-    }
+    cells.copy_within(1.., 0);
     cells[Window::SIZE - 1] = v;
 }
 

@@ -13,6 +13,7 @@ use lib.ListN.{length, get_or, take, drop, length-append, length-drop}
 use lib.Dec.{lit<, leb, ltb}
 use lib.Seq.{take_at, length-take-le}
 use borrow.Author.Tests.{lt-ltb, le-ltb, le-leb, lt-leb, ltb-true, leb-true}
+use Rattle.std.specs.Bool.{then_some}
 use Rattle.std.proofs.lemmas.Option.{some_pair_parts}
 use Rattle.lists.specs.Compare.{begins}
 use Rattle.lists.specs.Below.{Below}
@@ -100,13 +101,14 @@ module _ (w s : List ℕ) (r : Read) (o : r ≡ open_one w s) where
   unfolding strict_one
   strict_nothing e = ap (strict_of w s) (sym e ∙ o)
 
-  pub strict_good : (v n : ℕ) (t : Bool) → r ≡ Ratio v n → t ≡ begins (coded v w) s → t ≡ true → Ratio v n ≡ strict_one w s
+  -- of a ratio read openly the test of its bytes decides
+  pub strict_if : (v n : ℕ) (t : Bool) → r ≡ Ratio v n → t ≡ begins (coded v w) s → then_some t (v, n) ≡ strict_one w s
   unfolding strict_one
-  strict_good v n t e b q = ap (λ (x : Bool). cond x (Ratio v n) None) (sym q ∙ b) ∙ ap (strict_of w s) (sym e ∙ o)
-
-  pub strict_other : (v n : ℕ) (t : Bool) → r ≡ Ratio v n → t ≡ begins (coded v w) s → t ≡ false → None ≡ strict_one w s
-  unfolding strict_one
-  strict_other v n t e b q = ap (λ (x : Bool). cond x (Ratio v n) None) (sym q ∙ b) ∙ ap (strict_of w s) (sym e ∙ o)
+  strict_if v n t e b = given t ∙ ap (λ (x : Bool). cond x (Ratio v n) None) b ∙ ap (strict_of w s) (sym e ∙ o)
+    where
+      given : (x : Bool) → then_some x (v, n) ≡ cond x (Ratio v n) None
+      given true = refl
+      given false = refl
 
 -- ---- what is written is read back
 

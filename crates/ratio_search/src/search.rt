@@ -18,16 +18,13 @@ fn pass_blocks(
     v: u64,
     p: Pairs,
 ) -> usize
-    requires { Planes planes.now ratios.now from high × (from ≤ high) }
+    requires { Planes planes.now ratios.now from high × (from ≤ high) × (high ≤ length ratios.now) }
     ensures { (from ≤ result) × (result ≤ high) × Passed v ratios.now p.sum result high }
 {
-    let mut h = high;
-    while from < h {
-        let low = (h - 1) / 16 * 16;
-        if suspect(planes, low % SLOTS, v, p) {
-            return h;
+    for block in (from / 16..high.div_ceil(16)).rev() {
+        if suspect(planes, 16 * block % SLOTS, v, p) {
+            return high.min(16 * block + 16);
         }
-        h = low;
     }
     from
 }
@@ -46,14 +43,7 @@ fn pass_ratios(ratios: &[u64], low: usize, high: usize, v: u64, p: Pairs) -> usi
 }
 
 // The end of the newest ratio from `from` up to `high` that is still to be counted, or `from`.
-fn pass(
-    planes: &[u8; CELLS],
-    ratios: &[u64],
-    from: usize,
-    high: usize,
-    v: u64,
-    p: Pairs,
-) -> usize
+fn pass(planes: &[u8; CELLS], ratios: &[u64], from: usize, high: usize, v: u64, p: Pairs) -> usize
     requires { Planes planes.now ratios.now from high × (from ≤ high) × (high ≤ length ratios.now) }
     ensures { (from ≤ result) × (result ≤ high) × Passed v ratios.now p.sum result high }
 {

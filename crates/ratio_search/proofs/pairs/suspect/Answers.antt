@@ -8,9 +8,9 @@ use Rattle.ratio_search.proofs.pairs.suspect.Goals as goal
 
 pub loop-j-preserved : goal.loop-j-preserved
 loop-j-preserved c = λ e. quiet_more c.args.planes.now
-      (c.args.p.a * slots + c.args.slot) c.byte_of-x.result (c.args.p.b * slots + c.args.slot) c.byte_of-y.result
-      (c.args.p.c * slots + c.args.slot) c.byte_of-z.result (c.args.p.d * slots + c.args.slot) c.byte_of-w.result
-      c.loop-j.any c.loop-j.j c.loop-j.invariant e
+    (c.args.p.a * slots + c.args.slot) c.byte_of-x.result (c.args.p.b * slots + c.args.slot) c.byte_of-y.result
+    (c.args.p.c * slots + c.args.slot) c.byte_of-z.result (c.args.p.d * slots + c.args.slot) c.byte_of-w.result
+    c.loop-j.any c.loop-j.j c.loop-j.invariant e
 
 pub returns : goal.returns
 returns c = λ e t h g.

@@ -8,7 +8,6 @@ ghost use Rattle.bits.specs.Sinks.{Sound, Held, over_word, PlacedBits, Laid};
 ghost use Rattle.outputs.specs.Outputs.{Placed};
 
 use crate::{get_bytes, put_bytes};
-use outputs::Wrote;
 
 // The number of the k bits from the bit offset `at` on, of which eight bytes hold up to 57 wherever they begin.
 fn get_few(s: &[u8], at: usize, k: usize) -> u64
@@ -109,7 +108,7 @@ pub fn lay_both(out: &mut [u8], s: Sink, p: usize, x: u64, k: usize, y: u64) -> 
 }
 
 // The bits that are held come after those that are written, and 0 bits fill the last byte, if there is room.
-pub fn put_last(out: &mut [u8], s: Sink) -> Wrote
+pub fn put_last(out: &mut [u8], s: Sink) -> Option<usize>
     requires { (s.at ≤ 2 ^ 32) × Sound s }
     ensures { (o ds : List ℕ) → Below 256 o → Below 2 ds → Held ds s → PlacedBits ds s.at o out.old
         → Placed (pack ds) result o out.new }
@@ -118,8 +117,8 @@ pub fn put_last(out: &mut [u8], s: Sink) -> Wrote
     let width = s.width;
     let n = (width + 7) / 8;
     if out.len() < at + n {
-        return Wrote::NoRoom;
+        return None;
     }
     put_bytes(out, at, n, s.held << (8 * n - width));
-    Wrote::Done(at + n)
+    Some(at + n)
 }

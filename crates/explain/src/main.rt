@@ -13,7 +13,6 @@ ghost use Rattle.explain.specs.Printed.{body_limit, argument_limit, text_limit, 
 
 use inputs::{input_room, numbers_room, read_input};
 use limits::MAX_POINTS;
-use outputs::Wrote;
 use reasons::Reason;
 
 // As many bytes as the longest body of a run's ratios has.
@@ -100,8 +99,8 @@ fn body_size(ratios: &[u64]) -> usize
     let mut body = body_room();
     let wrote = ratio_bodies::put_ratios(ratios, &mut body);
     match wrote {
-        Wrote::Done(n) => n,
-        Wrote::NoRoom => 0,
+        Some(n) => n,
+        None => 0,
     }
 }
 

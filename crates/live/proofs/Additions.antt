@@ -5,8 +5,7 @@ use Prim.Native.Nat.{ℕ}
 use native.Mathlib.Omega.{arith}
 use lib.ListN.{length, replicate}
 use Rattle.refusals.specs.Tests.{first_of}
-use Rattle.outputs.specs.declared.Wrote.{Wrote}
-use Rattle.outputs.specs.declared.Wrote.TheVariants.{Done, NoRoom}
+use Rattle.std.specs.Prelude.{Option, Some, None}
 use Rattle.outputs.specs.Outputs.{zeros, Placed}
 use Rattle.ratio_format.specs.declared.Live.{Live}
 use Rattle.ratio_format.specs.declared.AddAnswer.{AddAnswer}
@@ -26,14 +25,14 @@ module _ (k : Coder) (s : Live) (v : ℕ) (o : List ℕ) where
       let f = add_refused k s v o n z (add_tested k s v o n e z) in (t.0 ∙ sym f.0, t.1 ∙ sym f.1, t.2 ∙ sym f.2)
 
   -- none does: what the coder did with the output o, which it left as p, decides
-  pub gives-wrote : (first_of (state_tests s)).number ≡ 0 → (w : Wrote) (p : List ℕ) → length p ≡ length o → Placed (add_bytes_by k s v) w o p
+  pub gives-wrote : (first_of (state_tests s)).number ≡ 0 → (w : (Option ℕ)) (p : List ℕ) → length p ≡ length o → Placed (add_bytes_by k s v) w o p
       → (a : AddAnswer) (u : Live) (l : List ℕ) → (a ≡ wrote_answer w) × (u ≡ wrote_state w s v) × (l ≡ wrote_output w p) → Gives a u l
-  gives-wrote z (Done n) p e q a u l t =
+  gives-wrote z (Some n) p e q a u l t =
       let g = add_good k s v o (add_none k s v o z q.1) in (
         t.0 ∙ ap (λ (i : ℕ). record { number = 0; place = 0; length = i }) q.0 ∙ sym g.0,
         t.1 ∙ sym g.1,
         t.2 ∙ q.2 ∙ sym g.2,
       )
-  gives-wrote z NoRoom p e q a u l t =
+  gives-wrote z None p e q a u l t =
       let f = add_refused k s v o 6 (λ n. omega arith) (add_short k s v o z q) in
       (t.0 ∙ sym f.0, t.1 ∙ sym f.1, t.2 ∙ ap (λ (i : ℕ). replicate i 0) e ∙ sym f.2)

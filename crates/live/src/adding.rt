@@ -8,7 +8,6 @@ ghost use Rattle.live.specs.States.{bad_fill, bad_counts, state_number, live_of}
 ghost use Rattle.live.specs.Additions.{wrote_answer, wrote_state, wrote_output};
 
 use limits::MAX_POINTS;
-use outputs::{Wrote, clear_bytes};
 use ratio_codec::encode;
 use ratio_format::{AddAnswer, Live, Window, push_cells};
 
@@ -58,7 +57,7 @@ fn refuse(number: u32, state: Live, out: &mut [u8]) -> Addition
         × (result.state ≡ state)
         × (out.new ≡ zeros out.old) }
 {
-    clear_bytes(out);
+    out.fill(0);
     let answer = AddAnswer {
         number,
         place: 0,
@@ -82,7 +81,7 @@ fn added(
     fill: u64,
     seen: u64,
     ratio: u64,
-    wrote: Wrote,
+    wrote: Option<usize>,
     out: &mut [u8],
 ) -> AfterAdding
     requires { seen < max_points }
@@ -90,8 +89,8 @@ fn added(
         × (live_of ratios.new result.fill result.seen ≡ wrote_state wrote (live_of ratios.old fill seen) ratio)
         × (out.new ≡ wrote_output wrote out.old) }
 {
-    let Wrote::Done(n) = wrote else {
-        clear_bytes(out);
+    let Some(n) = wrote else {
+        out.fill(0);
         let answer = AddAnswer {
             number: 6,
             place: 0,

@@ -10,10 +10,9 @@
 --   both_wrote n w     what two writers wrote: the first n bytes, and the second what w says; BothFit n w: a number of 64 bits holds it
 --   Next bs w v p q    bs were put past the bytes of a writer that said w and left p, which is now q; v says what both wrote
 --   Filled l b o p     the list l was put at the front of o, which is now p; or there is no such list
-use Rattle.std.specs.Prelude.{Bool, true, false, List, ◌++◌, ◌≡◌, ℕ, ◌+◌, ◌^◌, ◌≤◌, ◌<◌, length, take, drop, replicate}
-use Rattle.std.proofs.Math.Option.{Option, none, some}
-use Rattle.outputs.specs.declared.Wrote.{Wrote}
-use Rattle.outputs.specs.declared.Wrote.TheVariants.{Done, NoRoom}
+use Rattle.std.specs.Prelude.{Bool, true, false, List, ◌++◌, ◌≡◌, ℕ, ◌+◌, ◌^◌, ◌≤◌, ◌<◌, length, take, drop, replicate, Option, Some, None}
+use Rattle.std.proofs.Math.Option.{none, some}
+use Rattle.std.proofs.Math.Option as maybe
 
 -- on a refusal a lent output is 0 from end to end
 abbrev pub zeros : List ℕ → List ℕ
@@ -28,28 +27,28 @@ abbrev pub over_at : List ℕ → ℕ → ℕ → List ℕ → List ℕ
 over_at o at n bs = take at o ++ (bs ++ drop (at + n) o)
 
 -- how many bytes were written, or that they do not fit
-abbrev pub Placed : List ℕ → Wrote → List ℕ → List ℕ → Type 0
-Placed bs (Done n) o p = (n ≡ length bs) × (length bs ≤ length o) × (p ≡ over bs o)
-Placed bs NoRoom o p = length o < length bs
+abbrev pub Placed : List ℕ → (Option ℕ) → List ℕ → List ℕ → Type 0
+Placed bs (Some n) o p = (n ≡ length bs) × (length bs ≤ length o) × (p ≡ over bs o)
+Placed bs None o p = length o < length bs
 
 -- where the rest begins
-abbrev pub Left : Wrote → List ℕ → Type 0
-Left w p = (n : ℕ) → w ≡ Done n → n ≤ length p
+abbrev pub Left : (Option ℕ) → List ℕ → Type 0
+Left w p = (n : ℕ) → w ≡ Some n → n ≤ length p
 
 -- no room for one is no room for both
-abbrev pub both_wrote : ℕ → Wrote → Wrote
-both_wrote n (Done m) = Done (n + m)
-both_wrote n NoRoom = NoRoom
+abbrev pub both_wrote : ℕ → (Option ℕ) → (Option ℕ)
+both_wrote n (Some m) = Some (n + m)
+both_wrote n None = None
 
 -- how many bytes both wrote is a number that 64 bits hold
-abbrev pub BothFit : ℕ → Wrote → Type 0
-BothFit n w = (m : ℕ) → w ≡ Done m → n + m < 2 ^ 64
+abbrev pub BothFit : ℕ → (Option ℕ) → Type 0
+BothFit n w = (m : ℕ) → w ≡ Some m → n + m < 2 ^ 64
 
 -- bytes after others, whatever these were
-abbrev pub Next : List ℕ → Wrote → Wrote → List ℕ → List ℕ → Type 0
+abbrev pub Next : List ℕ → (Option ℕ) → (Option ℕ) → List ℕ → List ℕ → Type 0
 Next bs w v p q = (xs o : List ℕ) → Placed xs w o p → Placed (xs ++ bs) v o q
 
 -- whether a list was read
-abbrev pub Filled : Option (List ℕ) → Bool → List ℕ → List ℕ → Type 0
+abbrev pub Filled : maybe.Option (List ℕ) → Bool → List ℕ → List ℕ → Type 0
 Filled none b o p = b ≡ false
 Filled (some l) b o p = (b ≡ true) × (p ≡ over l o)

@@ -1,67 +1,39 @@
-// Outputs that a caller lends: what a call leaves in them.
+// Outputs that a caller lends: what a call leaves in them. What an internal writer did is an Option: the number of bytes that it wrote, or None where
+// there is no room for them.
 #![tactic(auto)]
 
 ghost use Rattle.std.specs.Prelude.{◌≡◌};
-ghost use Rattle.outputs.specs.Outputs.{zeros, Placed, Left, both_wrote, BothFit, Next};
-
-// What an internal writer did: the number of bytes that it wrote, or that there is no room for them.
-#[derive(Clone, Copy)]
-pub enum Wrote {
-    Done(usize),
-    NoRoom,
-}
-
-// Every byte becomes 0.
-pub fn clear_bytes(out: &mut [u8])
-    ensures { out.new ≡ zeros out.old }
-{
-    let mut i = 0;
-    while i < out.len() {
-        out[i] = 0;
-        i += 1;
-    }
-}
-
-// Every number becomes 0.
-pub fn clear_numbers(out: &mut [u64])
-    ensures { out.new ≡ zeros out.old }
-{
-    let mut i = 0;
-    while i < out.len() {
-        out[i] = 0;
-        i += 1;
-    }
-}
+ghost use Rattle.outputs.specs.Outputs.{Placed, Left, both_wrote, BothFit, Next};
 
 // Bytes as they stand, at the front of the output.
-pub fn put_copy(from: &[u8], out: &mut [u8]) -> Wrote
+pub fn put_copy(from: &[u8], out: &mut [u8]) -> Option<usize>
     ensures { Placed from.now result out.old out.new }
 {
     if out.len() < from.len() {
-        return Wrote::NoRoom;
+        return None;
     }
     out[..from.len()].copy_from_slice(from);
-    Wrote::Done(from.len())
+    Some(from.len())
 }
 
 // What two writers wrote, the second in the rest that the first left: n bytes, and then what it says.
-pub fn both_wrote(n: usize, wrote: Wrote) -> Wrote
+pub fn both_wrote(n: usize, wrote: Option<usize>) -> Option<usize>
     requires { BothFit n wrote }
     ensures { result ≡ both_wrote n wrote }
 {
     match wrote {
-        Wrote::Done(m) => Wrote::Done(n + m),
-        Wrote::NoRoom => Wrote::NoRoom,
+        Some(m) => Some(n + m),
+        None => None,
     }
 }
 
 // Bytes as they stand, past those of a writer before.
-pub fn put_copy_next(wrote: Wrote, from: &[u8], out: &mut [u8]) -> Wrote
+pub fn put_copy_next(wrote: Option<usize>, from: &[u8], out: &mut [u8]) -> Option<usize>
     requires { Left wrote out.old }
     ensures { Next from.now wrote result out.old out.new }
 {
-    let Wrote::Done(n) = wrote else {
-        return Wrote::NoRoom;
+    let Some(n) = wrote else {
+        return None;
     };
     both_wrote(n, put_copy(from, &mut out[n..]))
 }

@@ -16,14 +16,13 @@ ghost use Rattle.position_codec.specs.Recoding.{Led, Fore, ThreeShared, RecodedI
 use crate::read::field_ahead;
 use crate::table::{Lead, lead_of, prefixes_of, width_of};
 use bits::{Sink, byte_of};
-use outputs::Wrote;
 use position_format::Form;
 
 // What recoding did: the index of the first point whose step the table does not hold, or what it wrote.
 #[derive(Clone, Copy)]
 pub enum Recoded {
     Outside(usize),
-    Put(Wrote),
+    Put(Option<usize>),
 }
 
 // The k bits of the body from the bit offset `at` on come after those of s.

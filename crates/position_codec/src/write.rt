@@ -11,7 +11,6 @@ ghost use Rattle.position_codec.specs.Codes.{CodablePositions, Point};
 
 use crate::table::{code_of, in_table};
 use bits::Sink;
-use outputs::Wrote;
 use position_format::Form;
 
 // The step at the point t after the points a and b.
@@ -84,7 +83,7 @@ fn put_point(form: Form, positions: &[u64], i: usize, out: &mut [u8], s: Sink) -
 
 // The coding of the positions in a form is written at the front of the output, whose rest stays, if there is room. In the wide form all positions in
 // range have one, in the old form those whose steps the table holds.
-pub fn put_positions(form: Form, positions: &[u64], out: &mut [u8]) -> Wrote
+pub fn put_positions(form: Form, positions: &[u64], out: &mut [u8]) -> Option<usize>
     requires { CodablePositions form positions.now × (length positions.now ≤ max_points) }
     ensures { Placed (coded_positions (table_of form) positions.now) result out.old out.new }
 {

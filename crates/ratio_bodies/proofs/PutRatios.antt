@@ -6,8 +6,7 @@ use native.Mathlib.Omega.{arith}
 use borrow.Rule.Slice.PartMut.{put_mid, same_len_mid}
 use lib.ListN.{length, take, drop, get_or, length-append, length-drop}
 use lib.Seq.{take-length, take_at, drop_at, drop-drop}
-use Rattle.outputs.specs.declared.Wrote.{Wrote}
-use Rattle.outputs.specs.declared.Wrote.TheVariants.{Done, NoRoom}
+use Rattle.std.specs.Prelude.{Option, Some, None}
 use Rattle.outputs.specs.Outputs.{over, Placed}
 use Rattle.ratio_format.specs.Windows.{window_size, window_of}
 use Rattle.ratio_format.specs.RatioForms.{coded}
@@ -32,11 +31,11 @@ pub writing_start : (rs o : List ℕ) → Writing rs o o 0 0
 unfolding coded_from
 writing_start rs o = (omega arith, refl, omega arith, refl, refl)
 
-pub writing_all : (rs o out : List ℕ) (at i : ℕ) → Writing rs o out at i → length rs ≤ i → Placed (coded_ratios rs) (Done at) o out
+pub writing_all : (rs o out : List ℕ) (at i : ℕ) → Writing rs o out at i → length rs ≤ i → Placed (coded_ratios rs) (Some at) o out
 writing_all rs o out at i s h =
     let e : i ≡ length rs = omega arith in
     let t : take i rs ≡ rs = ap (λ (n : ℕ). take n rs) e ∙ take-length rs in
-    subst (λ (l : List ℕ). Placed (coded_ratios l) (Done at) o out) t (s.1, omega arith, s.4)
+    subst (λ (l : List ℕ). Placed (coded_ratios l) (Some at) o out) t (s.1, omega arith, s.4)
 
 module _ (rs o out : List ℕ) (at i : ℕ) (s : Writing rs o out at i) where
   -- the part of the output that is still to be written
@@ -68,12 +67,12 @@ module _ (rs o out : List ℕ) (at i : ℕ) (s : Writing rs o out at i) where
     counted = omega (arith, ap length (coded_more window_size rs i h), length-append (coded_ratios (take i rs)) next)
 
     -- there is no room for them, nor for all
-    pub writing_full : (r : Wrote) (p : List ℕ) → r ≡ NoRoom → Placed next r part p → length o < length (coded_ratios rs)
+    pub writing_full : (r : (Option ℕ)) (p : List ℕ) → r ≡ None → Placed next r part p → length o < length (coded_ratios rs)
     writing_full r p e d =
-        let n : length part < length next = subst (λ (x : Wrote). Placed next x part p) e d in
+        let n : length part < length next = subst (λ (x : (Option ℕ)). Placed next x part p) e d in
         omega (arith, counted, part_length, coded-room window_size [] rs (i + 1))
 
     -- they are written
-    pub writing_more : (r : Wrote) (n : ℕ) (p : List ℕ) → r ≡ Done n → Placed next r part p → length p ≡ length part
+    pub writing_more : (r : (Option ℕ)) (n : ℕ) (p : List ℕ) → r ≡ Some n → Placed next r part p → length p ≡ length part
         → Writing rs o (put_mid at (length out - at) out p) (at + n) (i + 1)
-    writing_more r n p e d k = writing_on next (i + 1) (omega arith) (coded_more window_size rs i h) n p (subst (λ (x : Wrote). Placed next x part p) e d) k
+    writing_more r n p e d k = writing_on next (i + 1) (omega arith) (coded_more window_size rs i h) n p (subst (λ (x : (Option ℕ)). Placed next x part p) e d) k

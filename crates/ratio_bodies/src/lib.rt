@@ -42,7 +42,6 @@ mod through;
 use ahead::open_from;
 use choice::{choose_nth, refresh};
 use index::{KEYS, NONE, place_of};
-use outputs::Wrote;
 use ratio_codec::write::{put_ratio_form, put_reference};
 use ratio_format::Read;
 use ratio_search::CELLS;
@@ -53,7 +52,7 @@ use through::{ROOM, read_through};
 const SHORT: usize = 64;
 
 // Ratio i is coded at the front of the output, against the ratios before it; `place` is its place in the window, if the index knows one.
-fn put_nth(planes: &[u8; CELLS], ratios: &[u64], i: usize, place: usize, out: &mut [u8]) -> Wrote
+fn put_nth(planes: &[u8; CELLS], ratios: &[u64], i: usize, place: usize, out: &mut [u8]) -> Option<usize>
     requires { (i < length ratios.now)
         × (place < window_size → coded (get_or ratios.now i 0) (window_of window_size (take i ratios.now)) ≡ place ∷ [])
         × (window_size ≤ place → 16 ≤ i → Planes planes.now ratios.now (i - window_size) i) }
@@ -68,7 +67,7 @@ fn put_nth(planes: &[u8; CELLS], ratios: &[u64], i: usize, place: usize, out: &m
 }
 
 // The coding of the ratios is put at the front of the output.
-pub fn put_ratios(ratios: &[u64], out: &mut [u8]) -> Wrote
+pub fn put_ratios(ratios: &[u64], out: &mut [u8]) -> Option<usize>
     requires { length ratios.now ≤ max_points }
     ensures { Placed (coded_ratios ratios.now) result out.old out.new }
 {
@@ -81,15 +80,15 @@ pub fn put_ratios(ratios: &[u64], out: &mut [u8]) -> Wrote
         let place = place_of(&mut newest, ratios, i);
         done = refresh(&mut planes, ratios, done, i, place < NONE);
         let r = put_nth(&planes, ratios, i, place, &mut out[at..]);
-        let Wrote::Done(n) = r else {
-            return Wrote::NoRoom;
+        let Some(n) = r else {
+            return None;
         };
         let next = at + n;
         let k = put_repeats(ratios, i + 1, &mut out[next..]);
         at = next + k;
         i = i + 1 + k;
     }
-    Wrote::Done(at)
+    Some(at)
 }
 
 // What a reader of a body took from its front: how many ratios, and how many bytes they used.

@@ -10,7 +10,6 @@ ghost use Rattle.ratio_window.specs.Searched.{Searched};
 use super::search::search;
 use super::{EXCEPTION, XOR};
 use bits::put_bytes;
-use outputs::Wrote;
 use ratio_format::RatioForm;
 use ratio_window::{Best, EQUAL_SUM, trail_zeros};
 
@@ -46,45 +45,45 @@ pub fn choose(window: &[u64], v: u64) -> RatioForm
 }
 
 // The byte of a place.
-pub fn put_reference(out: &mut [u8], place: usize) -> Wrote
+pub fn put_reference(out: &mut [u8], place: usize) -> Option<usize>
     requires { place < window_size }
     ensures { Placed (place ∷ []) result out.old out.new }
 {
     if out.len() < 1 {
-        return Wrote::NoRoom;
+        return None;
     }
     out[0] = place as u8;
-    Wrote::Done(1)
+    Some(1)
 }
 
 // The bytes of an xor form.
-fn put_xor(out: &mut [u8], place: usize, trail: usize, len: usize, middle: u64) -> Wrote
+fn put_xor(out: &mut [u8], place: usize, trail: usize, len: usize, middle: u64) -> Option<usize>
     requires { (place < window_size) × (trail ≤ 8) × (len ≤ 6) }
     ensures { Placed ((place + xor_byte) ∷ (trail * 16 + len) ∷ bytes_of len middle) result out.old out.new }
 {
     if out.len() < len + 2 {
-        return Wrote::NoRoom;
+        return None;
     }
     out[0] = (place + XOR) as u8;
     out[1] = (trail * 16 + len) as u8;
     put_bytes(out, 2, len, middle);
-    Wrote::Done(len + 2)
+    Some(len + 2)
 }
 
 // The bytes of an exception.
-fn put_exception(out: &mut [u8], v: u64) -> Wrote
+fn put_exception(out: &mut [u8], v: u64) -> Option<usize>
     ensures { Placed (exception_byte ∷ bytes_of 8 v) result out.old out.new }
 {
     if out.len() < 9 {
-        return Wrote::NoRoom;
+        return None;
     }
     out[0] = EXCEPTION as u8;
     put_bytes(out, 1, 8, v);
-    Wrote::Done(9)
+    Some(9)
 }
 
 // The bytes of v in the form f, of a window of our size.
-pub fn put_ratio_form(f: RatioForm, v: u64, out: &mut [u8]) -> Wrote
+pub fn put_ratio_form(f: RatioForm, v: u64, out: &mut [u8]) -> Option<usize>
     requires { Fit window_size f }
     ensures { Placed (written v f) result out.old out.new }
 {
@@ -101,7 +100,7 @@ pub fn put_ratio_form(f: RatioForm, v: u64, out: &mut [u8]) -> Wrote
 }
 
 // The bytes of v at the front of the output.
-pub fn encode(window: &[u64], v: u64, out: &mut [u8]) -> Wrote
+pub fn encode(window: &[u64], v: u64, out: &mut [u8]) -> Option<usize>
     requires { length window.now ≤ window_size }
     ensures { Placed (coded v (reverse window.now)) result out.old out.new }
 {

@@ -6,8 +6,7 @@
 use Rattle.std.specs.Prelude.{◌≡◌, false, List, ℕ, ◌+◌, leb, eqb, length}
 use Rattle.lists.specs.Compare.{both}
 use Rattle.refusals.specs.Tests.{refusal, first_of}
-use Rattle.outputs.specs.declared.Wrote.{Wrote}
-use Rattle.outputs.specs.declared.Wrote.TheVariants.{Done, NoRoom}
+use Rattle.std.specs.Prelude.{Option, Some, None}
 use Rattle.position_format.specs.declared.Form.{Form}
 use Rattle.record_format.specs.Fields.{head_size, tag_at}
 use Rattle.record_format.specs.Runs.{positions_tag}
@@ -33,6 +32,6 @@ pub record Opened (f : Form) (s : List ℕ) (g : Front) : Type 0 where
   pub movable : g.refusal.number ≡ 0 → Movable f s g
 
 -- no room, or so many bytes
-abbrev pub ended_move : Wrote → ℕ → List ℕ → Move
-ended_move (Done m) n o = record { answer = record { number = 0; place = 0; length = m; used = n }; output = o }
-ended_move NoRoom n o = refused_move (refusal 6 0) o
+abbrev pub ended_move : (Option ℕ) → ℕ → List ℕ → Move
+ended_move (Some m) n o = record { answer = record { number = 0; place = 0; length = m; used = n }; output = o }
+ended_move None n o = refused_move (refusal 6 0) o

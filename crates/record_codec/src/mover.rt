@@ -11,7 +11,6 @@ ghost use Rattle.record_parts.specs.Leads.{lead_fields, RecodedAs};
 ghost use Rattle.record_codec.specs.Answers.{Moved};
 ghost use Rattle.record_codec.specs.Movable.{Movable, Opened, ended_move};
 
-use outputs::Wrote;
 use position_codec::Recoded;
 use position_format::Form;
 use record_format::{HEAD_SIZE, MoveAnswer};
@@ -25,7 +24,7 @@ use refusals::Refusal;
 fn refuse_move(refusal: Refusal, out: &mut [u8]) -> MoveAnswer
     ensures { Moved (refused_move refusal out.old) result out.new }
 {
-    outputs::clear_bytes(out);
+    out.fill(0);
     MoveAnswer {
         number: refusal.number,
         place: refusal.place,
@@ -59,10 +58,10 @@ fn put_moved(
 }
 
 // The end of a move, by what its writer says: 6, or the length written and the bytes used.
-fn end_move(wrote: Wrote, end: usize, out: &mut [u8]) -> MoveAnswer
+fn end_move(wrote: Option<usize>, end: usize, out: &mut [u8]) -> MoveAnswer
     ensures { Moved (ended_move wrote end out.old) result out.new }
 {
-    let Wrote::Done(n) = wrote else {
+    let Some(n) = wrote else {
         return refuse_move(
             Refusal {
                 number: 6,

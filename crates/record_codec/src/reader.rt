@@ -104,8 +104,8 @@ pub fn check_number(expected: u32, input: &[u8]) -> u32
 fn refuse_read(refusal: Refusal, positions: &mut [u64], ratios: &mut [u64]) -> CheckAnswer
     ensures { Answered (refusal_answer refusal positions.old ratios.old) result positions.new ratios.new }
 {
-    outputs::clear_numbers(positions);
-    outputs::clear_numbers(ratios);
+    positions.fill(0);
+    ratios.fill(0);
     refused_check(refusal)
 }
 

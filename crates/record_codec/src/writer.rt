@@ -7,7 +7,7 @@ ghost use Rattle.refusals.specs.Tests.{first_of};
 ghost use Rattle.record_format.specs.Runs.{run, record_of};
 ghost use Rattle.record_format.specs.Writing.{outside_tests, run_tests, write_answer, write_output};
 
-use outputs::{Wrote, both_wrote};
+use outputs::both_wrote;
 use position_format::Form;
 use record_format::WriteAnswer;
 use record_parts::coding::{Coding, points_of};
@@ -22,12 +22,12 @@ fn put_record(
     positions: &[u64],
     ratios: &[u64],
     out: &mut [u8],
-) -> Wrote
+) -> Option<usize>
     requires { CodablePositions form positions.now × (length positions.now ≤ max_points) × (length ratios.now ≤ max_points) }
     ensures { Placed (record_of (run rate side form positions.now ratios.now)) result out.old out.new }
 {
-    let Wrote::Done(lead_end) = put_lead(rate, side, form, positions, out) else {
-        return Wrote::NoRoom;
+    let Some(lead_end) = put_lead(rate, side, form, positions, out) else {
+        return None;
     };
     both_wrote(
         lead_end,
@@ -110,7 +110,7 @@ fn check_run(rate: u32, side: u32, form: Form, positions: &[u64], ratios: &[u64]
 fn refuse_write(refusal: Refusal, out: &mut [u8]) -> WriteAnswer
     ensures { (result ≡ record { number = refusal.number; place = refusal.place; length = 0 }) × (out.new ≡ zeros out.old) }
 {
-    outputs::clear_bytes(out);
+    out.fill(0);
     WriteAnswer {
         number: refusal.number,
         place: refusal.place,
@@ -136,7 +136,7 @@ pub fn write(
     if number != 0 {
         return refuse_write(refusal, out);
     }
-    let Wrote::Done(n) = put_record(rate, side, form, positions, ratios, out) else {
+    let Some(n) = put_record(rate, side, form, positions, ratios, out) else {
         return refuse_write(
             Refusal {
                 number: 6,

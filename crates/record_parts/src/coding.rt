@@ -13,7 +13,6 @@ ghost use Rattle.record_parts.specs.Fields.{CountFound, ratios_by, tag_of, coded
 
 use super::field::{Length, has_tag, is_head_whole, read_field};
 use limits::{MAX_POINTS, MAX_WIDE_POINTS};
-use outputs::Wrote;
 use position_format::Form;
 use record_format::{OLD_TAG, RATIOS_TAG, WIDE_TAG};
 use refusals::Refusal;
@@ -88,7 +87,7 @@ pub(crate) fn tag_of(coding: Coding) -> u8
 }
 
 // The body of the numbers, at the front of the output.
-pub(crate) fn put_body(coding: Coding, numbers: &[u64], out: &mut [u8]) -> Wrote
+pub(crate) fn put_body(coding: Coding, numbers: &[u64], out: &mut [u8]) -> Option<usize>
     requires { Codable coding numbers.now }
     ensures { Placed (coded_by coding numbers.now) result out.old out.new }
 {

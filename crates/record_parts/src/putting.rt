@@ -15,7 +15,7 @@ ghost use Rattle.record_parts.specs.Leads.{lead_fields, RecodedAs, RecodedNowher
 
 use super::coding::{Coding, form_tag, put_body, tag_of};
 use super::field::{LENGTH_SIZE, TAG_SIZE};
-use outputs::{Wrote, both_wrote};
+use outputs::both_wrote;
 use position_codec::Recoded;
 use position_format::Form;
 use record_format::{COUNT_SIZE, COUNT_TAG, HEAD_SIZE, RATE_SIZE, RATE_TAG, SIDE_SIZE, SIDE_TAG};
@@ -30,47 +30,47 @@ fn put_head(out: &mut [u8], tag: u8, n: usize)
 }
 
 // A field that holds a number in n bytes, at the front of the output.
-fn put_number(out: &mut [u8], tag: u8, n: usize, x: u64) -> Wrote
+fn put_number(out: &mut [u8], tag: u8, n: usize, x: u64) -> Option<usize>
     requires { n ≤ 8 }
     ensures { Placed (laid (field_of tag (bytes_of n x) ∷ [])) result out.old out.new }
 {
     if out.len() < n + HEAD_SIZE {
-        return Wrote::NoRoom;
+        return None;
     }
     put_head(out, tag, n);
     bits::put_bytes(out, HEAD_SIZE, n, x);
-    Wrote::Done(n + HEAD_SIZE)
+    Some(n + HEAD_SIZE)
 }
 
 // A field of coded numbers, at the front of the output: the body past the head, and then the head. It is called from two places, so that it is not made
 // part of a caller, where it would be slower.
-pub fn put_coded(coding: Coding, numbers: &[u64], out: &mut [u8]) -> Wrote
+pub fn put_coded(coding: Coding, numbers: &[u64], out: &mut [u8]) -> Option<usize>
     requires { Codable coding numbers.now }
     ensures { Placed (laid (field_of (tag_of coding) (coded_by coding numbers.now) ∷ [])) result out.old out.new }
 {
     if out.len() < HEAD_SIZE {
-        return Wrote::NoRoom;
+        return None;
     }
-    let Wrote::Done(n) = put_body(coding, numbers, &mut out[HEAD_SIZE..]) else {
-        return Wrote::NoRoom;
+    let Some(n) = put_body(coding, numbers, &mut out[HEAD_SIZE..]) else {
+        return None;
     };
     put_head(out, tag_of(coding), n);
-    Wrote::Done(n + HEAD_SIZE)
+    Some(n + HEAD_SIZE)
 }
 
 // A field that holds a number, past the bytes of a writer before.
-fn put_number_next(wrote: Wrote, out: &mut [u8], tag: u8, n: usize, x: u64) -> Wrote
+fn put_number_next(wrote: Option<usize>, out: &mut [u8], tag: u8, n: usize, x: u64) -> Option<usize>
     requires { Left wrote out.old × (n ≤ 8) }
     ensures { Next (laid (field_of tag (bytes_of n x) ∷ [])) wrote result out.old out.new }
 {
-    let Wrote::Done(at) = wrote else {
-        return Wrote::NoRoom;
+    let Some(at) = wrote else {
+        return None;
     };
     both_wrote(at, put_number(&mut out[at..], tag, n, x))
 }
 
 // The field of a side: nothing for side 0.
-fn put_side_next(wrote: Wrote, side: u32, out: &mut [u8]) -> Wrote
+fn put_side_next(wrote: Option<usize>, side: u32, out: &mut [u8]) -> Option<usize>
     requires { Left wrote out.old }
     ensures { Next (laid (side_fields side)) wrote result out.old out.new }
 {
@@ -81,7 +81,7 @@ fn put_side_next(wrote: Wrote, side: u32, out: &mut [u8]) -> Wrote
 }
 
 // The fields of the rate, of the side and of the count, at the front of the output.
-fn put_front(rate: u32, side: u32, count: usize, out: &mut [u8]) -> Wrote
+fn put_front(rate: u32, side: u32, count: usize, out: &mut [u8]) -> Option<usize>
     ensures { Placed (laid (front_fields rate side count)) result out.old out.new }
 {
     let rate_end = put_number(out, RATE_TAG, RATE_SIZE, rate as u64);
@@ -90,12 +90,12 @@ fn put_front(rate: u32, side: u32, count: usize, out: &mut [u8]) -> Wrote
 }
 
 // The fields of the rate, of the side, of the count and of the positions in a form, at the front of the output: all but the ratios'.
-pub fn put_lead(rate: u32, side: u32, form: Form, positions: &[u64], out: &mut [u8]) -> Wrote
+pub fn put_lead(rate: u32, side: u32, form: Form, positions: &[u64], out: &mut [u8]) -> Option<usize>
     requires { CodablePositions form positions.now × (length positions.now ≤ max_points) }
     ensures { Placed (laid (lead_fields rate side form positions.now)) result out.old out.new }
 {
-    let Wrote::Done(front_end) = put_front(rate, side, positions.len(), out) else {
-        return Wrote::NoRoom;
+    let Some(front_end) = put_front(rate, side, positions.len(), out) else {
+        return None;
     };
     both_wrote(
         front_end,
@@ -111,7 +111,7 @@ fn recode_nowhere(from: Form, to: Form, body: &[u8], count: usize) -> Recoded
     let mut none: [u8; 0] = [0; 0];
     match position_codec::recode_positions(from, to, body, count, &mut none) {
         Recoded::Outside(i) => Recoded::Outside(i),
-        Recoded::Put(_) => Recoded::Put(Wrote::NoRoom),
+        Recoded::Put(_) => Recoded::Put(None),
     }
 }
 
@@ -129,11 +129,11 @@ fn put_recoded(from: Form, to: Form, body: &[u8], count: usize, out: &mut [u8]) 
     let Recoded::Put(wrote) = recoded else {
         return recoded;
     };
-    let Wrote::Done(n) = wrote else {
-        return Recoded::Put(Wrote::NoRoom);
+    let Some(n) = wrote else {
+        return Recoded::Put(None);
     };
     put_head(out, form_tag(to), n);
-    Recoded::Put(Wrote::Done(n + HEAD_SIZE))
+    Recoded::Put(Some(n + HEAD_SIZE))
 }
 
 // The fields of `put_lead`, where the positions are those of a body in the form `from`, and are written in the form `to`.
@@ -151,7 +151,7 @@ pub fn put_recoded_lead(
         (laid (lead_fields rate side to (list_of (read_positions (table_of from) count body.now))))
         result out.old out.new }
 {
-    let Wrote::Done(front_end) = put_front(rate, side, count, out) else {
+    let Some(front_end) = put_front(rate, side, count, out) else {
         return recode_nowhere(from, to, body, count);
     };
     let recoded = put_recoded(from, to, body, count, &mut out[front_end..]);

@@ -23,9 +23,9 @@ returns-in_default c =
 pub loop-i-preserved : goal.loop-i-preserved
 loop-i-preserved c =
     let more : c.loop-i.i < length c.args.ratios.now = c.loop-i-test.true in
-    let next = c.loop-i.at + c.in-Done.n in
+    let next = c.loop-i.at + c.in-Some.n in
     let after = put_mid c.loop-i.at (length c.loop-i.out - c.loop-i.at) c.loop-i.out c.put_nth-r.new.out in
-    let one : Writing c.args.ratios.now c.args.out.now after next (c.loop-i.i + 1) = writing_more c.args.ratios.now c.args.out.now c.loop-i.out c.loop-i.at c.loop-i.i c.loop-i.invariant.0 more c.put_nth-r.result c.in-Done.n c.put_nth-r.new.out c.in-Done.is c.put_nth-r.ensures c.put_nth-r.auto.out in
+    let one : Writing c.args.ratios.now c.args.out.now after next (c.loop-i.i + 1) = writing_more c.args.ratios.now c.args.out.now c.loop-i.out c.loop-i.at c.loop-i.i c.loop-i.invariant.0 more c.put_nth-r.result c.in-Some.n c.put_nth-r.new.out c.in-Some.is c.put_nth-r.ensures c.put_nth-r.auto.out in
     let all : Writing c.args.ratios.now c.args.out.now (put_mid next (length after - next) after c.put_repeats-k.new.out) (next + c.put_repeats-k.result) (c.loop-i.i + 1 + c.put_repeats-k.result) = let zs : List ℕ = replicate c.put_repeats-k.result 0 in
     let z : c.put_repeats-k.result ≡ length zs = sym (length-replicate {A = ℕ} c.put_repeats-k.result 0) in
     writing_on c.args.ratios.now c.args.out.now after next (c.loop-i.i + 1) one zs (c.loop-i.i + 1 + c.put_repeats-k.result) c.put_repeats-k.ensures.0

@@ -10,8 +10,7 @@ use lib.ListN.{length, take, drop, replicate}
 use Rattle.lists.specs.Below.{Below}
 use Rattle.lists.specs.Optional.{missing, list_of}
 use Rattle.limits.specs.Points.{max_points, first_high}
-use Rattle.outputs.specs.declared.Wrote.{Wrote}
-use Rattle.outputs.specs.declared.Wrote.TheVariants.{Done, NoRoom}
+use Rattle.std.specs.Prelude.{Option, Some, None}
 use Rattle.outputs.specs.Outputs.{Placed}
 use Rattle.refusals.specs.declared.Refusal.{Refusal}
 use Rattle.refusals.specs.Tests.{refusal, first_of}
@@ -212,7 +211,7 @@ module _ {f : Form} {s : List ℕ} {h : Front} {g : Points} (i : PointsFound f s
             (ap (refusal 5) outside_is.0 ∙ target_outside f (run_in s).positions low (omega (arith, outside_is.0, outside_is.1))) (λ z. omega arith)
 
       -- or none: the record, or no room for it
-      module _ (few : h.count ≤ points_of f) (w : Wrote) (e : r ≡ Put w) where
+      module _ (few : h.count ≤ points_of f) (w : (Option ℕ)) (e : r ≡ Put w) where
         wrote : CodablePositions f (run_in s).positions × Placed moved w o p
         wrote = recoded_put f (run_in s).positions moved o p r put_record e
 
@@ -222,10 +221,10 @@ module _ {f : Form} {s : List ℕ} {h : Front} {g : Points} (i : PointsFound f s
         pub move_ends : length p ≡ length o → ended_move w g.end p ≡ move_of f s o
         move_ends same = go w refl
           where
-            go : (v : Wrote) → w ≡ v → ended_move v g.end p ≡ move_of f s o
-            go (Done n) is =
+            go : (v : (Option ℕ)) → w ≡ v → ended_move v g.end p ≡ move_of f s o
+            go (Some n) is =
                 let a = wrote_all moved o p w wrote.1 n is in
                 ap₂ (λ (x : MoveAnswer) (l : List ℕ). record { answer = x; output = l })
                 (ap₂ (λ (x y : ℕ). record { number = 0; place = 0; length = x; used = y }) a.0 (i.read.next good)) a.2
                 ∙ move_done f s o clear target_clear a.1
-            go NoRoom is = refused_as (refusal 6 0) o p same ∙ room-refused f s o clear target_clear (short_of moved o p w wrote.1 is)
+            go None is = refused_as (refusal 6 0) o p same ∙ room-refused f s o clear target_clear (short_of moved o p w wrote.1 is)

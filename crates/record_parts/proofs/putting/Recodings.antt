@@ -10,8 +10,7 @@ use borrow.Rule.Slice.PartMut.{put_mid}
 use Rattle.lists.specs.Optional.{missing, list_of}
 use Rattle.bits.specs.Digits.{bytes_of}
 use Rattle.outputs.specs.Outputs.{over, Placed}
-use Rattle.outputs.specs.declared.Wrote.{Wrote}
-use Rattle.outputs.specs.declared.Wrote.TheVariants.{Done, NoRoom}
+use Rattle.std.specs.Prelude.{Option, Some, None}
 use Rattle.position_format.specs.declared.Form.{Form}
 use Rattle.position_format.specs.Tables.{table_of}
 use Rattle.position_format.specs.Positions.{coded_positions, read_positions}
@@ -42,7 +41,7 @@ module _ (f : Form) (ts : List ℕ) where
 
   module _ (bs o p : List ℕ) (r : Recoded) (h : RecodedAs f ts bs r o p) where
     -- what was put
-    pub recoded_put : {w : Wrote} → r ≡ Put w → CodablePositions f ts × Placed bs w o p
+    pub recoded_put : {w : (Option ℕ)} → r ≡ Put w → CodablePositions f ts × Placed bs w o p
     recoded_put {w} e = subst (λ (x : Recoded). RecodedAs f ts bs x o p) e h
 
     -- a step outside the table is told of any bytes, and of any output
@@ -53,7 +52,7 @@ module _ (f : Form) (ts : List ℕ) where
     outside_as e cs q l = subst (λ (x : Recoded). RecodedAs f ts cs x q l) (sym e) (recoded_outside e cs q l)
 
   -- the body past a head, and then the head
-  module _ (o q : List ℕ) (r : Recoded) (w : Wrote) (e : r ≡ Put w) (h : head_size ≤ length o)
+  module _ (o q : List ℕ) (r : Recoded) (w : (Option ℕ)) (e : r ≡ Put w) (h : head_size ≤ length o)
       (put : RecodedInto f ts r (take (length o - head_size) (drop head_size o)) q) where
     abbrev body : List ℕ
     body = coded_positions (table_of f) ts
@@ -61,15 +60,15 @@ module _ (f : Form) (ts : List ℕ) where
     body_put : CodablePositions f ts × Placed body w (take (length o - head_size) (drop head_size o)) q
     body_put = recoded_put body _ q r (recoded_body r _ q put) e
 
-    pub recoded_none : w ≡ NoRoom → CodablePositions f ts × (length o < length (laid (positions_field f ts ∷ [])))
+    pub recoded_none : w ≡ None → CodablePositions f ts × (length o < length (laid (positions_field f ts ∷ [])))
     recoded_none short = (body_put.0, field_none (positions_tag f) body o q w h body_put.1 short)
 
-    module _ (n : ℕ) (done : w ≡ Done n) where
+    module _ (n : ℕ) (done : w ≡ Some n) where
       pub recoded_fits : n + head_size ≤ length o
       recoded_fits = field_fits (positions_tag f) body o q w h body_put.1 n done
 
       pub recoded_done : (l : List ℕ) (t : ℕ) → t ≡ positions_tag f → l ≡ over (t ∷ bytes_of length_size n) (put_mid head_size (length o - head_size) o q)
-          → RecodedAs f ts (laid (positions_field f ts ∷ [])) (Put (Done (n + head_size))) o l
+          → RecodedAs f ts (laid (positions_field f ts ∷ [])) (Put (Some (n + head_size))) o l
       recoded_done l t tagged g = (body_put.0, field_done (positions_tag f) body o q w h body_put.1 n done l t tagged g)
 
   -- no output has room
@@ -77,5 +76,5 @@ module _ (f : Form) (ts : List ℕ) where
     pub nowhere_outside : {i : ℕ} → r ≡ Outside i → RecodedNowhere f ts (Outside i)
     nowhere_outside e bs q l short = recoded_outside _ o p r (recoded_body r o p h) e bs q l
 
-    pub nowhere_put : {w : Wrote} → r ≡ Put w → RecodedNowhere f ts (Put NoRoom)
+    pub nowhere_put : {w : (Option ℕ)} → r ≡ Put w → RecodedNowhere f ts (Put None)
     nowhere_put e bs q l short = ((recoded_put _ o p r (recoded_body r o p h) e).0, short)

@@ -29,4 +29,4 @@ returns c =
     (append_assoc (front_fields c.args.rate c.args.side (length c.args.positions.now))
     (positions_field c.args.form c.args.positions.now ∷ []) ratios_field_lem) in
     let lead-first : FirstLaid lead ratios_field_lem (fields_of given_run) c.put_lead.result c.args.out.now c.put_lead.new.out = record { both = last_then; put = c.put_lead.ensures } in
-    first-laid_done lead-first c.in-Done.is c.put_coded.result c.put_coded.new.out c.put_coded.ensures c.both_wrote.result c.both_wrote.ensures
+    first-laid_done lead-first c.in-Some.is c.put_coded.result c.put_coded.new.out c.put_coded.ensures c.both_wrote.result c.both_wrote.ensures

@@ -45,6 +45,6 @@ returns c =
     let given_run = run c.args.rate c.args.side c.args.form c.args.positions.now c.args.ratios.now in
     let clear : (first_of (run_tests given_run)).number ≡ 0 = sym (ap (λ (f : Refusal). f.number) c.check_run-refusal.ensures) ∙ c.if-number-ne0.false in
     let r = given_run in
-    let g = wrote_all (record_of r) c.args.out.now _ _ c.put_record.ensures _ c.in-Done.is in
+    let g = wrote_all (record_of r) c.args.out.now _ _ c.put_record.ensures _ c.in-Some.is in
     let h = run-written r c.args.out.now clear g.1 in
     (ap answer g.0 ∙ h.0, g.2 ∙ h.1)

@@ -14,4 +14,4 @@ pub returns-in_default : goal.returns-in_default
 returns-in_default c = field_none (tag_of c.args.coding) (coded_by c.args.coding c.args.numbers.now) c.args.out.now _ _ c.if-out-lt-HEAD_SIZE.false c.put_body.ensures c.in_default.is
 
 pub returns : goal.returns
-returns c = field_done (tag_of c.args.coding) (coded_by c.args.coding c.args.numbers.now) c.args.out.now _ _ c.if-out-lt-HEAD_SIZE.false c.put_body.ensures _ c.in-Done.is _ _ c.tag_of.ensures c.put_head.ensures
+returns c = field_done (tag_of c.args.coding) (coded_by c.args.coding c.args.numbers.now) c.args.out.now _ _ c.if-out-lt-HEAD_SIZE.false c.put_body.ensures _ c.in-Some.is _ _ c.tag_of.ensures c.put_head.ensures

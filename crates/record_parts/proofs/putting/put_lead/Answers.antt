@@ -15,4 +15,4 @@ returns-in_default c =
 pub returns : goal.returns
 returns c =
     let front-first : FirstLaid (front_fields c.args.rate c.args.side (length c.args.positions.now)) (positions_field c.args.form c.args.positions.now ∷ []) (lead_fields c.args.rate c.args.side c.args.form c.args.positions.now) c.put_front.result c.args.out.now c.put_front.new.out = record { both = refl; put = c.put_front.ensures } in
-    first-laid_done front-first c.in-Done.is c.put_coded.result c.put_coded.new.out c.put_coded.ensures c.both_wrote.result c.both_wrote.ensures
+    first-laid_done front-first c.in-Some.is c.put_coded.result c.put_coded.new.out c.put_coded.ensures c.both_wrote.result c.both_wrote.ensures

@@ -8,4 +8,4 @@ use Rattle.record_parts.proofs.putting.put_number_next.Goals as goal
 pub returns : goal.returns
 returns c =
     let bytes = laid (field_of c.args.tag (bytes_of c.args.n c.args.x) ∷ []) in
-    next_placed bytes c.args.out.now c.args.wrote _ c.in-Done.is c.put_number.new.out c.put_number.result c.put_number.ensures _ c.both_wrote.ensures
+    next_placed bytes c.args.out.now c.args.wrote _ c.in-Some.is c.put_number.new.out c.put_number.result c.put_number.ensures _ c.both_wrote.ensures

@@ -26,4 +26,4 @@ pub returns : goal.returns
 returns c =
     let points = list_of (read_positions (table_of c.args.from) c.args.count c.args.body.now) in
     recoded_done c.args.to points c.args.out.now c.recode_positions-recoded.new.out c.recode_positions-recoded.result _ c.in-Put.is
-    c.if-out-lt-HEAD_SIZE.false c.recode_positions-recoded.ensures _ c.in-Done.is _ _ c.form_tag.ensures c.put_head.ensures
+    c.if-out-lt-HEAD_SIZE.false c.recode_positions-recoded.ensures _ c.in-Some.is _ _ c.form_tag.ensures c.put_head.ensures

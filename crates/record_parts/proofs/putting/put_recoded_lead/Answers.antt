@@ -33,4 +33,4 @@ returns c =
       put = c.put_front.ensures;
     } in
     let placed = recoded_put c.args.to points (laid field) _ c.put_recoded-recoded.new.out c.put_recoded-recoded.result c.put_recoded-recoded.ensures c.in-Put.is in
-    (placed.0, first-laid_done front-first c.in-Done.is c.in-Put.wrote c.put_recoded-recoded.new.out placed.1 c.both_wrote.result c.both_wrote.ensures)
+    (placed.0, first-laid_done front-first c.in-Some.is c.in-Put.wrote c.put_recoded-recoded.new.out placed.1 c.both_wrote.result c.both_wrote.ensures)

@@ -10,11 +10,10 @@ use lib.ListN.{length, get_or, take, set, length-set}
 use lib.Seq.{get_or-set_same, get_or-set_other}
 use borrow.Author.Tests.{eqb-true, eqb-false, eq-eqb, ne_eqb, ltb-true, ltb-false}
 use Rattle.lists.specs.Compare.{begins}
-use Rattle.ratio_format.specs.declared.Read.TheVariants.{Ratio}
 use Rattle.ratio_format.specs.Windows.{window_size, window_of}
 use Rattle.ratio_format.specs.Choice.{find}
 use Rattle.ratio_format.specs.RatioForms.{coded}
-use Rattle.ratio_format.specs.Open.{open_one, strict_one}
+use Rattle.ratio_format.specs.Open.{Ratio, open_one, strict_one}
 use Rattle.ratio_format.proofs.Windows.{window_few}
 use Rattle.ratio_format.proofs.Choice.{find_first}
 use Rattle.ratio_codec.proofs.read.References.{named_begins, named_good, named_one, named_absent}

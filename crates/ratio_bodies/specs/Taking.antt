@@ -8,13 +8,13 @@
 --   Ready ps ms l s    the planes ps and the marks ms are those of the ratios l, as far as strict reading has come
 use Rattle.std.specs.Prelude.{List, ◌++◌, ◌≡◌, ℕ, ◌+◌, ◌-◌, ◌≤◌, length, take, drop}
 use Rattle.outputs.specs.Outputs.{over}
-use Rattle.ratio_format.specs.declared.Read.{Read}
 use Rattle.ratio_format.specs.Windows.{window_size, window_of}
 use Rattle.ratio_format.specs.Bodies.{Taken, after_taken, taken_from}
 use Rattle.ratio_search.specs.BytePlanes.{Kept}
 use Rattle.ratio_bodies.specs.Marks.{Marks}
 use Rattle.ratio_bodies.specs.declared.Took.{Took}
 use Rattle.ratio_bodies.specs.declared.stretch.Stretch.{Stretch}
+use Rattle.ratio_format.specs.Open.{Read}
 
 -- the answer
 abbrev pub took_of : Taken → Took

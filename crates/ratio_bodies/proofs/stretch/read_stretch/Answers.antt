@@ -1,20 +1,20 @@
 -- `read_stretch` meets its contract: the goals that the check leaves.
+use Rattle.std.specs.Prelude.{None}
 use mathlib.Core.Path.{◌≡◌, refl, sym, ap, ◌∙◌}
 use mathlib.Core.Bool.{true}
 use Prim.Native.Nat.{◌+◌, ◌%◌, ◌≤◌, ◌<◌}
 use native.Mathlib.Omega.{arith}
 use lib.ListN.{length, get_or, take, drop, set, length-set}
 use Rattle.lists.specs.Compare.{begins}
-use Rattle.ratio_format.specs.declared.Read.TheVariants.{Ratio, Nothing}
 use Rattle.ratio_format.specs.Windows.{window_size, window_of}
 use Rattle.ratio_format.specs.RatioForms.{coded}
-use Rattle.ratio_format.specs.Open.{open_one, strict_one}
+use Rattle.ratio_format.specs.Open.{Ratio, open_one, strict_one}
 use Rattle.ratio_format.proofs.Open.{strict_nothing, strict_good, strict_other}
 use Rattle.ratio_format.proofs.Bodies.Taken.{strict_within}
 use Rattle.ratio_format.proofs.Windows.Before.{window_inside}
 use Rattle.ratio_codec.proofs.read.References.{named_one}
 use Rattle.ratio_search.specs.BytePlanes.{slots, Kept}
-use Rattle.ratio_search.proofs.BytePlanes.{kept_set}
+use Rattle.ratio_search.proofs.Kept.{kept_set}
 use Rattle.ratio_bodies.specs.Marks.{slot_of, Marks}
 use Rattle.ratio_bodies.specs.Taking.{Taking}
 use Rattle.ratio_bodies.proofs.ahead.FirstByte.{rest_first, named_at}
@@ -27,7 +27,7 @@ returns-in_default c =
     let w = window_of window_size (take c.loop-i.i c.loop-i.ratios) in
     let rest = drop c.loop-i.at c.args.body.now in
     let more : c.loop-i.i < c.args.to = c.loop-i-test.true in (
-      taking_stop strict_one c.args.to c.args.body.now c.args.ratios.now c.args.from c.args.begun c.loop-i.ratios c.loop-i.at c.loop-i.i c.loop-i.invariant.0 more Nothing
+      taking_stop strict_one c.args.to c.args.body.now c.args.ratios.now c.args.from c.args.begun c.loop-i.ratios c.loop-i.at c.loop-i.i c.loop-i.invariant.0 more None
           (strict_nothing w rest c.open_from-r.result c.open_from-r.ensures c.in_default.is) refl,
       c.loop-i.invariant.0.inside,
       record { planes = c.loop-i.invariant.1; behind = c.loop-i.invariant.2; marks = c.loop-i.invariant.3 },
@@ -38,7 +38,7 @@ returns-then-not-accepts c =
     let w = window_of window_size (take c.loop-i.i c.loop-i.ratios) in
     let rest = drop c.loop-i.at c.args.body.now in
     let more : c.loop-i.i < c.args.to = c.loop-i-test.true in (
-      taking_stop strict_one c.args.to c.args.body.now c.args.ratios.now c.args.from c.args.begun c.loop-i.ratios c.loop-i.at c.loop-i.i c.loop-i.invariant.0 more Nothing
+      taking_stop strict_one c.args.to c.args.body.now c.args.ratios.now c.args.from c.args.begun c.loop-i.ratios c.loop-i.at c.loop-i.i c.loop-i.invariant.0 more None
           (strict_other w rest c.open_from-r.result c.open_from-r.ensures c.in-Ratio.v c.in-Ratio.n c.accepts.result c.in-Ratio.is c.accepts.ensures c.if-not-accepts.true) refl,
       c.loop-i.invariant.0.inside,
       record { planes = c.refresh-done.ensures.0; behind = c.refresh-done.ensures.1; marks = c.loop-i.invariant.3 },

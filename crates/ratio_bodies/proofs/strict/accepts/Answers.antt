@@ -8,7 +8,6 @@ use Rattle.lists.specs.Compare.{begins}
 use Rattle.lists.proofs.Below.{below_of, below_drop}
 use Rattle.outputs.proofs.Outputs.Parts.{rest_is}
 use Rattle.ratio_format.specs.declared.RatioForm.{RatioForm}
-use Rattle.ratio_format.specs.declared.Read.TheVariants.{Ratio}
 use Rattle.ratio_format.specs.Windows.{window_size, window_of}
 use Rattle.ratio_format.specs.Choice.{find}
 use Rattle.ratio_format.proofs.Windows.{window_few}
@@ -20,6 +19,7 @@ use Rattle.ratio_codec.proofs.read.References.{Named, named_one, named_begins}
 use Rattle.ratio_bodies.proofs.ahead.FirstByte.{rest_first, named_at}
 use Rattle.ratio_bodies.proofs.Marks.{mark_decides}
 use Rattle.ratio_bodies.proofs.strict.accepts.Goals as goal
+use Rattle.ratio_format.specs.Open.{Ratio}
 
 pub slot_of-slot-requires : goal.slot_of-slot-requires
 slot_of-slot-requires c =

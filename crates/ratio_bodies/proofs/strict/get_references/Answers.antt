@@ -4,9 +4,8 @@ use mathlib.Core.List.{List}
 use Prim.Native.Nat.{ℕ, ◌+◌, ◌-◌, ◌%◌, ◌≤◌, ◌<◌}
 use native.Mathlib.Omega.{arith}
 use lib.ListN.{length, get_or, take, drop, set, length-drop}
-use Rattle.ratio_format.specs.declared.Read.TheVariants.{Ratio}
 use Rattle.ratio_format.specs.Windows.{window_size, window_of}
-use Rattle.ratio_format.specs.Open.{strict_one}
+use Rattle.ratio_format.specs.Open.{Ratio, strict_one}
 use Rattle.ratio_format.proofs.Bodies.Taken.{strict_within}
 use Rattle.ratio_format.proofs.Windows.Before.{window_has, window_at_lem}
 use Rattle.ratio_search.specs.BytePlanes.{slots}

@@ -45,7 +45,7 @@ loop-q-preserved c =
       | else-sum-s w ↦ searching_as c.args.v c.args.ratios.now c.args.i (c.loop-q.q - 1) c.if-sum-s.at c.loop-q.at c.if-sum-s.trail c.loop-q.trail c.if-sum-s.sum c.loop-q.sum w.at-is w.trail-is w.sum-is
           (searching_loses c.args.v c.args.ratios.now c.args.i c.loop-q.q c.loop-q.at c.loop-q.trail c.loop-q.sum c.loop-q.invariant from (omega (arith, w.if-sum-s.false)))
     ] in
-    searching_pass c.args.v c.args.ratios.now c.args.i (c.loop-q.q - 1) c.if-sum-s.at c.if-sum-s.trail c.if-sum-s.sum counted c.pass-q.result c.pass-q.ensures.1 c.pass-q.ensures.2
+    searching_pass c.args.v c.args.ratios.now c.args.i (c.loop-q.q - 1) c.if-sum-s.at c.if-sum-s.trail c.if-sum-s.sum counted c.pass-q.result c.pass-q.ensures.1 (rw c.pairs_of-p.ensures at c.pass-q.ensures.2)
 
 pub returns : goal.returns
 returns c = searching_all c.args.v c.args.ratios.now c.args.i c.loop-q.q c.loop-q.at c.loop-q.trail c.loop-q.sum c.loop-q.invariant c.requires.1 (omega arith)

@@ -9,6 +9,8 @@ use Prim.Native.Nat.{ℕ, zero, suc, ◌+◌, ◌-◌, ◌≤◌, ◌<◌, min}
 use native.Mathlib.Omega.{arith}
 use borrow.Author.Tests.{eqb-true, eqb-false, ltb-true, ltb-false}
 use lib.Dec.{eqb, ltb}
+use Rattle.std.proofs.lemmas.Option.{some_pair_parts}
+use Rattle.std.proofs.Common.{Option, Some, None, option_map}
 use lib.ListN.{length, get_or}
 use lib.Seq.{ext_get_or}
 use Rattle.kind.specs.Kinds.{kind_of}
@@ -21,9 +23,7 @@ use Rattle.record_format.proofs.Writing.{accepted_fits}
 use Rattle.differences.specs.declared.Property.{Property}
 use Rattle.differences.specs.declared.Property.TheVariants as property
 use Rattle.differences.specs.declared.Difference.{Difference}
-use Rattle.differences.specs.declared.Difference.TheVariants.{Equal, InProperty, Position, Ratio, More}
-use Rattle.differences.specs.declared.Values.{Values}
-use Rattle.differences.specs.declared.Values.TheVariants.{Nothing, Other}
+use Rattle.differences.specs.declared.Difference.TheVariants.{InProperty, Position, Ratio, More}
 use Rattle.differences.specs.Differences.{property_difference, more_difference, values_at, position_by, ratio_by, position_at, ratio_at, listed, points_to, differences}
 use Rattle.lists.specs.Among.{Among}
 use Rattle.lists.proofs.Among.{among_left, among_right, among_either, among_none}
@@ -40,14 +40,15 @@ pub record Unlike (xs ys : List ℕ) (i x y : ℕ) : Type 0 where
   pub other : y ≡ get_or ys i 0
   pub apart : x ≡ y → ⊥
 
-values_unlike : (xs ys : List ℕ) (i x y : ℕ) → values_at xs ys i ≡ Other x y → Unlike xs ys i x y
+values_unlike : (xs ys : List ℕ) (i x y : ℕ) → values_at xs ys i ≡ Some (x, y) → Unlike xs ys i x y
 values_unlike xs ys i x y e = go (ltb i (length xs)) refl (ltb i (length ys)) refl
   where
-    same_or_not : (t : Bool) → eqb (get_or xs i 0) (get_or ys i 0) ≡ t → cond t Nothing (Other (get_or xs i 0) (get_or ys i 0)) ≡ Other x y → i < length xs → i < length ys → Unlike xs ys i x y
+    same_or_not : (t : Bool) → eqb (get_or xs i 0) (get_or ys i 0) ≡ t → cond {A = Option (ℕ × ℕ)} t None (Some (get_or xs i 0, get_or ys i 0)) ≡ Some (x, y) → i < length xs → i < length ys → Unlike xs ys i x y
     same_or_not true w h a b = absurd (let z : ◌≡◌ {A = ℕ} 0 1 = cc in omega arith)
     same_or_not false w h a b =
-        let one : x ≡ get_or xs i 0 = cc in
-        let other : y ≡ get_or ys i 0 = cc in
+        let parts = some_pair_parts (get_or xs i 0) x (get_or ys i 0) y h in
+        let one : x ≡ get_or xs i 0 = sym parts.0 in
+        let other : y ≡ get_or ys i 0 = sym parts.1 in
         record { first = a; second = b; one = one; other = other; apart = λ s. eqb-false _ _ w (sym one ∙ s ∙ other) }
 
     go : (t : Bool) → ltb i (length xs) ≡ t → (u : Bool) → ltb i (length ys) ≡ u → Unlike xs ys i x y
@@ -62,7 +63,7 @@ module _ (r q : Run) (d : Difference) where
   unfolding Among
   from_property p h = go (eqb (value_of p r) (value_of p q)) refl h
     where
-      go : (t : Bool) → eqb (value_of p r) (value_of p q) ≡ t → Among d (listed (cond t Equal (InProperty p (value_of p r) (value_of p q)))) → Differs r q d
+      go : (t : Bool) → eqb (value_of p r) (value_of p q) ≡ t → Among d (listed (cond t None (Some (InProperty p (value_of p r) (value_of p q))))) → Differs r q d
       go true w k = absurd k
       go false w (inl e) = subst (Differs r q) (sym e) (refl, refl, eqb-false _ _ w)
       go false w (inr k) = absurd k
@@ -82,7 +83,7 @@ module _ (r q : Run) (d : Difference) where
   unfolding Among
   from_more h = go (eqb m n) refl h
     where
-      go : (t : Bool) → eqb m n ≡ t → Among d (listed (cond t Equal (More ((m - n) + (n - m))))) → Differs r q d
+      go : (t : Bool) → eqb m n ≡ t → Among d (listed (cond t None (Some (More ((m - n) + (n - m)))))) → Differs r q d
       go true w k = absurd k
       go false w (inl e) = subst (Differs r q) (sym e) (λ z. eqb-false m n w (omega arith), longer (eqb-false m n w) (ltb m n) refl)
       go false w (inr k) = absurd k
@@ -93,23 +94,23 @@ module _ (r q : Run) (d : Difference) where
     unfolding Among position_at
     from_position i h k = go (values_at r.positions q.positions i) refl k
       where
-        go : (z : Values) → values_at r.positions q.positions i ≡ z → Among d (listed (position_by i z)) → Differs r q d
-        go Nothing w k = absurd k
-        go (Other x y) w (inl e) =
+        go : (z : Option (ℕ × ℕ)) → values_at r.positions q.positions i ≡ z → Among d (listed (option_map (position_by i) z)) → Differs r q d
+        go None w k = absurd k
+        go (Some (x, y)) w (inl e) =
             let u = values_unlike r.positions q.positions i x y w in
             subst (Differs r q) (sym e) ((u.first, u.second), u.one, u.other, u.apart)
-        go (Other x y) w (inr k) = absurd k
+        go (Some (x, y)) w (inr k) = absurd k
 
     from_ratio : (i : ℕ) → i < min m n → Among d (listed (ratio_at r.ratios q.ratios i)) → Differs r q d
     unfolding Among ratio_at
     from_ratio i h k = go (values_at r.ratios q.ratios i) refl k
       where
-        go : (z : Values) → values_at r.ratios q.ratios i ≡ z → Among d (listed (ratio_by i z)) → Differs r q d
-        go Nothing w k = absurd k
-        go (Other x y) w (inl e) =
+        go : (z : Option (ℕ × ℕ)) → values_at r.ratios q.ratios i ≡ z → Among d (listed (option_map (ratio_by i) z)) → Differs r q d
+        go None w k = absurd k
+        go (Some (x, y)) w (inl e) =
             let u = values_unlike r.ratios q.ratios i x y w in
             subst (Differs r q) (sym e) ((omega arith, omega arith), u.one, u.other, u.apart, refl, refl)
-        go (Other x y) w (inr k) = absurd k
+        go (Some (x, y)) w (inr k) = absurd k
 
     from_points : (k : ℕ) → k ≤ min m n → Among d (points_to r q k) → Differs r q d
     unfolding Among points_to
@@ -136,8 +137,9 @@ module _ (r q : Run) (d : Difference) where
 -- ---- and every difference is listed
 
 -- a difference that is one is listed by itself
-listed_own : (d e : Difference) → d ≡ e → Among d (listed d) → Among d (listed e)
-listed_own d e h k = subst (λ (x : Difference). Among d (listed x)) h k
+listed_own : (d : Difference) (e : Option Difference) → Some d ≡ e → Among d (listed e)
+unfolding Among
+listed_own d e h = subst (λ (x : Option Difference). Among d (listed x)) h (inl refl)
 
 module _ (r q : Run) where
   -- one of a property stands in its place
@@ -190,36 +192,32 @@ module _ (r q : Run) where
   module _ (a : Accepted r) (b : Accepted q) where
     into_list : (d : Difference) → Differs r q d → Among d (differences r q)
     unfolding Among position_at ratio_at
-    into_list Equal h = absurd h
     into_list (InProperty p x y) h =
         in_property (InProperty p x y) p
         (listed_own (InProperty p x y) _
-        (ap₂ (λ (u v : ℕ). InProperty p u v) h.0 h.1 ∙ property_other p (value_of p r) (value_of p q) (λ e. h.2 (h.0 ∙ e ∙ sym h.1)))
-        (inl refl))
+        (ap₂ (λ (u v : ℕ). Some (InProperty p u v)) h.0 h.1 ∙ property_other p (value_of p r) (value_of p q) (λ e. h.2 (h.0 ∙ e ∙ sym h.1))))
     into_list (Position i x y) h =
         in_index (Position i x y) i h.0.0 h.0.1
         (among_left (Position i x y) (listed (position_at r.positions q.positions i)) _
         (listed_own (Position i x y) _
-        (ap₂ (λ (u v : ℕ). Position i u v) h.1 h.2
-        ∙ ap (position_by i) (values_other r.positions q.positions i h.0.0 h.0.1 (λ e. h.3 (h.1 ∙ e ∙ sym h.2))))
-        (inl refl)))
+        (ap₂ (λ (u v : ℕ). Some (Position i u v)) h.1 h.2
+        ∙ ap (option_map (position_by i)) (values_other r.positions q.positions i h.0.0 h.0.1 (λ e. h.3 (h.1 ∙ e ∙ sym h.2))))))
     into_list (Ratio i x k y l) h =
         let f = accepted_fits r a.passes in
         let g = accepted_fits q b.passes in
-        let made : Ratio i x k y l ≡ ratio_by i (Other (get_or r.ratios i 0) (get_or q.ratios i 0)) =
-        rw (h.4, h.5) (ap₂ (λ (u v : ℕ). Ratio i u (kind_of u) v (kind_of v)) h.1 h.2) in
+        let made : Some (Ratio i x k y l) ≡ Some (ratio_by i (get_or r.ratios i 0, get_or q.ratios i 0)) =
+        rw (h.4, h.5) (ap₂ (λ (u v : ℕ). Some (Ratio i u (kind_of u) v (kind_of v))) h.1 h.2) in
         in_index (Ratio i x k y l) i h.0.0 h.0.1
         (among_right (Ratio i x k y l) (listed (position_at r.positions q.positions i)) _
         (listed_own (Ratio i x k y l) _
         (made
-        ∙ ap (ratio_by i) (values_other r.ratios q.ratios i (omega (arith, f.paired, h.0.0)) (omega (arith, g.paired, h.0.1)) (λ e. h.3 (h.1 ∙ e ∙ sym h.2))))
-        (inl refl)))
+        ∙ ap (option_map (ratio_by i)) (values_other r.ratios q.ratios i (omega (arith, f.paired, h.0.0)) (omega (arith, g.paired, h.0.1)) (λ e. h.3 (h.1 ∙ e ∙ sym h.2))))))
     into_list (More n) h =
         let m = length r.positions in
         let k = length q.positions in
         let number : n ≡ (m - k) + (k - m) = ⊎_elim {C = n ≡ (m - k) + (k - m)} (λ e. omega arith) (λ e. omega arith) h.1 in
         in_points (More n)
-        (among_right (More n) (points_to r q (min m k)) _ (listed_own (More n) _ (more_other m k (λ e. h.0 (omega arith)) n number) (inl refl)))
+        (among_right (More n) (points_to r q (min m k)) _ (listed_own (More n) _ (more_other m k (λ e. h.0 (omega arith)) n number)))
 
 pub lists_exactly : ListsExactly
 lists_exactly r q a b d = (from_list r q d a b, into_list r q a b d)
@@ -233,7 +231,6 @@ none-listed (d ∷ l) h = absurd (h d (inl refl))
 
 -- a run does not differ from itself
 not_itself : (r : Run) (d : Difference) → Differs r r d → ⊥
-not_itself r Equal h = h
 not_itself r (InProperty p x y) h = h.2 (h.0 ∙ sym h.1)
 not_itself r (Position i x y) h = h.3 (h.1 ∙ sym h.2)
 not_itself r (Ratio i x k y l) h = h.3 (h.1 ∙ sym h.2)

@@ -26,9 +26,14 @@ use Rattle.record_format.proofs.Runs.{form_of_lem}
 use Rattle.record_format.proofs.Writing.{accepted_fits}
 use Rattle.ratio_format.specs.Bodies.{strict_ratios}
 use Rattle.outputs.proofs.Outputs.{take-over}
+use Rattle.std.proofs.Common.{Result, Ok, Err}
+use Rattle.differences.specs.declared.Which.{Which}
+use Rattle.differences.specs.declared.Which.TheVariants.{First, Second}
 use Rattle.differences.specs.declared.OverallDifferences.{OverallDifferences}
+use Rattle.differences.specs.declared.RefusedRecord.{RefusedRecord}
+use Rattle.differences.specs.Numbers.{which_number}
 use Rattle.differences.specs.Differences.{differences}
-use Rattle.differences.specs.Overall.{refused_overall, overall_sound, overall_of}
+use Rattle.differences.specs.Overall.{refused_record, overall_sound, overall_of}
 use Rattle.differences.specs.Comparisons.{Comparison, refused_comparison, compared, comparison}
 use Rattle.differences.specs.Claims.{Compares, ComparesOnly, EmptyExactly, RefusesFirst, RefusesSecond, run_called, MakeUp, ByCalls, ComparisonTrailing, ComparisonFollowed}
 use Rattle.differences.proofs.Claims.{same-run, none_own}
@@ -120,16 +125,16 @@ refuses-second r a x t u never =
 -- ---- by what the calls answer
 
 -- a refusal
-made-refused : (x y : Run) (m n : ℕ) {h : OverallDifferences} {c : Comparison} (a : CheckAnswer) (w : ℕ) → (a.number ≡ 0 → ⊥)
-    → h ≡ refused_overall a.number a.place w → c ≡ refused_comparison a w → MakeUp h x y m n c
-made-refused x y m n a w d e k = rw (e, k) (refl, refl, refl, λ _. refl, λ z. absurd (d z))
+made-refused : (x y : Run) (m n : ℕ) {h : Result OverallDifferences RefusedRecord} {c : Comparison} (a : CheckAnswer) (w : Which)
+    → h ≡ Err (refused_record a w) → c ≡ refused_comparison a (which_number w) → MakeUp h x y m n c
+made-refused x y m n a w e k = rw (e, k) refl
 
 -- two records
 made_own : (r q : Run)
-    → MakeUp (overall_sound (run_check r) (run_check q)) r q (length r.positions) (length q.positions)
+    → MakeUp (Ok (overall_sound (run_check r) (run_check q))) r q (length r.positions) (length q.positions)
     (record { number = 0; place = 0; which = 0; list = differences r q })
 unfolding differences
-made_own r q = (refl, refl, refl, λ d. absurd (d refl), λ _. refl)
+made_own r q = refl
 
 -- any two strings of bytes, by the answers of their checks and, where these accept, by the runs in their fields
 module _ (s t : List ℕ) (u : Bytes s) (v : Bytes t) (x y : Run) (is : (checked 0 s).number ≡ 0 → x ≡ run_in s) (are : (checked 0 t).number ≡ 0 → y ≡ run_in t) where
@@ -140,7 +145,7 @@ module _ (s t : List ℕ) (u : Bytes s) (v : Bytes t) (x y : Run) (is : (checked
   b = checked 0 t
 
   made-sound : (r q : Run) → a ≡ run_check r → run_in s ≡ r → b ≡ run_check q → run_in t ≡ q → x ≡ run_in s → y ≡ run_in t
-      → MakeUp (overall_sound a b) x y a.count b.count (comparison s t)
+      → MakeUp (Ok (overall_sound a b)) x y a.count b.count (comparison s t)
   made-sound r q e i k j f g = rw (compared_own s t r q e i k j, f ∙ i, g ∙ j, e, k) (made_own r q)
 
   pub made_up : MakeUp (overall_of a b) x y a.count b.count (comparison s t)
@@ -149,17 +154,17 @@ module _ (s t : List ℕ) (u : Bytes s) (v : Bytes t) (x y : Run) (is : (checked
       go : (o : Bool) → eqb a.number 0 ≡ o → (p : Bool) → eqb b.number 0 ≡ p → MakeUp (overall_of a b) x y a.count b.count (comparison s t)
       go false w p z =
           let no = eqb-false _ _ w in
-          made-refused x y a.count b.count a 1 no (sym (overall_first a b no)) (compared-first a (run_in s) b (run_in t) no)
+          made-refused x y a.count b.count a First (sym (overall_first a b no)) (compared-first a (run_in s) b (run_in t) no)
       go true w false z =
           let ok = eqb-true _ _ w in
           let no = eqb-false _ _ z in
-          made-refused x y a.count b.count b 2 no (sym (overall_second a b ok no)) (compared-second a (run_in s) b (run_in t) ok no)
+          made-refused x y a.count b.count b Second (sym (overall_second a b ok no)) (compared-second a (run_in s) b (run_in t) ok no)
       go true w true z =
           let ok = eqb-true _ _ w in
           let fine = eqb-true _ _ z in
           let r = checks_only 0 s u ok in
           let q = checks_only 0 t v fine in
-          subst (λ (h : OverallDifferences). MakeUp h x y a.count b.count (comparison s t)) (overall_both a b ok fine)
+          subst (λ (h : Result OverallDifferences RefusedRecord). MakeUp h x y a.count b.count (comparison s t)) (overall_both a b ok fine)
           (made-sound r.0 q.0 r.3 r.4 q.3 q.4 (is ok) (are fine))
 
 -- a run comes back from what a check answers of its record and what a fetch leaves, whatever the outputs held

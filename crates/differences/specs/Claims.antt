@@ -25,7 +25,7 @@
 --                     refusal is that of `overall_of`, and its list the differences of that and those at each index
 --   ComparisonTrailing   whatever follows a record changes no answer, also where the other record is refused; ComparisonFollowed: nor does what follows
 --                     any whole fields. Both are parts of demand 3
-use Rattle.std.specs.Prelude.{List, [], ◌∷◌, ◌++◌, ◌⊎◌, ◌↔◌, ◌≡◌, ℕ, ◌+◌, ◌*◌, ◌≤◌, ◌<◌, min, length, get_or, take}
+use Rattle.std.specs.Prelude.{Option, Some, None, Result, Ok, Err, List, [], ◌∷◌, ◌++◌, ◌⊎◌, ◌↔◌, ◌≡◌, ℕ, ◌+◌, ◌*◌, ◌≤◌, ◌<◌, min, length, get_or, take}
 use Rattle.lists.specs.Among.{Among}
 use Rattle.kind.specs.Kinds.{kind_of}
 use Rattle.record_format.specs.Claims.{Accepted, Beginning, Bytes}
@@ -37,9 +37,13 @@ use Rattle.record_format.specs.declared.CheckAnswer.{CheckAnswer}
 use Rattle.differences.specs.declared.Property.{Property}
 use Rattle.differences.specs.declared.Property.TheVariants.{Rate, Side, Count, Form}
 use Rattle.differences.specs.declared.Difference.{Difference}
-use Rattle.differences.specs.declared.Difference.TheVariants.{Equal, InProperty, Position, Ratio, More}
+use Rattle.differences.specs.declared.Difference.TheVariants.{InProperty, Position, Ratio, More}
+use Rattle.refusals.specs.Tests.{refusal}
 use Rattle.differences.specs.declared.OverallDifferences.{OverallDifferences}
+use Rattle.differences.specs.declared.Which.TheVariants.{First, Second}
+use Rattle.differences.specs.declared.RefusedRecord.{RefusedRecord}
 use Rattle.differences.specs.Differences.{position_at, ratio_at, listed, points_to, differences}
+use Rattle.differences.specs.Numbers.{which_number}
 use Rattle.differences.specs.Overall.{overall_of}
 use Rattle.differences.specs.Comparisons.{Comparison, comparison}
 
@@ -58,7 +62,6 @@ HasBoth r q i = (i < length r.positions) × (i < length q.positions)
 
 -- the first run's value and the second's, which are not the same; of a ratio its kind beside its bits; of the points that only the longer run has their number, which is not 0
 abbrev pub Differs : Run → Run → Difference → Type 0
-Differs r q Equal = ⊥
 Differs r q (InProperty p a b) = (a ≡ value_of p r) × (b ≡ value_of p q) × (a ≡ b → ⊥)
 Differs r q (Position i t u) = HasBoth r q i × (t ≡ get_or r.positions i 0) × (u ≡ get_or q.positions i 0) × (t ≡ u → ⊥)
 Differs r q (Ratio i v k w l) =
@@ -70,7 +73,6 @@ Differs r q (More n) =
 
 -- no run has more than 4,096 points, so that the points that only the longer run has come last
 abbrev pub rank : Difference → ℕ
-rank Equal = 0
 rank (InProperty Rate a b) = 0
 rank (InProperty Side a b) = 1
 rank (InProperty Count a b) = 2
@@ -106,33 +108,31 @@ abbrev pub AtIndex : Type 0
 AtIndex = (xs ys : List ℕ) (i : ℕ) → i < length xs → i < length ys
     → let x = get_or xs i 0 in
     let y = get_or ys i 0 in
-    (x ≡ y → (position_at xs ys i ≡ Equal) × (ratio_at xs ys i ≡ Equal))
-    × ((x ≡ y → ⊥) → (position_at xs ys i ≡ Position i x y) × (ratio_at xs ys i ≡ Ratio i x (kind_of x) y (kind_of y)))
+    (x ≡ y → (position_at xs ys i ≡ None) × (ratio_at xs ys i ≡ None))
+    × ((x ≡ y → ⊥) → (position_at xs ys i ≡ Some (Position i x y)) × (ratio_at xs ys i ≡ Some (Ratio i x (kind_of x) y (kind_of y))))
 
 -- and past the end of either
 abbrev pub NoneBeyond : Type 0
-NoneBeyond = (xs ys : List ℕ) (i : ℕ) → (length xs ≤ i) ⊎ (length ys ≤ i) → (position_at xs ys i ≡ Equal) × (ratio_at xs ys i ≡ Equal)
+NoneBeyond = (xs ys : List ℕ) (i : ℕ) → (length xs ≤ i) ⊎ (length ys ≤ i) → (position_at xs ys i ≡ None) × (ratio_at xs ys i ≡ None)
 
 -- by both values
-abbrev pub Tells : Property → ℕ → ℕ → Difference → Type 0
-Tells p x y d = (x ≡ y → d ≡ Equal) × ((x ≡ y → ⊥) → d ≡ InProperty p x y)
+abbrev pub Tells : Property → ℕ → ℕ → Option Difference → Type 0
+Tells p x y d = (x ≡ y → d ≡ None) × ((x ≡ y → ⊥) → d ≡ Some (InProperty p x y))
 
 -- of any two answers, the first record's refusal first; of the points that only the longer run has their number
 abbrev pub OverallExactly : Type 0
 OverallExactly = (a b : CheckAnswer)
-    → let h = overall_of a b in
-    ((a.number ≡ 0 → ⊥)
-    → h ≡ record { number = a.number; place = a.place; which = 1; rate = Equal; side = Equal; count = Equal; form = Equal; more = Equal })
-    × (a.number ≡ 0 → (b.number ≡ 0 → ⊥)
-    → h ≡ record { number = b.number; place = b.place; which = 2; rate = Equal; side = Equal; count = Equal; form = Equal; more = Equal })
+    → let answer = overall_of a b in
+    ((a.number ≡ 0 → ⊥) → answer ≡ Err (record { refusal = refusal a.number a.place; which = First }))
+    × (a.number ≡ 0 → (b.number ≡ 0 → ⊥) → answer ≡ Err (record { refusal = refusal b.number b.place; which = Second }))
     × (a.number ≡ 0 → b.number ≡ 0
-    → (h.number ≡ 0) × (h.place ≡ 0) × (h.which ≡ 0)
+    → (h : OverallDifferences) × (answer ≡ Ok h)
     × Tells Rate a.rate b.rate h.rate
     × Tells Side a.side b.side h.side
     × Tells Count a.count b.count h.count
     × Tells Form a.form b.form h.form
-    × (a.count ≡ b.count → h.more ≡ Equal)
-    × ((n : ℕ) → (n ≡ 0 → ⊥) → (a.count ≡ b.count + n) ⊎ (b.count ≡ a.count + n) → h.more ≡ More n))
+    × (a.count ≡ b.count → h.more ≡ None)
+    × ((n : ℕ) → (n ≡ 0 → ⊥) → (a.count ≡ b.count + n) ⊎ (b.count ≡ a.count + n) → h.more ≡ Some (More n)))
 
 -- ---- the answer to two strings of bytes
 
@@ -168,19 +168,21 @@ RefusesSecond = (r : Run) → Accepted r → (x t : List ℕ) → Bytes t → ((
 abbrev pub run_called : CheckAnswer → Fetched → Run
 run_called a f = run a.rate a.side (form_of a.form) (take a.count f.positions) (take a.count f.ratios)
 
--- the differences h that are of no index, and the points of the runs r and q up to the smaller of the counts m and n, make up the comparison c
-abbrev pub MakeUp : OverallDifferences → Run → Run → ℕ → ℕ → Comparison → Type 0
-MakeUp h r q m n c =
-    (h.number ≡ c.number) × (h.place ≡ c.place) × (h.which ≡ c.which)
-    × ((h.number ≡ 0 → ⊥) → c.list ≡ [])
-    × (h.number ≡ 0
-    → c.list
-    ≡ listed h.rate
-    ++ (listed h.side
-    ++ (listed h.count
-    ++ (listed h.form
-    ++ (points_to r q (min m n)
-    ++ listed h.more)))))
+-- the differences that are of no index, and the points of the runs r and q up to the smaller of the counts m and n, make up the comparison c; or the
+-- refusal does
+abbrev pub MakeUp : Result OverallDifferences RefusedRecord → Run → Run → ℕ → ℕ → Comparison → Type 0
+MakeUp (Err f) r q m n c = c ≡ record { number = f.refusal.number; place = f.refusal.place; which = which_number f.which; list = [] }
+MakeUp (Ok h) r q m n c = c ≡ record {
+  number = 0;
+  place = 0;
+  which = 0;
+  list = listed h.rate
+      ++ (listed h.side
+      ++ (listed h.count
+      ++ (listed h.form
+      ++ (points_to r q (min m n)
+      ++ listed h.more))));
+}
 
 -- of any two strings of bytes
 abbrev pub ByCalls : Type 0

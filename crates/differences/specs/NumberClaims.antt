@@ -5,13 +5,14 @@
 --   DifferencesApart       no two differences have the same numbers
 --   OverallApart           nor have two answers of the differences that are of no index, with the refusal beside them
 --   RefusedAlone           where a record was refused, the first before the second, all numbers but the refusal's are 0
-use Rattle.std.specs.Prelude.{◌≡◌, ℕ}
+use Rattle.std.specs.Prelude.{Option, Result, ◌≡◌, ℕ}
 use Rattle.kind.specs.declared.KindAnswer.{KindAnswer}
 use Rattle.kind.specs.Claims.{kind_is, float_zero}
 use Rattle.record_format.specs.declared.CheckAnswer.{CheckAnswer}
 use Rattle.differences.specs.declared.Difference.{Difference}
 use Rattle.differences.specs.declared.DifferenceAnswer.{DifferenceAnswer}
 use Rattle.differences.specs.declared.OverallDifferences.{OverallDifferences}
+use Rattle.differences.specs.declared.RefusedRecord.{RefusedRecord}
 use Rattle.differences.specs.declared.OverallAnswer.{OverallAnswer}
 use Rattle.differences.specs.Overall.{overall_of}
 use Rattle.differences.specs.Numbers.{difference_numbers, overall_numbers}
@@ -34,11 +35,11 @@ refused_numbers n p w = record { number = n; place = p; which = w; rate = no_num
 
 -- so each case can be told, with all that it carries
 abbrev pub DifferencesApart : Type 0
-DifferencesApart = (d e : Difference) → difference_numbers d ≡ difference_numbers e → d ≡ e
+DifferencesApart = (d e : Option Difference) → difference_numbers d ≡ difference_numbers e → d ≡ e
 
 -- and each of the five
 abbrev pub OverallApart : Type 0
-OverallApart = (h k : OverallDifferences) → overall_numbers h ≡ overall_numbers k → h ≡ k
+OverallApart = (h k : Result OverallDifferences RefusedRecord) → overall_numbers h ≡ overall_numbers k → h ≡ k
 
 -- of any two answers
 abbrev pub RefusedAlone : Type 0

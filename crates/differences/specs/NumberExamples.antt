@@ -4,7 +4,7 @@
 --   first, second, refused_answer  what a check answered of two records, and of one that was refused
 --   overall_hold       the numbers of two records that differ in every property and in their counts
 --   refused_hold       those of a refusal of the second record
-use Rattle.std.specs.Prelude.{true, false, List, [], ◌∷◌, map, ◌≡◌, refl, pos, negsuc}
+use Rattle.std.specs.Prelude.{true, false, Option, Some, None, List, [], ◌∷◌, map, ◌≡◌, refl, pos, negsuc}
 use Rattle.std.specs.Float.{fin}
 use Rattle.std.specs.Float.Ieee.{of_bits, of_fields}
 use Rattle.kind.specs.Kinds.{kind_of}
@@ -12,7 +12,7 @@ use Rattle.kind.specs.Claims.{kind_is, float_zero}
 use Rattle.record_format.specs.declared.CheckAnswer.{CheckAnswer}
 use Rattle.differences.specs.declared.Property.TheVariants.{Rate, Side, Count, Form}
 use Rattle.differences.specs.declared.Difference.{Difference}
-use Rattle.differences.specs.declared.Difference.TheVariants.{Equal, InProperty, Position, Ratio, More}
+use Rattle.differences.specs.declared.Difference.TheVariants.{InProperty, Position, Ratio, More}
 use Rattle.differences.specs.declared.DifferenceAnswer.{DifferenceAnswer}
 use Rattle.differences.specs.Overall.{overall_of}
 use Rattle.differences.specs.Numbers.{difference_numbers, overall_numbers}
@@ -20,29 +20,29 @@ use Rattle.differences.specs.NumberClaims.{differs, kindless, no_numbers, refuse
 
 -- an example: a difference, and its numbers
 pub record Example : Type 0 where
-  pub difference : Difference
+  pub difference : Option Difference
   pub expected : DifferenceAnswer
 
 -- such an example
-abbrev example : Difference → DifferenceAnswer → Example
+abbrev example : Option Difference → DifferenceAnswer → Example
 example d n = record { difference = d; expected = n }
 
 -- each property; a position; ratios of each kind on each side, infinities of both signs among them; the points that only the longer run has; and none
 pub examples : List Example
 examples =
-    example (InProperty Rate 96000 88200) (differs 1 0 96000 88200 kindless kindless)
-    ∷ example (InProperty Side 0 4) (differs 2 0 0 4 kindless kindless)
-    ∷ example (InProperty Count 3 5) (differs 3 0 3 5 kindless kindless)
-    ∷ example (InProperty Form 3 5) (differs 4 0 3 5 kindless kindless)
-    ∷ example (Position 7 960 961) (differs 5 7 960 961 kindless kindless)
-    ∷ example (Ratio 7 0x3FE0000000000000 (kind_of 0x3FE0000000000000) 0x7FF8000000000000 (kind_of 0x7FF8000000000000))
+    example (Some (InProperty Rate 96000 88200)) (differs 1 0 96000 88200 kindless kindless)
+    ∷ example (Some (InProperty Side 0 4)) (differs 2 0 0 4 kindless kindless)
+    ∷ example (Some (InProperty Count 3 5)) (differs 3 0 3 5 kindless kindless)
+    ∷ example (Some (InProperty Form 3 5)) (differs 4 0 3 5 kindless kindless)
+    ∷ example (Some (Position 7 960 961)) (differs 5 7 960 961 kindless kindless)
+    ∷ example (Some (Ratio 7 0x3FE0000000000000 (kind_of 0x3FE0000000000000) 0x7FF8000000000000 (kind_of 0x7FF8000000000000)))
     (differs 6 7 0x3FE0000000000000 0x7FF8000000000000 (kind_is 0 0 (fin false 1 (negsuc 0)) 0) (kind_is 2 0 float_zero 0x7FF8000000000000))
-    ∷ example (Ratio 8 0xFFF0000000000000 (kind_of 0xFFF0000000000000) 0x7FF0000000000000 (kind_of 0x7FF0000000000000))
+    ∷ example (Some (Ratio 8 0xFFF0000000000000 (kind_of 0xFFF0000000000000) 0x7FF0000000000000 (kind_of 0x7FF0000000000000)))
     (differs 6 8 0xFFF0000000000000 0x7FF0000000000000 (kind_is 1 1 float_zero 0) (kind_is 1 0 float_zero 0))
-    ∷ example (Ratio 9 0xFFF8000000000001 (kind_of 0xFFF8000000000001) 0x8000000000000000 (kind_of 0x8000000000000000))
+    ∷ example (Some (Ratio 9 0xFFF8000000000001 (kind_of 0xFFF8000000000001) 0x8000000000000000 (kind_of 0x8000000000000000)))
     (differs 6 9 0xFFF8000000000001 0x8000000000000000 (kind_is 2 0 float_zero 0xFFF8000000000001) (kind_is 0 0 (fin true 0 (pos 0)) 0))
-    ∷ example (More 2) (differs 7 0 2 0 kindless kindless)
-    ∷ example Equal no_numbers
+    ∷ example (Some (More 2)) (differs 7 0 2 0 kindless kindless)
+    ∷ example None no_numbers
     ∷ []
 
 -- the numbers, computed from the definitions, are those that are given

@@ -5,15 +5,14 @@ use Prim.Native.Nat.{ℕ, zero, suc, ◌+◌, ◌*◌, ◌-◌, ◌≤◌, min}
 use native.Mathlib.Nat.{le_refl, le_trans}
 use native.Mathlib.Omega.{arith}
 use lib.Dec.{eqb}
+use Rattle.std.proofs.Common.{Option, Some, None, option_map}
 use lib.ListN.{length}
 use Rattle.record_format.specs.Runs.{Run, positions_tag}
 use Rattle.record_format.proofs.Writing.{accepted_fits, fitting_few}
 use Rattle.differences.specs.declared.Property.{Property}
 use Rattle.differences.specs.declared.Property.TheVariants.{Rate, Side, Count, Form}
 use Rattle.differences.specs.declared.Difference.{Difference}
-use Rattle.differences.specs.declared.Difference.TheVariants.{Equal, InProperty, More}
-use Rattle.differences.specs.declared.Values.{Values}
-use Rattle.differences.specs.declared.Values.TheVariants.{Nothing, Other}
+use Rattle.differences.specs.declared.Difference.TheVariants.{InProperty, More}
 use Rattle.differences.specs.Differences.{property_difference, more_difference, values_at, position_by, ratio_by, position_at, ratio_at, listed, points_to, differences}
 use Rattle.differences.specs.Claims.{rank, Rising, InOrder}
 
@@ -50,7 +49,7 @@ spread_property : (p : Property) (a b : ℕ) → Spread (rank (InProperty p a b)
 unfolding Spread
 spread_property p a b = go (eqb a b)
   where
-    go : (t : Bool) → Spread (rank (InProperty p a b)) (suc (rank (InProperty p a b))) (listed (cond t Equal (InProperty p a b)))
+    go : (t : Bool) → Spread (rank (InProperty p a b)) (suc (rank (InProperty p a b))) (listed (cond t None (Some (InProperty p a b))))
     go true = omega arith
     go false = (le_refl _, le_refl _)
 
@@ -58,19 +57,19 @@ spread_more : (m n lo : ℕ) → lo ≤ 4 + 2 * 4096 → Spread lo (5 + 2 * 4096
 unfolding Spread
 spread_more m n lo h = go (eqb m n)
   where
-    go : (t : Bool) → Spread lo (5 + 2 * 4096) (listed (cond t Equal (More ((m - n) + (n - m)))))
+    go : (t : Bool) → Spread lo (5 + 2 * 4096) (listed (cond t None (Some (More ((m - n) + (n - m))))))
     go true = omega arith
     go false = (h, le_refl _)
 
-spread_position : (i : ℕ) (z : Values) → Spread (4 + 2 * i) (5 + 2 * i) (listed (position_by i z))
+spread_position : (i : ℕ) (z : Option (ℕ × ℕ)) → Spread (4 + 2 * i) (5 + 2 * i) (listed (option_map (position_by i) z))
 unfolding Spread
-spread_position i Nothing = omega arith
-spread_position i (Other t u) = (le_refl _, omega arith)
+spread_position i None = omega arith
+spread_position i (Some z) = (le_refl _, omega arith)
 
-spread_ratio : (i : ℕ) (z : Values) → Spread (5 + 2 * i) (6 + 2 * i) (listed (ratio_by i z))
+spread_ratio : (i : ℕ) (z : Option (ℕ × ℕ)) → Spread (5 + 2 * i) (6 + 2 * i) (listed (option_map (ratio_by i) z))
 unfolding Spread
-spread_ratio i Nothing = omega arith
-spread_ratio i (Other t u) = (le_refl _, omega arith)
+spread_ratio i None = omega arith
+spread_ratio i (Some z) = (le_refl _, omega arith)
 
 module _ (r q : Run) where
   spread_points : (n : ℕ) → Spread 4 (4 + 2 * n) (points_to r q n)

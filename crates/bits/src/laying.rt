@@ -24,7 +24,7 @@ impl Sink {
 
     // Before any bit is laid.
     pub fn empty() -> Sink
-        ensures { (result.at ≡ 0) × Held [] result }
+        ensures { (result.at ≡ 0) × Held [] result × ((o : List ℕ) → PlacedBits [] result.at o o) }
     {
         Sink {
             at: 0,

@@ -4,10 +4,11 @@
 --   Fore k body at w              the word w begins with the bits of a body from a bit offset on, k of them, with 0 bits past the end
 --   ThreeStand rs body at x y z   from that offset on stand the codes of three steps, one after the other
 --   Shared f g z                  the table of the form g holds the step z, with the code that it has in the form f
+--   SharedCode f w n              a code of the form f that stands at the top of the word w has n bits, and every form has it
 --   ThreeShared f body at n       three codes of the form f that stand there have n bits, and every form has them
 --   RecodedInto f ts r o p        the coding of the positions ts in the form f was put at the front of o, which is now p, or there was no room for it; or
 --                                 r is the index of the first point whose step the table of f does not hold. That is told whatever the room
-use Rattle.std.specs.Prelude.{true, List, ◌≡◌, ℕ, ◌+◌, ◌<◌, ℤ, length, take, drop}
+use Rattle.std.specs.Prelude.{true, List, ◌≡◌, ℕ, ◌+◌, ◌≤◌, ◌<◌, ℤ, length, take, drop}
 use Rattle.lists.specs.Compare.{begins}
 use Rattle.bits.specs.Digits.{bits_of}
 use Rattle.bits.specs.Packing.{bits, ahead}
@@ -29,7 +30,7 @@ pub record CodeStands (rs : List Row) (ds : List ℕ) (z : ℤ) : Type 0 where
 
 -- its row and its length
 abbrev pub Led : List Row → List ℕ → Lead → Type 0
-Led rs ds l = (z : ℤ) → CodeStands rs ds z → (l.row ≡ row_of rs z) × (l.len ≡ length (code rs z))
+Led rs ds l = (z : ℤ) → CodeStands rs ds z → (l.row.index ≡ row_of rs z) × (l.len ≡ length (code rs z))
 
 -- bits at the top of a word, any number of them
 abbrev pub Fore : ℕ → List ℕ → ℕ → ℕ → Type 0
@@ -45,6 +46,12 @@ pub record ThreeStand (rs : List Row) (body : List ℕ) (at : ℕ) (x y z : ℤ)
 pub record Shared (f g : Form) (z : ℤ) : Type 0 where
   pub held : in_table (table_of g) z ≡ true
   pub alike : code (table_of g) z ≡ code (table_of f) z
+
+-- a code at the top of a word that every form has
+abbrev pub SharedCode : Form → ℕ → ℕ → Type 0
+SharedCode f w n =
+    (body : List ℕ) (at k : ℕ) → 5 ≤ k → k ≤ 64 → Fore k body at w → (z : ℤ) → CodeStands (table_of f) (drop at (bits body)) z
+    → (n ≡ length (code (table_of f) z)) × ((g : Form) → Shared f g z)
 
 -- three codes that every form has
 abbrev pub ThreeShared : Form → List ℕ → ℕ → ℕ → Type 0

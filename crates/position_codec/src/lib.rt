@@ -3,7 +3,8 @@
 // meet each `requires`.
 #![tactic(auto)]
 
-mod table; // the tables of steps, and all that goes by their rows
+mod row; // the rows of the tables of steps
+mod table; // the tables: where a code begins, and the code of a step
 mod write; // positions written
 mod read; // positions read
 mod recode; // positions of one form coded in the other

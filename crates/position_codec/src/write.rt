@@ -1,5 +1,5 @@
 // Positions written: the bits of one point after the other, and then the fill.
-ghost use Rattle.std.specs.Prelude.{List, ◌≡◌, ℕ, ◌+◌, ◌^◌, ◌≤◌, ◌<◌, length, take};
+ghost use Rattle.std.specs.Prelude.{SomeIff, List, ◌≡◌, ℕ, ◌+◌, ◌^◌, ◌≤◌, ◌<◌, length, take};
 ghost use Rattle.bits.specs.Sinks.{Held, PlacedBits};
 ghost use Rattle.outputs.specs.Outputs.{Placed};
 ghost use Rattle.limits.specs.Points.{max_points, first_high};
@@ -29,19 +29,17 @@ fn step_at(positions: &[u64], i: usize) -> i64
     step(positions[i - 2], positions[i - 1], positions[i])
 }
 
-// The index of the first point whose step document 01's table does not hold; where there is none, the number of points, or 2 if that is more.
-pub fn first_outside(positions: &[u64]) -> usize
+// The index of the first point whose step document 01's table does not hold, if there is one.
+pub fn first_outside(positions: &[u64]) -> Option<usize>
     requires { (length positions.now ≤ first_high positions.now) × (length positions.now ≤ max_points) }
-    ensures { result ≡ first_outside rows positions.now }
+    ensures { SomeIff result (first_outside rows positions.now < length positions.now) (first_outside rows positions.now) }
 {
-    let mut i = 2;
-    while i < positions.len() {
+    for i in 2..positions.len() {
         if !in_table(step_at(positions, i)) {
-            return i;
+            return Some(i);
         }
-        i += 1;
     }
-    i
+    None
 }
 
 // The bits of the first two points, 64 for each, or of so many as there are: no table has a part in them.

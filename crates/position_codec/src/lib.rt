@@ -10,5 +10,5 @@ mod read; // positions read
 mod recode; // positions of one form coded in the other
 
 pub use read::{check_positions, get_positions};
-pub use recode::{Recoded, recode_positions};
+pub use recode::{RecodeError, recode_positions};
 pub use write::{first_outside, put_positions};

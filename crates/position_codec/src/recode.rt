@@ -23,11 +23,11 @@ use position_format::Form;
 // How many of their first rows both tables have in common.
 const SHARED_ROWS: usize = 4;
 
-// What recoding did: the index of the first point whose step the table does not hold, or what it wrote.
+// Why positions are not coded in another form: its table does not hold the step at the point of an index, or there is no room.
 #[derive(Clone, Copy)]
-pub enum Recoded {
+pub enum RecodeError {
     Outside(usize),
-    Put(Option<usize>),
+    NoRoom,
 }
 
 // The k bits of the body from the bit offset `at` on come after those of s.
@@ -139,9 +139,15 @@ fn put_code(form: Form, lead: Lead, body: &[u8], at: usize, w: u64, out: &mut [u
     copy_bits(body, at + (len - width), width, out, t)
 }
 
-// The positions of a body in the form `from`, coded in the form `to`, at the front of the output, whose rest stays, if there is room; or the first of
-// them whose step the table of `to` does not hold, whatever the room. The body is the coding of so many positions, so each code is there.
-pub fn recode_positions(from: Form, to: Form, body: &[u8], count: usize, out: &mut [u8]) -> Recoded
+// The positions of a body in the form `from`, coded in the form `to`, at the front of the output, whose rest stays; answers how many bytes they take. The first step
+// that the table of `to` does not hold is told whatever the room. The body is the coding of so many positions, so each code is there.
+pub fn recode_positions(
+    from: Form,
+    to: Form,
+    body: &[u8],
+    count: usize,
+    out: &mut [u8],
+) -> Result<usize, RecodeError>
     requires { (missing (read_positions (table_of from) count body.now) ≡ false) × (count ≤ max_points) }
     ensures { RecodedInto to (list_of (read_positions (table_of from) count body.now)) result out.old out.new }
 {
@@ -159,11 +165,11 @@ pub fn recode_positions(from: Form, to: Form, body: &[u8], count: usize, out: &m
         }
         let lead = lead_at(from, w);
         if !has_row(to, lead.row) {
-            return Recoded::Outside(i);
+            return Err(RecodeError::Outside(i));
         }
         s = put_code(to, lead, body, at, w, out, s);
         at += lead.len;
         i += 1;
     }
-    Recoded::Put(s.put_last(out))
+    s.put_last(out).ok_or(RecodeError::NoRoom)
 }

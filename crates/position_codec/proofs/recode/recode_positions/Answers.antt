@@ -7,6 +7,7 @@ use Rattle.position_format.specs.Positions.{position_bits, coded_positions, read
 use Rattle.position_format.proofs.Tables.{table_good}
 use Rattle.position_format.proofs.Positions.{positions_below}
 use Rattle.position_codec.proofs.Codes.{codable_valid}
+use Rattle.position_codec.proofs.Recoding.{recoded_into}
 use Rattle.position_codec.proofs.recode.Passing.{short, first_inside, first_passed, place_small, all_codable, all_held, all_placed, body_long, code_left}
 use Rattle.position_codec.proofs.recode.Passing.{run_room, three_passed, one_outside, one_room, one_bits, row_there, row_narrow, one_passed}
 use Rattle.position_codec.proofs.recode.recode_positions.Goals as goal
@@ -93,8 +94,10 @@ returns c =
     let a = c.args in
     let l = c.loop-i in
     let ts = list_of (read_positions (table_of a.from) a.count a.body.now) in
-    let codable = all_codable a.from a.to a.count a.body.now c.requires.0 c.requires.1 a.out.now l.out l.i l.at l.s l.invariant c.loop-i-test.false in (
-      codable,
-      c.put_last.ensures a.out.now (position_bits (table_of a.to) ts) (below_of 256 a.out.now (λ j. (c.slice_known-1.given j).fits))
-          (positions_below (table_of a.to) (table_good a.to) ts (codable_valid a.to ts codable)) (all_held a.from a.to a.count a.body.now c.requires.0 c.requires.1 a.out.now l.out l.i l.at l.s l.invariant c.loop-i-test.false) (all_placed a.from a.to a.count a.body.now c.requires.0 c.requires.1 a.out.now l.out l.i l.at l.s l.invariant c.loop-i-test.false),
-    )
+    let codable = all_codable a.from a.to a.count a.body.now c.requires.0 c.requires.1 a.out.now l.out l.i l.at l.s l.invariant c.loop-i-test.false in
+    recoded_into a.to ts c.put_last.result a.out.now c.put_last.new.out codable
+    (c.put_last.ensures a.out.now (position_bits (table_of a.to) ts) (below_of 256 a.out.now (λ j. (c.slice_known-1.given j).fits))
+    (positions_below (table_of a.to) (table_good a.to) ts (codable_valid a.to ts codable))
+    (all_held a.from a.to a.count a.body.now c.requires.0 c.requires.1 a.out.now l.out l.i l.at l.s l.invariant c.loop-i-test.false)
+    (all_placed a.from a.to a.count a.body.now c.requires.0 c.requires.1 a.out.now l.out l.i l.at l.s l.invariant c.loop-i-test.false))
+    c.ok_or.result c.ok_or.ensures.value

@@ -7,6 +7,3 @@ use Rattle.ratio_bodies.proofs.get_open.Given as goal
 
 abbrev pub invariant-loop-i : goal.invariant-loop-i
 invariant-loop-i l = Taking open_one l.count l.body l.initial.out 0 0 l.out l.at l.i
-
-abbrev pub decreases-loop-i : goal.decreases-loop-i
-decreases-loop-i l = l.count - l.i

@@ -1,13 +1,10 @@
 -- The last ratios of a full array moved to its front: planes, marks and window are theirs.
-use mathlib.Core.Path.{◌≡◌, refl, sym, ap, ◌∙◌, subst}
-use mathlib.Core.Bool.{Bool, true, false}
+use mathlib.Core.Path.{◌≡◌, sym, ap, ◌∙◌, subst}
 use mathlib.Core.List.{List}
 use Prim.Native.Nat.{ℕ, ◌+◌, ◌-◌, ◌*◌, ◌%◌, ◌≤◌, ◌<◌}
 use native.Mathlib.Omega.{arith}
-use borrow.Author.Tests.{eqb-true, eqb-false}
-use lib.Dec.{eqb}
-use lib.ListN.{length, get_or, take, set, length-set}
-use lib.Seq.{ext_get_or, get_or-set_same, get_or-set_other}
+use lib.ListN.{length, get_or, take}
+use lib.Seq.{ext_get_or}
 use Rattle.bits.specs.Digits.{byte_of}
 use Rattle.ratio_format.specs.Windows.{window_size, window_of}
 use Rattle.ratio_format.proofs.Windows.{window_few}
@@ -46,10 +43,10 @@ module _ (l m : List ℕ) (s : Slid l m) where
           let y : j < slots = omega (arith, a.1, a.2) in
           (j, omega (arith, a.1), y, s.1 j y ∙ ap (λ (i : ℕ). get_or l i 0) e ∙ a.3 ∙ sym (s.1 k h))
 
-  pub ready_slid : (p : BytePlanes) (ms : List ℕ) → Ready p ms l room → Ready (record { cells = p.cells; done = p.done - shift }) ms m slots
-  ready_slid p ms r = record {
-    planes = (kept_slid p.cells p.done (omega (arith, r.planes.1)) r.planes.0, omega (arith, r.planes.1));
-    marks = marks_slid ms r.marks;
+  pub ready_slid : (p : BytePlanes) (ms : List ℕ) (i n : ℕ) → i ≡ room → n ≡ p.done - shift → Ready p ms l i → Ready (record { cells = p.cells; done = n }) ms m slots
+  ready_slid p ms i n e f r = record {
+    planes = (rw f (kept_slid p.cells p.done (omega (arith, r.planes.1)) r.planes.0), omega (arith, r.planes.1));
+    marks = marks_slid ms (subst (Marks ms l) e r.marks);
   }
 
   pub window_slid : length l ≡ room → window_of window_size (take slots m) ≡ window_of window_size (take room l)

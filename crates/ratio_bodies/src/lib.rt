@@ -123,7 +123,7 @@ pub fn get_strict(body: &[u8], count: usize, out: &mut [u64]) -> Took
 
 // What `count_strict` answers, by an array of N ratios.
 fn count_in<const N: usize>(body: &[u8], count: usize) -> Took
-    requires { N < count → N ≡ room }
+    requires { (N ≤ room) × (N < count → N ≡ room) }
     ensures { result ≡ took_of (strict_taken count body.now) }
 {
     let mut ratios = [0; N];

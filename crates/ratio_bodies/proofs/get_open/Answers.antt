@@ -1,4 +1,5 @@
 -- `get_open` meets its contract: the goals that the check leaves.
+use Rattle.std.proofs.Common.{◌≡◌}
 use native.Mathlib.Omega.{arith}
 use Rattle.ratio_format.specs.Open.{open_one}
 use Rattle.ratio_format.proofs.Bodies.Taken.{open_within}

@@ -1,6 +1,5 @@
 -- `get_open` meets its contract. The invariant: the first i ratios stand at the front, and with what reading on from there takes they are all
 -- that is taken.
-use Prim.Native.Nat.{◌-◌}
 use Rattle.ratio_format.specs.Open.{open_one}
 use Rattle.ratio_bodies.specs.Taking.{Taking}
 use Rattle.ratio_bodies.proofs.get_open.Given as goal

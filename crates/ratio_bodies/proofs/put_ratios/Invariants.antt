@@ -1,6 +1,6 @@
 -- `put_ratios` meets its contract. The invariant: the coding of the first i ratios stands at the front, and the rest stays; the planes are
 -- those of the ratios before `done`, and the index that of the ratios before i, but for the last repeats.
-use Prim.Native.Nat.{◌-◌, ◌≤◌}
+use Prim.Native.Nat.{◌-◌}
 use lib.ListN.{length}
 use Rattle.ratio_search.specs.BytePlanes.{KeptTo}
 use Rattle.ratio_bodies.specs.Indexes.{NearlyIndexed}

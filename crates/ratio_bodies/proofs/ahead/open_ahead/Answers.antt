@@ -25,8 +25,8 @@ returns-then-i-p c =
     let first = rest_first c.args.at c.args.body.now in
     let some = ahead-some c.args.at c.args.body.now ten in
     elim c.then-i-p.branch [
-      then-i-p-via-then-i-p w ↦ place_far c.args.ratios.now c.args.i few rest b first some byte c.if-b-eq-EXCEPTION.false w.if-i-p.true
-    | then-i-p-via-else-i-p+then-p-eq-SIZE w ↦ place_past c.args.ratios.now c.args.i few rest b first some byte c.if-b-eq-EXCEPTION.false w.if-p-eq-SIZE.true
+      | then-i-p-via-then-i-p w ↦ place_far c.args.ratios.now c.args.i few rest b first some byte c.if-b-eq-EXCEPTION.false w.if-i-p.true
+      | then-i-p-via-else-i-p+then-p-eq-SIZE w ↦ place_past c.args.ratios.now c.args.i few rest b first some byte c.if-b-eq-EXCEPTION.false w.if-p-eq-SIZE.true
     ]
 
 pub returns-then-b-lt-XOR : goal.returns-then-b-lt-XOR

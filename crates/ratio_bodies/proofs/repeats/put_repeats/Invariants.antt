@@ -1,6 +1,4 @@
 -- `put_repeats` meets its contract. The invariant: k ratios repeat the one before them, and the first k bytes are 0.
-use Prim.Native.Nat.{◌+◌, ◌-◌, ◌≤◌}
-use lib.ListN.{length}
 use Rattle.outputs.proofs.Outputs.Clear.{Cleared}
 use Rattle.ratio_bodies.proofs.repeats.Repeated.{Repeats}
 use Rattle.ratio_bodies.proofs.repeats.put_repeats.Given as goal

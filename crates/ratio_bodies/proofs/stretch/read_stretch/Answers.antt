@@ -51,7 +51,7 @@ returns-then-not-accepts c =
     let n = c.in-Some.n in (
       taking_stop strict_one c.args.to c.args.body.now c.args.ratios.now c.args.from c.args.begun c.loop-i.ratios c.loop-i.at c.loop-i.i c.loop-i.invariant.0 c.loop-i-test.true None
           (ap (λ (x : Bool). then_some x (v, n)) (sym c.if-not-accepts.true)
-              ∙ strict_if w rest c.open_from.result c.open_from.ensures v n c.accepts.result c.in-Some.is c.accepts.ensures.test) refl,
+          ∙ strict_if w rest c.open_from.result c.open_from.ensures v n c.accepts.result c.in-Some.is c.accepts.ensures.test) refl,
       c.loop-i.invariant.0.inside,
       record { planes = c.accepts.ensures.kept; marks = c.loop-i.invariant.1.marks },
     )

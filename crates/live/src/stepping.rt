@@ -7,7 +7,7 @@ ghost use Rattle.live.specs.States.{state_of, step_found};
 use super::adding::bad_window;
 use limits::MAX_POINTS;
 use ratio_codec::read_one_strict;
-use ratio_format::{Cursor, Read, StepAnswer, Window, push_cells};
+use ratio_format::{Cursor, StepAnswer, Window, push_cells};
 use refusals::Refusal;
 
 // What making a reader answers, and the state that the reader starts with.
@@ -120,7 +120,7 @@ fn seek(body: &[u8], ratios: &[u64], place: u64, count: u64, seen: u64, fill: u6
     let filled = fill as usize;
     let at = place as usize;
     let read = read_one_strict(&ratios[..filled], &body[at..]);
-    let Read::Ratio(ratio, used) = read else {
+    let Some((ratio, used)) = read else {
         return no_ratio(18);
     };
     Found {

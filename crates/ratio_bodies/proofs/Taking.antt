@@ -1,4 +1,5 @@
 -- Reading ratio by ratio into an output, by any rule for one ratio: the output after the first i ratios, after one more, and where reading ends.
+use Rattle.std.specs.Prelude.{None}
 use mathlib.Core.Path.{◌≡◌, refl, sym, ap, ap₂, ◌∙◌, subst}
 use mathlib.Core.Bool.{Bool, true, false, cond}
 use mathlib.Core.List.{List, [], ◌∷◌, ◌++◌, append-nil, append_assoc}
@@ -12,8 +13,6 @@ use lib.Seq.{length-take-le, get_or-take, take-suc-set, drop-set-lt, drop-drop, 
 use Rattle.lists.specs.Compare.{both}
 use Rattle.bits.specs.Digits.{byte_of}
 use Rattle.outputs.specs.Outputs.{over, Filled}
-use Rattle.ratio_format.specs.declared.Read.{Read}
-use Rattle.ratio_format.specs.declared.Read.TheVariants.{Ratio, Nothing}
 use Rattle.ratio_format.specs.Windows.{window_size, push, window_of}
 use Rattle.ratio_format.specs.Bodies.{Taken, none_taken, after_taken, taken_from, whole_taken}
 use Rattle.ratio_format.proofs.Windows.{window_snoc}
@@ -22,6 +21,7 @@ use Rattle.ratio_format.proofs.Bodies.Taken.{RuleWithin, taken_stop, taken_next}
 use Rattle.ratio_search.specs.BytePlanes.{Kept}
 use Rattle.ratio_bodies.specs.declared.Took.{Took}
 use Rattle.ratio_bodies.specs.Taking.{TakenInto, TakenOnto, Taking}
+use Rattle.ratio_format.specs.Open.{Read, Ratio}
 
 module _ (rule : Rule) (to : ℕ) (body o : List ℕ) (from begun : ℕ) where
   -- all that is taken from the offset `begun` on, after the first `from` ratios of o, and what is taken after the first i ratios, which stand in
@@ -75,7 +75,7 @@ module _ (rule : Rule) (to : ℕ) (body o : List ℕ) (from begun : ℕ) where
       left = omega arith
 
       -- nothing
-      pub taking_stop : r ≡ Nothing → TakenOnto all from begun i at o out
+      pub taking_stop : r ≡ None → TakenOnto all from begun i at o out
       taking_stop e =
           taking_end (ap (λ (n : ℕ). taken_from rule window_size w n (drop at body)) left ∙ taken_stop rule window_size w (to - (i + 1)) (drop at body) (sym found ∙ e))
 

@@ -1,15 +1,18 @@
 -- The head of a form: the tests of its bytes, and that of bytes which the open rule reads as a ratio it decides whether they are written for it.
+use Rattle.std.specs.Prelude.{None, nat_eq}
+use Rattle.std.specs.List.{starts_with}
 use mathlib.Core.Path.{◌≡◌, refl, sym, ap, ap₂, ◌∙◌}
 use mathlib.Core.Bool.{Bool, true, false, cond}
 use mathlib.Core.List.{List, [], ◌∷◌}
 use Prim.Native.Nat.{ℕ, ◌+◌, ◌-◌, ◌*◌, ◌/◌, ◌%◌, ◌^◌, ◌≤◌, ◌<◌}
 use native.Mathlib.Nat.{mul-div_cancel}
 use native.Mathlib.Omega.{arith}
-use borrow.Author.Tests.{eq-eqb, ne_eqb, eqb-true, leb-true, le-ltb, lt-ltb, le-leb}
+use borrow.Author.Tests.{eqb-true, leb-true, le-ltb, lt-ltb, le-leb}
 use lib.Bits.{bit_xor}
 use lib.Dec.{eqb, leb}
 use lib.ListN.{length, get_or, take, drop, take-append-drop}
 use lib.Seq.{length-take-le}
+use Rattle.std.proofs.lemmas.Option.{some_pair_parts}
 use Rattle.lists.specs.Below.{Below}
 use Rattle.lists.specs.Compare.{both, begins}
 use Rattle.bits.specs.Digits.{bytes_of, number_of}
@@ -17,53 +20,32 @@ use Rattle.lists.proofs.Below.{below_take}
 use Rattle.lists.proofs.Compare.{begins_own}
 use Rattle.bits.proofs.Digits.{digits_number}
 use Rattle.ratio_format.specs.declared.RatioForm.{RatioForm}
-use Rattle.ratio_format.specs.declared.Read.TheVariants.{Ratio, Nothing}
 use Rattle.ratio_format.specs.Windows.{window_size}
 use Rattle.ratio_format.specs.Zeros.{lead_zeros, trail_zeros}
 use Rattle.ratio_format.specs.Choice.{best, ratio_form}
 use Rattle.ratio_format.specs.RatioForms.{xor_byte, exception_byte, written, coded}
-use Rattle.ratio_format.specs.Open.{open_one, open_xor}
+use Rattle.ratio_format.specs.Open.{Ratio, open_one, open_xor}
 use Rattle.ratio_format.proofs.Zeros.{trail_le, pos_256}
 use Rattle.ratio_format.proofs.Zeros.Sums.{xor-back}
 use Rattle.ratio_format.proofs.Choice.{ratio_form_cases, best_xor, best_at}
 use Rattle.ratio_codec.specs.Heads.{ratio_form_head}
 
--- the tests of one byte and of two
+-- the test of one byte, and the library's of many
 
 both_true : (t : Bool) → t ≡ both t true
 both_true true = refl
 both_true false = refl
-
-both_false : (t : Bool) → false ≡ both t false
-both_false true = refl
-both_false false = refl
-
-pub one_short : (s : List ℕ) (a : ℕ) → length s < 1 → false ≡ begins (a ∷ []) s
-unfolding begins
-one_short [] a h = refl
-one_short (x ∷ s) a h = absurd (omega arith)
 
 pub one_is : (s : List ℕ) (a : ℕ) → 1 ≤ length s → eqb a (get_or s 0 0) ≡ begins (a ∷ []) s
 unfolding begins
 one_is [] a h = absurd (omega arith)
 one_is (x ∷ s) a h = both_true (eqb a x)
 
-pub two_short : (s : List ℕ) (a b : ℕ) → length s < 2 → false ≡ begins (a ∷ b ∷ []) s
+pub starts_begins : (a s : List ℕ) → starts_with nat_eq s a ≡ begins a s
 unfolding begins
-two_short [] a b h = refl
-two_short (x ∷ []) a b h = both_false (eqb a x)
-two_short (x ∷ y ∷ s) a b h = absurd (omega arith)
-
-pub two-differs : (s : List ℕ) (a b : ℕ) → 2 ≤ length s → (a ≡ get_or s 0 0 → ⊥) → false ≡ begins (a ∷ b ∷ []) s
-unfolding begins
-two-differs [] a b h n = absurd (omega arith)
-two-differs (x ∷ s) a b h n = rw (ne_eqb a x n)
-
-pub two_is : (s : List ℕ) (a b : ℕ) → 2 ≤ length s → a ≡ get_or s 0 0 → eqb b (get_or s 1 0) ≡ begins (a ∷ b ∷ []) s
-unfolding begins
-two_is [] a b h e = absurd (omega arith)
-two_is (x ∷ []) a b h e = absurd (omega arith)
-two_is (x ∷ y ∷ s) a b h e = rw (eq-eqb a x e) (both_true (eqb b y))
+starts_begins [] s = refl
+starts_begins (b ∷ a) [] = refl
+starts_begins (b ∷ a) (c ∷ s) = ap (both (eqb b c)) (starts_begins a s)
 
 -- the head decides
 
@@ -76,7 +58,7 @@ begins_number n r hr h =
     ap₂ begins d (sym (take-append-drop n r)) ∙ begins_own (take n r) (drop n r)
 
 module _ (v k : ℕ) (w : List ℕ) (hw : length w ≤ window_size) where
-  never : {A : Type 0} → Nothing ≡ Ratio v k → A
+  never : {A : Type 0} → None ≡ Ratio v k → A
   never e = let z : ◌≡◌ {A = ℕ} 0 1 = cc in absurd (omega arith)
 
   -- after the head of an xor form the middle stands as it is written
@@ -90,12 +72,12 @@ module _ (v k : ℕ) (w : List ℕ) (hw : length w ≤ window_size) where
       go (leb n (length r)) refl
       (rw (le-ltb (p + xor_byte) xor_byte (omega arith), lt-ltb (p + xor_byte) exception_byte (omega arith), a, lt-ltb p (length w) h, b, c, le-leb (t + n) 8 g) at e)
     where
-      go : (x : Bool) → leb n (length r) ≡ x → cond x (Ratio (bit_xor (number_of 256 (take n r) * 256 ^ t) (get_or w p 0)) (n + 2)) Nothing ≡ Ratio v k
+      go : (x : Bool) → leb n (length r) ≡ x → cond x (Ratio (bit_xor (number_of 256 (take n r) * 256 ^ t) (get_or w p 0)) (n + 2)) None ≡ Ratio v k
           → begins (bytes_of n (bit_xor v (get_or w p 0) / 256 ^ t)) r ≡ true
       go true f e =
           let u = get_or w p 0 in
           let m = number_of 256 (take n r) in
-          let q : v ≡ bit_xor (m * 256 ^ t) u = cc in
+          let q : v ≡ bit_xor (m * 256 ^ t) u = sym (some_pair_parts _ _ _ _ e).0 in
           let y : bit_xor v u / 256 ^ t ≡ m =
           ap (λ (x : ℕ). bit_xor x u / 256 ^ t) q ∙ ap (λ (x : ℕ). x / 256 ^ t) (xor-back (m * 256 ^ t) u) ∙ mul-div_cancel m (pos_256 t) in
           ap (λ (x : ℕ). begins (bytes_of n x) r) y ∙ begins_number n r hr (leb-true n (length r) f)
@@ -122,9 +104,9 @@ module _ (v k : ℕ) (w : List ℕ) (hw : length w ≤ window_size) where
   exception-head [] hs e = refl
   exception-head (b ∷ r) hs e = go (eqb exception_byte b) refl
     where
-      at : (x : Bool) → leb 8 (length r) ≡ x → cond x (Ratio (number_of 256 (take 8 r)) 9) Nothing ≡ Ratio v k → begins (bytes_of 8 v) r ≡ true
+      at : (x : Bool) → leb 8 (length r) ≡ x → cond x (Ratio (number_of 256 (take 8 r)) 9) None ≡ Ratio v k → begins (bytes_of 8 v) r ≡ true
       at true f e =
-          let q : v ≡ number_of 256 (take 8 r) = cc in
+          let q : v ≡ number_of 256 (take 8 r) = sym (some_pair_parts _ _ _ _ e).0 in
           ap (λ (x : ℕ). begins (bytes_of 8 x) r) q ∙ begins_number 8 r hs.1 (leb-true 8 (length r) f)
       at false f e = never e
 

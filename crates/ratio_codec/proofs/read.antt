@@ -1,2 +1,3 @@
 -- Laws of how the functions of `read` go.
 pub mod References
+pub mod First

@@ -1,5 +1,5 @@
 // Reading one ratio: by the open rule, and strictly.
-ghost use Rattle.std.specs.Prelude.{◌≡◌, [], ◌∷◌, reverse, ◌+◌, ◌*◌, ◌^◌, ◌≤◌, ◌<◌, length, take, drop};
+ghost use Rattle.std.specs.Prelude.{◌≡◌, [], ◌∷◌, reverse, ◌+◌, ◌*◌, ◌^◌, ◌≤◌, ◌<◌, length, take, drop, get_or, MatchOption};
 ghost use Rattle.bits.specs.Digits.{number_of};
 ghost use Rattle.lists.specs.Compare.{begins};
 ghost use Rattle.ratio_format.specs.Windows.{window_size};
@@ -11,14 +11,14 @@ use super::search::pass_equal;
 use super::write::choose;
 use super::{EXCEPTION, XOR};
 use bits::{get_bytes, get_first};
-use ratio_format::{RatioForm, Read};
+use ratio_format::RatioForm;
 
-// The number m raised by t bytes. By 8 bytes only 0 is raised, and a shift by 64 bits is not allowed.
+// The number m raised by t bytes. By 8 bytes only 0 is raised.
 pub fn raised(m: u64, t: usize) -> u64
     requires { (t ≤ 8) × (m * 256 ^ t < 2 ^ 64) }
     ensures { result ≡ m * 256 ^ t }
 {
-    if t == 8 { 0 } else { m << (8 * t) }
+    m.unbounded_shl(8 * t as u32)
 }
 
 // The middle after the byte of the counts: by one load where eight bytes stand there.
@@ -33,73 +33,47 @@ fn middle_of(s: &[u8], len: usize) -> u64
 }
 
 // What stands after the byte of a place that holds u: the two counts, and the middle.
-fn read_xor(u: u64, s: &[u8]) -> Read
+fn read_xor(u: u64, s: &[u8]) -> Option<(u64, usize)>
     ensures { result ≡ open_xor u s.now }
 {
-    if s.len() == 0 {
-        return Read::Nothing;
-    }
-    let c = s[0] as usize;
+    let c = *s.first()? as usize;
     let trail = c / 16;
     let len = c % 16;
-    if 8 < trail + len {
-        return Read::Nothing;
-    }
-    if s.len() - 1 < len {
-        return Read::Nothing;
+    if 8 < trail + len || s.len() - 1 < len {
+        return None;
     }
     let m = middle_of(s, len);
-    Read::Ratio(raised(m, trail) ^ u, len + 2)
+    Some((raised(m, trail) ^ u, len + 2))
 }
 
-// The ratio at the front of the bytes, by the open rule.
-pub fn read_one_open(window: &[u64], s: &[u8]) -> Read
+// The ratio at place p of the window, if it holds one there.
+fn held_at(window: &[u64], p: usize) -> Option<u64>
+    ensures { MatchOption result (length window.now ≤ p) (λ u. (p < length window.now) × (u ≡ get_or (reverse window.now) p 0)) }
+{
+    if p < window.len() {
+        Some(window[window.len() - 1 - p])
+    } else {
+        None
+    }
+}
+
+// The ratio at the front of the bytes, and how many of them it takes, by the open rule.
+pub fn read_one_open(window: &[u64], s: &[u8]) -> Option<(u64, usize)>
     ensures { result ≡ open_one (reverse window.now) s.now }
 {
-    if s.len() == 0 {
-        return Read::Nothing;
-    }
-    let b = s[0] as usize;
+    let b = *s.first()? as usize;
     if b < XOR {
-        if b < window.len() {
-            return Read::Ratio(window[window.len() - 1 - b], 1);
-        }
-        return Read::Nothing;
+        let u = held_at(window, b)?;
+        return Some((u, 1));
     }
     if b < EXCEPTION {
-        let p = b - XOR;
-        if p < window.len() {
-            return read_xor(window[window.len() - 1 - p], &s[1..]);
-        }
-        return Read::Nothing;
+        let u = held_at(window, b - XOR)?;
+        return read_xor(u, &s[1..]);
     }
-    if 9 <= s.len() {
-        return Read::Ratio(get_bytes(s, 1, 8), 9);
+    if s.len() < 9 {
+        return None;
     }
-    Read::Nothing
-}
-
-// Whether the bytes begin with a.
-fn has_one(s: &[u8], a: usize) -> bool
-    ensures { result ≡ begins (a ∷ []) s.now }
-{
-    if s.len() < 1 {
-        return false;
-    }
-    a == s[0] as usize
-}
-
-// Whether the bytes begin with a and b.
-fn has_two(s: &[u8], a: usize, b: usize) -> bool
-    ensures { result ≡ begins (a ∷ b ∷ []) s.now }
-{
-    if s.len() < 2 {
-        return false;
-    }
-    if a != s[0] as usize {
-        return false;
-    }
-    b == s[1] as usize
+    Some((get_bytes(s, 1, 8), 9))
 }
 
 // Whether the bytes begin as the form does.
@@ -108,48 +82,35 @@ pub fn has_head(f: RatioForm, s: &[u8]) -> bool
     ensures { result ≡ begins (ratio_form_head f) s.now }
 {
     match f {
-        RatioForm::Reference(place) => has_one(s, place),
+        RatioForm::Reference(place) => s.starts_with(&[place as u8]),
         RatioForm::Xor {
             place,
             trail,
             len,
             middle: _,
-        } => has_two(s, place + XOR, trail * 16 + len),
-        RatioForm::Exception => has_one(s, EXCEPTION),
+        } => s.starts_with(&[(place + XOR) as u8, (trail * 16 + len) as u8]),
+        RatioForm::Exception => s.starts_with(&[EXCEPTION as u8]),
     }
 }
 
 // The ratio at the front of the bytes, where they are those that are written for it: of bytes that are read as a ratio, the head decides.
-fn read_by_head(window: &[u64], s: &[u8]) -> Read
+fn read_by_head(window: &[u64], s: &[u8]) -> Option<(u64, usize)>
     requires { length window.now ≤ window_size }
     ensures { result ≡ strict_one (reverse window.now) s.now }
 {
-    let r = read_one_open(window, s);
-    let Read::Ratio(v, n) = r else {
-        return Read::Nothing;
-    };
-    let f = choose(window, v);
-    if has_head(f, s) {
-        return Read::Ratio(v, n);
-    }
-    Read::Nothing
+    let (v, n) = read_one_open(window, s)?;
+    has_head(choose(window, v), s).then_some((v, n))
 }
 
 // The same. A place needs no search: it is what is written where no nearer one holds an equal ratio.
-pub fn read_one_strict(window: &[u64], s: &[u8]) -> Read
+pub fn read_one_strict(window: &[u64], s: &[u8]) -> Option<(u64, usize)>
     requires { length window.now ≤ window_size }
     ensures { result ≡ strict_one (reverse window.now) s.now }
 {
-    if s.len() == 0 {
-        return Read::Nothing;
-    }
-    let b = s[0] as usize;
+    let b = *s.first()? as usize;
     if b < window.len() {
         let v = window[window.len() - 1 - b];
-        if pass_equal(window, 0, v) == b {
-            return Read::Ratio(v, 1);
-        }
-        return Read::Nothing;
+        return (pass_equal(window, 0, v) == b).then_some((v, 1));
     }
     read_by_head(window, s)
 }

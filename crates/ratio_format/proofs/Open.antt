@@ -2,6 +2,7 @@
 -- that ratio, whatever follows, and strict reading takes exactly that; and what a ratio that was read says: it has 64 bits, its bytes are
 -- there, and no form that is read as it is shorter than the one that is written.
 pub mod Shortest
+use Rattle.std.specs.Prelude.{None}
 use mathlib.Core.Path.{◌≡◌, refl, sym, ap, ◌∙◌, subst}
 use mathlib.Core.Bool.{Bool, true, false, cond}
 use mathlib.Core.List.{List, [], ◌∷◌, ◌++◌}
@@ -12,6 +13,8 @@ use lib.ListN.{length, get_or, take, drop, length-append, length-drop}
 use lib.Dec.{lit<, leb, ltb}
 use lib.Seq.{take_at, length-take-le}
 use borrow.Author.Tests.{lt-ltb, le-ltb, le-leb, lt-leb, ltb-true, leb-true}
+use Rattle.std.specs.Bool.{then_some}
+use Rattle.std.proofs.lemmas.Option.{some_pair_parts}
 use Rattle.lists.specs.Compare.{begins}
 use Rattle.lists.specs.Below.{Below}
 use Rattle.bits.specs.Digits.{number_of, bytes_of}
@@ -19,13 +22,11 @@ use Rattle.lists.proofs.Below.{below_at, below_take, below_drop}
 use Rattle.lists.proofs.Compare.{begins_own, begins_rest}
 use Rattle.bits.proofs.Digits.{length_digits, number_digits_lt, number_lt}
 use Rattle.ratio_format.specs.declared.RatioForm.{RatioForm}
-use Rattle.ratio_format.specs.declared.Read.{Read}
-use Rattle.ratio_format.specs.declared.Read.TheVariants.{Ratio, Nothing}
 use Rattle.ratio_format.specs.Zeros.{lead_zeros, trail_zeros, sum_of}
 use Rattle.ratio_format.specs.Windows.{window_size}
 use Rattle.ratio_format.specs.Choice.{best, find, ratio_form}
 use Rattle.ratio_format.specs.RatioForms.{xor_byte, exception_byte, written, coded}
-use Rattle.ratio_format.specs.Open.{open_one, open_xor, strict_one, strict_of}
+use Rattle.ratio_format.specs.Open.{Read, Ratio, open_one, open_xor, strict_one, strict_of}
 use Rattle.ratio_format.proofs.Zeros.{trail_factor, middle_fits, raised_fits, zeros_most}
 use Rattle.ratio_format.proofs.Zeros.Sums.{xor-back}
 use Rattle.ratio_format.proofs.Choice.{best_at, best_most, find_at, find_lt, ratio_form_cases, best-xor, absent_small}
@@ -35,17 +36,17 @@ use Rattle.ratio_format.proofs.RatioForms.{ratio_form_len, coded_is, coded-lengt
 
 -- after the byte of a place that holds u
 module _ (u : ℕ) where
-  pub xor-empty : (s : List ℕ) → length s ≡ 0 → Nothing ≡ open_xor u s
+  pub xor-empty : (s : List ℕ) → length s ≡ 0 → None ≡ open_xor u s
   unfolding open_xor
   xor-empty [] e = refl
   xor-empty (c ∷ s) e = absurd (omega arith)
 
-  pub xor_high : (s : List ℕ) → (length s ≡ 0 → ⊥) → 8 < get_or s 0 0 / 16 + get_or s 0 0 % 16 → Nothing ≡ open_xor u s
+  pub xor_high : (s : List ℕ) → (length s ≡ 0 → ⊥) → 8 < get_or s 0 0 / 16 + get_or s 0 0 % 16 → None ≡ open_xor u s
   unfolding open_xor
   xor_high [] n h = absurd (n refl)
   xor_high (c ∷ s) n h = rw (lt-leb (c / 16 + c % 16) 8 h)
 
-  pub xor_short : (s : List ℕ) → (length s ≡ 0 → ⊥) → get_or s 0 0 / 16 + get_or s 0 0 % 16 ≤ 8 → length s - 1 < get_or s 0 0 % 16 → Nothing ≡ open_xor u s
+  pub xor_short : (s : List ℕ) → (length s ≡ 0 → ⊥) → get_or s 0 0 / 16 + get_or s 0 0 % 16 ≤ 8 → length s - 1 < get_or s 0 0 % 16 → None ≡ open_xor u s
   unfolding open_xor
   xor_short [] n h g = absurd (n refl)
   xor_short (c ∷ s) n h g = rw (le-leb (c / 16 + c % 16) 8 h, lt-leb (c % 16) (length s) (omega arith))
@@ -58,7 +59,7 @@ module _ (u : ℕ) where
 
 -- from the first byte on
 module _ (w : List ℕ) where
-  pub open_empty : (s : List ℕ) → length s ≡ 0 → Nothing ≡ open_one w s
+  pub open_empty : (s : List ℕ) → length s ≡ 0 → None ≡ open_one w s
   unfolding open_one
   open_empty [] e = refl
   open_empty (c ∷ s) e = absurd (omega arith)
@@ -68,7 +69,7 @@ module _ (w : List ℕ) where
   open_reference [] v n h g e = absurd (n refl)
   open_reference (b ∷ s) v n h g e = rw (lt-ltb b xor_byte h, lt-ltb b (length w) g, e)
 
-  pub open_far : (s : List ℕ) → (length s ≡ 0 → ⊥) → get_or s 0 0 < xor_byte → length w ≤ get_or s 0 0 → Nothing ≡ open_one w s
+  pub open_far : (s : List ℕ) → (length s ≡ 0 → ⊥) → get_or s 0 0 < xor_byte → length w ≤ get_or s 0 0 → None ≡ open_one w s
   unfolding open_one
   open_far [] n h g = absurd (n refl)
   open_far (b ∷ s) n h g = rw (lt-ltb b xor_byte h, le-ltb b (length w) g)
@@ -79,7 +80,7 @@ module _ (w : List ℕ) where
   open_xor_lem [] u r n h g f e q = absurd (n refl)
   open_xor_lem (b ∷ s) u r n h g f e q = rw (le-ltb b xor_byte h, lt-ltb b exception_byte g, lt-ltb (b - xor_byte) (length w) f) (q ∙ ap (λ (x : ℕ). open_xor x s) e)
 
-  pub open_away : (s : List ℕ) → (length s ≡ 0 → ⊥) → xor_byte ≤ get_or s 0 0 → get_or s 0 0 < exception_byte → length w ≤ get_or s 0 0 - xor_byte → Nothing ≡ open_one w s
+  pub open_away : (s : List ℕ) → (length s ≡ 0 → ⊥) → xor_byte ≤ get_or s 0 0 → get_or s 0 0 < exception_byte → length w ≤ get_or s 0 0 - xor_byte → None ≡ open_one w s
   unfolding open_one
   open_away [] n h g f = absurd (n refl)
   open_away (b ∷ s) n h g f = rw (le-ltb b xor_byte h, lt-ltb b exception_byte g, le-ltb (b - xor_byte) (length w) f)
@@ -89,24 +90,25 @@ module _ (w : List ℕ) where
   open_exception [] v h g e = absurd (omega arith)
   open_exception (b ∷ s) v h g e = rw (le-ltb b xor_byte (omega arith), le-ltb b exception_byte h, le-leb 8 (length s) (omega arith), e)
 
-  pub open_cut : (s : List ℕ) → (length s ≡ 0 → ⊥) → exception_byte ≤ get_or s 0 0 → length s < 9 → Nothing ≡ open_one w s
+  pub open_cut : (s : List ℕ) → (length s ≡ 0 → ⊥) → exception_byte ≤ get_or s 0 0 → length s < 9 → None ≡ open_one w s
   unfolding open_one
   open_cut [] n h g = absurd (n refl)
   open_cut (b ∷ s) n h g = rw (le-ltb b xor_byte (omega arith), le-ltb b exception_byte h, lt-leb 8 (length s) (omega arith))
 
 -- strict reading, from an open one
 module _ (w s : List ℕ) (r : Read) (o : r ≡ open_one w s) where
-  pub strict_nothing : r ≡ Nothing → Nothing ≡ strict_one w s
+  pub strict_nothing : r ≡ None → None ≡ strict_one w s
   unfolding strict_one
   strict_nothing e = ap (strict_of w s) (sym e ∙ o)
 
-  pub strict_good : (v n : ℕ) (t : Bool) → r ≡ Ratio v n → t ≡ begins (coded v w) s → t ≡ true → Ratio v n ≡ strict_one w s
+  -- of a ratio read openly the test of its bytes decides
+  pub strict_if : (v n : ℕ) (t : Bool) → r ≡ Ratio v n → t ≡ begins (coded v w) s → then_some t (v, n) ≡ strict_one w s
   unfolding strict_one
-  strict_good v n t e b q = ap (λ (x : Bool). cond x (Ratio v n) Nothing) (sym q ∙ b) ∙ ap (strict_of w s) (sym e ∙ o)
-
-  pub strict_other : (v n : ℕ) (t : Bool) → r ≡ Ratio v n → t ≡ begins (coded v w) s → t ≡ false → Nothing ≡ strict_one w s
-  unfolding strict_one
-  strict_other v n t e b q = ap (λ (x : Bool). cond x (Ratio v n) Nothing) (sym q ∙ b) ∙ ap (strict_of w s) (sym e ∙ o)
+  strict_if v n t e b = given t ∙ ap (λ (x : Bool). cond x (Ratio v n) None) b ∙ ap (strict_of w s) (sym e ∙ o)
+    where
+      given : (x : Bool) → then_some x (v, n) ≡ cond x (Ratio v n) None
+      given true = refl
+      given false = refl
 
 -- ---- what is written is read back
 
@@ -160,13 +162,13 @@ pub strict_open : (v n : ℕ) (w s : List ℕ) → strict_one w s ≡ Ratio v n 
 unfolding strict_one
 strict_open v n w s e = go (open_one w s) refl e
   where
-    at : (v' n' : ℕ) → open_one w s ≡ Ratio v' n' → (t : Bool) → begins (coded v' w) s ≡ t → cond t (Ratio v' n') Nothing ≡ Ratio v n
+    at : (v' n' : ℕ) → open_one w s ≡ Ratio v' n' → (t : Bool) → begins (coded v' w) s ≡ t → cond t (Ratio v' n') None ≡ Ratio v n
         → (open_one w s ≡ Ratio v n) × (begins (coded v w) s ≡ true)
-    at v' n' q true b e = let i : v' ≡ v = cc in (q ∙ e, rw i at b)
+    at v' n' q true b e = let i : v' ≡ v = (some_pair_parts v' v n' n e).0 in (q ∙ e, rw i at b)
     at v' n' q false b e = let z : ◌≡◌ {A = ℕ} 0 1 = cc in absurd (omega arith)
 
     go : (r : Read) → open_one w s ≡ r → strict_of w s r ≡ Ratio v n → (open_one w s ≡ Ratio v n) × (begins (coded v w) s ≡ true)
-    go Nothing q e = let z : ◌≡◌ {A = ℕ} 0 1 = cc in absurd (omega arith)
+    go None q e = let z : ◌≡◌ {A = ℕ} 0 1 = cc in absurd (omega arith)
     go (Ratio v' n') q e = at v' n' q (begins (coded v' w) s) refl e
 
 -- and nothing else: a ratio that strict reading gives stands there as it is written
@@ -176,8 +178,7 @@ strict_only v n w s hv ha hw e =
     let o = strict_open v n w s e in
     let r = begins_rest (coded v w) s o.1 in
     let b : open_one w s ≡ Ratio v (length (coded v w)) = rw r.1 (read_back v w r.0 hv ha hw) in
-    let a = o.0 in
-    (r.0, r.1, cc)
+    (r.0, r.1, (some_pair_parts v v n (length (coded v w)) (sym o.0 ∙ b)).1)
 
 -- ---- what a ratio that was read says
 
@@ -192,8 +193,12 @@ module _ (w : List ℕ) (v k : ℕ) where
   abbrev When : Read → Type 0
   When r = r ≡ Ratio v k
 
-  never : {A : Type 0} → When Nothing → A
+  never : {A : Type 0} → When None → A
   never e = let z : ◌≡◌ {A = ℕ} 0 1 = cc in absurd (omega arith)
+
+  -- of a ratio read both numbers are known
+  parts : (x n : ℕ) → When (Ratio x n) → (v ≡ x) × (k ≡ n)
+  parts x n e = let p = some_pair_parts x v n k e in (sym p.0, sym p.1)
 
   xor_opened : (b p : ℕ) (s : List ℕ) → p < length w → When (open_xor (get_or w p 0) s) → Opened w (b ∷ s) v k
   unfolding open_xor
@@ -201,10 +206,10 @@ module _ (w : List ℕ) (v k : ℕ) where
   xor_opened b p (c ∷ s) h e = go (leb (c / 16 + c % 16) 8) refl (leb (c % 16) (length s)) refl e
     where
       go : (x : Bool) → leb (c / 16 + c % 16) 8 ≡ x → (y : Bool) → leb (c % 16) (length s) ≡ y
-          → When (cond x (cond y (Ratio (bit_xor (number_of 256 (take (c % 16) s) * 256 ^ (c / 16)) (get_or w p 0)) (c % 16 + 2)) Nothing) Nothing)
+          → When (cond x (cond y (Ratio (bit_xor (number_of 256 (take (c % 16) s) * 256 ^ (c / 16)) (get_or w p 0)) (c % 16 + 2)) None) None)
           → Opened w (b ∷ c ∷ s) v k
       go true f true g e =
-          xored p (c / 16) (c % 16) h (leb-true (c / 16 + c % 16) 8 f) (omega (arith, leb-true (c % 16) (length s) g)) (cc) (cc)
+          xored p (c / 16) (c % 16) h (leb-true (c / 16 + c % 16) 8 f) (omega (arith, leb-true (c % 16) (length s) g)) (parts _ _ e).0 (parts _ _ e).1
       go true f false g e = never e
       go false f y g e = never e
 
@@ -215,14 +220,14 @@ module _ (w : List ℕ) (v k : ℕ) where
       go (ltb b xor_byte) (ltb b (length w)) refl (ltb b exception_byte) (ltb (b - xor_byte) (length w)) refl (leb 8 (length s)) refl e
     where
       go : (x y : Bool) → ltb b (length w) ≡ y → (f g : Bool) → ltb (b - xor_byte) (length w) ≡ g → (n : Bool) → leb 8 (length s) ≡ n
-          → When (cond x (cond y (Ratio (get_or w b 0) 1) Nothing)
-          (cond f (cond g (open_xor (get_or w (b - xor_byte) 0) s) Nothing) (cond n (Ratio (number_of 256 (take 8 s)) 9) Nothing)))
+          → When (cond x (cond y (Ratio (get_or w b 0) 1) None)
+          (cond f (cond g (open_xor (get_or w (b - xor_byte) 0) s) None) (cond n (Ratio (number_of 256 (take 8 s)) 9) None)))
           → Opened w (b ∷ s) v k
-      go true true y f g eg n en e = referred b (ltb-true b (length w) y) (omega arith) (cc) (cc)
+      go true true y f g eg n en e = referred b (ltb-true b (length w) y) (omega arith) (parts _ _ e).0 (parts _ _ e).1
       go true false y f g eg n en e = never e
       go false x y true true eg n en e = xor_opened b (b - xor_byte) s (ltb-true (b - xor_byte) (length w) eg) e
       go false x y true false eg n en e = never e
-      go false x y false g eg true en e = excepted (omega (arith, leb-true 8 (length s) en)) (cc) (cc)
+      go false x y false g eg true en e = excepted (omega (arith, leb-true 8 (length s) en)) (parts _ _ e).0 (parts _ _ e).1
       go false x y false g eg false en e = never e
 
 -- n bytes from i on are a number below 256 ^ n

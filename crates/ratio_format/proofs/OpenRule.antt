@@ -1,4 +1,5 @@
 -- The open rule as document 01 words it (specs/OpenRule): what `open_one` and `open_ratios` answer is what the rule says.
+use Rattle.std.specs.Prelude.{None}
 use mathlib.Core.Path.{◌≡◌, refl, sym, ap, ap₂, ◌∙◌, subst}
 use mathlib.Core.Bool.{Bool, true, false}
 use mathlib.Core.List.{List, [], ◌∷◌, ◌++◌, append-nil, append_assoc}
@@ -10,14 +11,13 @@ use lib.Dec.{leb, ltb}
 use lib.ListN.{length, get_or, take, drop, replicate, length-append, length-replicate, take-append-drop}
 use lib.Seq.{take_at, drop_at, length-take-le}
 use borrow.Author.Tests.{ltb-true, ltb-false, leb-true, leb-false}
+use Rattle.std.proofs.lemmas.Option.{some_pair_parts}
 use Rattle.lists.specs.Below.{Below}
 use Rattle.lists.proofs.Below.{below_drop}
 use Rattle.bits.specs.Digits.{number_of}
 use Rattle.bits.proofs.Digits.{number_append}
-use Rattle.ratio_format.specs.declared.Read.{Read}
-use Rattle.ratio_format.specs.declared.Read.TheVariants.{Ratio, Nothing}
 use Rattle.ratio_format.specs.Windows.{window_size, push}
-use Rattle.ratio_format.specs.Open.{open_one, open_xor}
+use Rattle.ratio_format.specs.Open.{Read, Ratio, open_one, open_xor}
 use Rattle.ratio_format.specs.Bodies.{open_from, before}
 use Rattle.ratio_format.specs.OpenRule.{OpenReads, empty, place_held, place_not_held, xor_place_not_held, counts_missing, counts_above_eight, middle_cut, xored, exception, exception_cut, OpenForms, ReadAs, OpenBodies}
 use Rattle.ratio_format.proofs.Open.{xor-empty, xor_high, xor_short, xor_good, open_empty, open_reference, open_far, open_xor_lem, open_away, open_exception, open_cut}
@@ -91,7 +91,7 @@ module _ (w : List ℕ) where
 
   -- past the byte of a place that holds a ratio
   said_past : (p : ℕ) (s : List ℕ) → p < 127 → p < length w → (r : Read) × OpenReads w ((p + 128) ∷ s) r
-  said_past p [] h g = (Nothing, counts_missing p refl h g refl)
+  said_past p [] h g = (None, counts_missing p refl h g refl)
   said_past p (c ∷ s) h g = go (leb (c / 16 + c % 16) 8) refl (leb (c % 16) (length s)) refl
     where
       split : c ≡ c / 16 * 16 + c % 16
@@ -99,9 +99,9 @@ module _ (w : List ℕ) where
 
       go : (a : Bool) → leb (c / 16 + c % 16) 8 ≡ a → (b : Bool) → leb (c % 16) (length s) ≡ b → (r : Read) × OpenReads w ((p + 128) ∷ c ∷ s) r
       go false a b eb =
-          (Nothing, counts_above_eight p (c / 16) (c % 16) s (ap (λ (x : ℕ). (p + 128) ∷ x ∷ s) split) h g (omega arith) (leb-false (c / 16 + c % 16) 8 a) refl)
+          (None, counts_above_eight p (c / 16) (c % 16) s (ap (λ (x : ℕ). (p + 128) ∷ x ∷ s) split) h g (omega arith) (leb-false (c / 16 + c % 16) 8 a) refl)
       go true a false b =
-          (Nothing, middle_cut p (c / 16) (c % 16) s (ap (λ (x : ℕ). (p + 128) ∷ x ∷ s) split) h g (leb-true (c / 16 + c % 16) 8 a) (leb-false (c % 16) (length s) b) refl)
+          (None, middle_cut p (c / 16) (c % 16) s (ap (λ (x : ℕ). (p + 128) ∷ x ∷ s) split) h g (leb-true (c / 16 + c % 16) 8 a) (leb-false (c % 16) (length s) b) refl)
       go true a true b =
           let m = take (c % 16) s in
           let n : length m ≡ c % 16 = length-take-le (c % 16) s (leb-true (c % 16) (length s) b) in
@@ -112,7 +112,7 @@ module _ (w : List ℕ) where
 
   said : (s : List ℕ) → Below 256 s → (r : Read) × OpenReads w s r
   unfolding Below
-  said [] h = (Nothing, empty refl refl)
+  said [] h = (None, empty refl refl)
   said (b ∷ s) h = go (ltb b 128) refl (ltb b (length w)) refl (ltb b 255) refl (ltb (b - 128) (length w)) refl (ltb (length s) 8) refl
     where
       high : b < 256 → 255 ≤ b → b ≡ 255
@@ -121,7 +121,7 @@ module _ (w : List ℕ) where
       go : (x : Bool) → ltb b 128 ≡ x → (y : Bool) → ltb b (length w) ≡ y → (z : Bool) → ltb b 255 ≡ z → (g : Bool) → ltb (b - 128) (length w) ≡ g
           → (n : Bool) → ltb (length s) 8 ≡ n → (r : Read) × OpenReads w (b ∷ s) r
       go true x true y z ez g eg n en = (Ratio (get_or w b 0) 1, place_held b s refl (ltb-true b 128 x) (ltb-true b (length w) y) refl)
-      go true x false y z ez g eg n en = (Nothing, place_not_held b s refl (ltb-true b 128 x) (ltb-false b (length w) y) refl)
+      go true x false y z ez g eg n en = (None, place_not_held b s refl (ltb-true b 128 x) (ltb-false b (length w) y) refl)
       go false x y ey true z true g n en =
           let l = ltb-false b 128 x in
           let e : b - 128 + 128 ≡ b = omega arith in
@@ -129,9 +129,9 @@ module _ (w : List ℕ) where
       go false x y ey true z false g n en =
           let l = ltb-false b 128 x in
           let e : b ≡ b - 128 + 128 = omega arith in
-          (Nothing, xor_place_not_held (b - 128) s (ap (λ (c : ℕ). c ∷ s) e) (omega (arith, ltb-true b 255 z)) (ltb-false (b - 128) (length w) g) refl)
+          (None, xor_place_not_held (b - 128) s (ap (λ (c : ℕ). c ∷ s) e) (omega (arith, ltb-true b 255 z)) (ltb-false (b - 128) (length w) g) refl)
       go false x y ey false z g eg true n =
-          (Nothing, exception_cut s (ap (λ (c : ℕ). c ∷ s) (high h.0 (ltb-false b 255 z))) (ltb-true (length s) 8 n) refl)
+          (None, exception_cut s (ap (λ (c : ℕ). c ∷ s) (high h.0 (ltb-false b 255 z))) (ltb-true (length s) 8 n) refl)
       go false x y ey false z g eg false n =
           let e = take 8 s in
           let l : length e ≡ 8 = length-take-le 8 s (ltb-false (length s) 8 n) in (
@@ -149,8 +149,11 @@ open_forms w s r h = (
 
 -- a ratio that is read is read from its own bytes alone, and with any bytes behind these
 module _ (w : List ℕ) (v k : ℕ) where
-  never : {A : Type 0} → Ratio v k ≡ Nothing → A
+  never : {A : Type 0} → Ratio v k ≡ None → A
   never e = let z : ◌≡◌ {A = ℕ} 0 1 = cc in absurd (omega arith)
+
+  size : {x n : ℕ} → Ratio v k ≡ Ratio x n → k ≡ n
+  size {x} {n} q = (some_pair_parts v x k n q).1
 
   front : (s f rest : List ℕ) → s ≡ f ++ rest → k ≡ length f → OpenReads w f (Ratio v k) → OpenReads w (take k s) (Ratio v (length (take k s)))
   front s f rest e q o =
@@ -159,7 +162,7 @@ module _ (w : List ℕ) (v k : ℕ) where
 
   alone : (s : List ℕ) → OpenReads w s (Ratio v k) → OpenReads w (take k s) (Ratio v (length (take k s)))
   alone s (empty e q) = never q
-  alone s (place_held p rest e h g q) = front s (p ∷ []) rest e (cc) (place_held p [] refl h g q)
+  alone s (place_held p rest e h g q) = front s (p ∷ []) rest e (size q) (place_held p [] refl h g q)
   alone s (place_not_held p rest e h g q) = never q
   alone s (xor_place_not_held p rest e h g q) = never q
   alone s (counts_missing p e h g q) = never q
@@ -167,10 +170,10 @@ module _ (w : List ℕ) (v k : ℕ) where
   alone s (middle_cut p t n rest e h g m l q) = never q
   alone s (xored p t middle rest e h g m q) =
       let c = t * 16 + length middle in
-      let n : k ≡ 2 + length middle = cc in
+      let n : k ≡ 2 + length middle = size q in
       front s ((p + 128) ∷ c ∷ middle) rest e (omega (arith, n)) (xored p t middle [] (ap (λ (l : List ℕ). (p + 128) ∷ c ∷ l) (sym (append-nil middle))) h g m q)
   alone s (exception eight rest e h q) =
-      let n : k ≡ 9 = cc in
+      let n : k ≡ 9 = size q in
       front s (255 ∷ eight) rest e (omega (arith, n)) (exception eight [] (ap (λ (l : List ℕ). 255 ∷ l) (sym (append-nil eight))) h q)
   alone s (exception_cut rest e h q) = never q
 

@@ -1,4 +1,5 @@
 -- Laws of a step: its refusal by its tests, what it leaves by its refusal, and what successive steps answer.
+use Rattle.std.specs.Prelude.{None}
 use mathlib.Core.Path.{◌≡◌, refl, sym, ap, ap₂, ◌∙◌}
 use mathlib.Core.Bool.{Bool, true, false, cond}
 use mathlib.Core.List.{List, [], ◌∷◌, ◌++◌, map}
@@ -14,13 +15,11 @@ use Rattle.lists.proofs.Below.{below_drop}
 use Rattle.limits.specs.Points.{max_points}
 use Rattle.refusals.specs.Tests.{no_refusal}
 use Rattle.refusals.proofs.Tests.{first_of_here, first_of_skip, first_of_end}
-use Rattle.ratio_format.specs.declared.Read.{Read}
-use Rattle.ratio_format.specs.declared.Read.TheVariants.{Ratio, Nothing}
 use Rattle.ratio_format.specs.declared.Cursor.{Cursor}
 use Rattle.ratio_format.specs.declared.StepAnswer.{StepAnswer}
 use Rattle.ratio_format.specs.Windows.{window_size, fresh_window, push, held, pushed}
 use Rattle.ratio_format.specs.RatioForms.{coded}
-use Rattle.ratio_format.specs.Open.{strict_one}
+use Rattle.ratio_format.specs.Open.{Read, Ratio, strict_one}
 use Rattle.ratio_format.specs.Bodies.{coded_from, coded_ratios}
 use Rattle.ratio_format.specs.Lives.{bad_window}
 use Rattle.ratio_format.specs.Stepping.{made, made_body, made_cursor, bad_cursor, next_read, step_refusal, step_answer, step_cursor}
@@ -84,7 +83,7 @@ module _ (b : List ℕ) (c : Cursor) where
       let e = eq-eqb c.seen c.count s in
       first_of_skip _ _ g ∙ first_of_skip _ _ (rw e (ne_eqb c.place (length b) p)) ∙ first_of_here _ _ e
 
-  pub step_no : bad_cursor b c ≡ false → (c.seen ≡ c.count → ⊥) → next_read b c ≡ Nothing → step_refusal b c ≡ refusal_by 18
+  pub step_no : bad_cursor b c ≡ false → (c.seen ≡ c.count → ⊥) → next_read b c ≡ None → step_refusal b c ≡ refusal_by 18
   unfolding step_refusal
   step_no g s r =
       let e = ne_eqb c.seen c.count s in
@@ -113,7 +112,7 @@ module _ (b : List ℕ) (c : Cursor) where
     bad : bad_cursor b c ≡ true → StepOutcome
     end : bad_cursor b c ≡ false → c.seen ≡ c.count → c.place ≡ length b → StepOutcome
     over : bad_cursor b c ≡ false → c.seen ≡ c.count → (c.place ≡ length b → ⊥) → StepOutcome
-    no : bad_cursor b c ≡ false → (c.seen ≡ c.count → ⊥) → next_read b c ≡ Nothing → StepOutcome
+    no : bad_cursor b c ≡ false → (c.seen ≡ c.count → ⊥) → next_read b c ≡ None → StepOutcome
     yes : (v k : ℕ) → bad_cursor b c ≡ false → (c.seen ≡ c.count → ⊥) → next_read b c ≡ Ratio v k → StepOutcome
 
   pub step_outcome : StepOutcome
@@ -124,7 +123,7 @@ module _ (b : List ℕ) (c : Cursor) where
       go true g s es p ep r er = bad g
       go false g true s true p r er = end g (eqb-true c.seen c.count s) (eqb-true c.place (length b) p)
       go false g true s false p r er = over g (eqb-true c.seen c.count s) (eqb-false c.place (length b) p)
-      go false g false s p ep Nothing r = no g (eqb-false c.seen c.count s) r
+      go false g false s p ep None r = no g (eqb-false c.seen c.count s) r
       go false g false s p ep (Ratio v k) r = yes v k g (eqb-false c.seen c.count s) r
 
   -- what is answered and left in each
@@ -137,7 +136,7 @@ module _ (b : List ℕ) (c : Cursor) where
   pub left_over : bad_cursor b c ≡ false → c.seen ≡ c.count → (c.place ≡ length b → ⊥) → (step_answer b c ≡ refusal 18) × (step_cursor b c ≡ c)
   left_over g s p = step-refused 18 refl (step-over g s p)
 
-  pub left_no : bad_cursor b c ≡ false → (c.seen ≡ c.count → ⊥) → next_read b c ≡ Nothing → (step_answer b c ≡ refusal 18) × (step_cursor b c ≡ c)
+  pub left_no : bad_cursor b c ≡ false → (c.seen ≡ c.count → ⊥) → next_read b c ≡ None → (step_answer b c ≡ refusal 18) × (step_cursor b c ≡ c)
   left_no g s r = step-refused 18 refl (step_no g s r)
 
   pub left_ratio : (v k : ℕ) → bad_cursor b c ≡ false → (c.seen ≡ c.count → ⊥) → next_read b c ≡ Ratio v k

@@ -1,4 +1,5 @@
 -- The claims of specs/SteppingClaims on making a reader and on one step; those on successive steps are proved in proofs/Stepping.
+use Rattle.std.specs.Prelude.{None}
 use mathlib.Core.Bool.{Bool, true, false, cond}
 use mathlib.Core.List.{List, ◌++◌}
 use mathlib.Core.Path.{◌≡◌, refl, ap, ◌∙◌}
@@ -10,12 +11,10 @@ use lib.ListN.{length, drop, take}
 use Rattle.lists.specs.Below.{Below}
 use Rattle.lists.proofs.Below.{below_take, below_drop}
 use Rattle.limits.specs.Points.{max_points}
-use Rattle.ratio_format.specs.declared.Read.{Read}
-use Rattle.ratio_format.specs.declared.Read.TheVariants.{Ratio, Nothing}
 use Rattle.ratio_format.specs.declared.Cursor.{Cursor}
 use Rattle.ratio_format.specs.Windows.{window_size, held}
 use Rattle.ratio_format.specs.RatioForms.{coded}
-use Rattle.ratio_format.specs.Open.{strict_one}
+use Rattle.ratio_format.specs.Open.{Read, Ratio, strict_one}
 use Rattle.ratio_format.specs.Lives.{bad_window}
 use Rattle.ratio_format.specs.Stepping.{bad_cursor, next_read, step_answer, step_cursor}
 use Rattle.ratio_format.specs.SteppingClaims.{Makes, GoodReader, StepsSo, Steps}
@@ -80,12 +79,12 @@ module _ (b : List ℕ) (c : Cursor) where
     unfolding w
     few g = omega (arith, g.filled, held-length c.window (omega (arith, g.filled)))
 
-    none : GoodReader b c → ((v : ℕ) (rest : List ℕ) → v < 2 ^ 64 → drop c.place b ≡ coded v w ++ rest → ⊥) → next_read b c ≡ Nothing
+    none : GoodReader b c → ((v : ℕ) (rest : List ℕ) → v < 2 ^ 64 → drop c.place b ≡ coded v w ++ rest → ⊥) → next_read b c ≡ None
     unfolding w
     none g never = go (next_read b c) refl
       where
-        go : (r : Read) → next_read b c ≡ r → next_read b c ≡ Nothing
-        go Nothing e = e
+        go : (r : Read) → next_read b c ≡ r → next_read b c ≡ None
+        go None e = e
         go (Ratio v k) e =
             let s = drop c.place b in
             let h = (open_value w s v k (below_drop 256 c.place b bytes) below (strict_open v k w s e).0).0 in

@@ -13,14 +13,12 @@
 --   open_taken n s           by the open rule, from a fresh window of our size
 --   strict_taken n s         strictly
 --   whole_taken n s t        the ratios of t, where they are n and used every byte of s; or nothing
-use Rattle.std.specs.Prelude.{cond, List, [], ◌∷◌, ◌++◌, ℕ, zero, suc, ◌+◌, eqb, length, drop}
+use Rattle.std.specs.Prelude.{cond, List, [], ◌∷◌, ◌++◌, ℕ, zero, suc, ◌+◌, eqb, length, drop, None}
 use Rattle.std.proofs.Math.Option.{Option, none, some}
 use Rattle.lists.specs.Compare.{both, same}
-use Rattle.ratio_format.specs.declared.Read.{Read}
-use Rattle.ratio_format.specs.declared.Read.TheVariants.{Ratio, Nothing}
 use Rattle.ratio_format.specs.Windows.{window_size, push}
 use Rattle.ratio_format.specs.RatioForms.{coded}
-use Rattle.ratio_format.specs.Open.{open_one, strict_one}
+use Rattle.ratio_format.specs.Open.{Read, Ratio, open_one, strict_one}
 
 -- each ratio goes into the window after it is coded
 unfoldable pub coded_from : ℕ → List ℕ → List ℕ → List ℕ
@@ -43,7 +41,7 @@ at_end (b ∷ s) = none
 
 -- what follows a ratio that was read, or nothing where none was
 abbrev pub on_ratio : Read → (ℕ → ℕ → Option (List ℕ)) → Option (List ℕ)
-on_ratio Nothing f = none
+on_ratio None f = none
 on_ratio (Ratio v k) f = f v k
 
 -- the open rule, from a window that takes each ratio as it is read
@@ -83,7 +81,7 @@ after_taken vs k t = record { ratios = vs ++ t.ratios; used = k + t.used }
 
 -- what follows a ratio that was read; none is taken where none was
 abbrev pub on_taken : Read → (ℕ → ℕ → Taken) → Taken
-on_taken Nothing f = none_taken
+on_taken None f = none_taken
 on_taken (Ratio v k) f = f v k
 
 -- by a rule for one ratio, from a window that takes each ratio as it is read

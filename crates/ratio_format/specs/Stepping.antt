@@ -11,18 +11,16 @@
 --   step_refusal b c   the refusal of a step, the end among them, or none
 --   step_answer b c    the answer: number, place and the ratio
 --   step_cursor b c    the reader's state afterwards
-use Rattle.std.specs.Prelude.{Bool, true, false, cond, List, [], ◌∷◌, ℕ, ◌+◌, ltb, eqb, length, drop}
+use Rattle.std.specs.Prelude.{Bool, true, false, cond, List, [], ◌∷◌, ℕ, ◌+◌, ltb, eqb, length, drop, None}
 use Rattle.lists.specs.Compare.{both}
 use Rattle.refusals.specs.declared.Refusal.{Refusal}
 use Rattle.limits.specs.Points.{max_points}
 use Rattle.refusals.specs.Tests.{Test, test, first_of, refused}
-use Rattle.ratio_format.specs.declared.Read.{Read}
-use Rattle.ratio_format.specs.declared.Read.TheVariants.{Ratio, Nothing}
 use Rattle.ratio_format.specs.declared.Cursor.{Cursor}
 use Rattle.ratio_format.specs.declared.StepAnswer.{StepAnswer}
 use Rattle.ratio_format.specs.Windows.{fresh_window, held, pushed}
 use Rattle.ratio_format.specs.Lives.{bad_window}
-use Rattle.ratio_format.specs.Open.{strict_one}
+use Rattle.ratio_format.specs.Open.{Read, Ratio, strict_one}
 
 -- making tests the count alone, and the body may have any length
 abbrev pub make_tests : ℕ → List Test
@@ -55,17 +53,17 @@ next_read b c = strict_one (held c.window) (drop c.place b)
 
 -- whether none was read
 abbrev pub is_nothing : Read → Bool
-is_nothing Nothing = true
+is_nothing None = true
 is_nothing (Ratio v k) = false
 
 -- the ratio that was read
 abbrev pub ratio_of : Read → ℕ
-ratio_of Nothing = 0
+ratio_of None = 0
 ratio_of (Ratio v k) = v
 
 -- how many bytes it took
 abbrev pub used_of : Read → ℕ
-used_of Nothing = 0
+used_of None = 0
 used_of (Ratio v k) = k
 
 -- whether all are given

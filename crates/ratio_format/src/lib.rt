@@ -19,13 +19,6 @@ pub enum RatioForm {
     Exception,
 }
 
-// What reading one ratio finds: the ratio and the number of bytes it takes, or no ratio.
-#[derive(Clone, Copy)]
-pub enum Read {
-    Ratio(u64, usize),
-    Nothing,
-}
-
 // The preceding ratios, oldest first, and how many of the cells are filled.
 #[repr(C)]
 #[derive(Clone, Copy)]
@@ -63,11 +56,7 @@ fn shift(cells: &mut [u64], v: u64)
     requires { length cells.old ≡ window_size }
     ensures { cells.new ≡ drop 1 cells.old ++ (v ∷ []) }
 {
-    let mut i: usize = 0;
-    while i < Window::SIZE - 1 {
-        cells[i] = cells[i + 1];
-        i += 1;
-    }
+    cells.copy_within(1.., 0);
     cells[Window::SIZE - 1] = v;
 }
 

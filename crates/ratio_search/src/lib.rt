@@ -14,5 +14,4 @@ mod pairs;
 mod planes;
 mod search;
 
-pub use planes::{CELLS, SLOTS, fill_planes};
-pub use search::find_best;
+pub use planes::{BytePlanes, CELLS, SLOTS};

@@ -9,13 +9,16 @@ use super::planes::{CELLS, SLOTS};
 use bits::byte_of;
 use ratio_window::{lead_zeros, trail_zeros};
 
-// Two pairs of byte positions, a with b and c with d.
+// Two pairs of byte positions, a with b and c with d, for sums above `sum`: where both bytes of a pair differ, the sum is no larger.
 #[derive(Clone, Copy)]
 pub struct Pairs {
+    pub sum: usize,
     pub a: usize,
     pub b: usize,
     pub c: usize,
     pub d: usize,
+    ghost first: { Apart sum a b },
+    ghost second: { Apart sum c d },
 }
 
 // Where the second pair begins: beside the first, and not at bytes that agree because v itself ends in zero bytes.
@@ -24,22 +27,23 @@ fn beside(trail: usize, sum: usize, own: usize) -> usize
     ensures { result ≤ sum }
 {
     if own < trail {
-        return trail - 1;
+        trail - 1
+    } else if trail < sum {
+        trail + 1
+    } else {
+        trail
     }
-    if trail < sum {
-        return trail + 1;
-    }
-    trail
 }
 
 // The pairs for sums above `sum`: the first stands at the ends of the middle of a ratio with that sum and `trail` trailing bytes.
 pub(crate) fn pairs_of(trail: usize, sum: usize, own: usize) -> Pairs
     requires { (trail ≤ sum) × (sum ≤ 7) }
-    ensures { Apart sum result.a result.b × Apart sum result.c result.d }
+    ensures { result.sum ≡ sum }
 {
     let far = 7 - sum;
     let c = beside(trail, sum, own);
     Pairs {
+        sum,
         a: trail,
         b: trail + far,
         c,
@@ -49,7 +53,7 @@ pub(crate) fn pairs_of(trail: usize, sum: usize, own: usize) -> Pairs
 
 // Whether in the 16 slots from `slot` on one agrees with v in a byte of each pair. Written without branches, so that it becomes vector code.
 pub(crate) fn suspect(planes: &[u8; CELLS], slot: usize, v: u64, p: Pairs) -> bool
-    requires { (slot + 16 ≤ slots) × (p.a < 8) × (p.b < 8) × (p.c < 8) × (p.d < 8) }
+    requires { slot + 16 ≤ slots }
     ensures { result ≡ false → (t : ℕ) → slot ≤ t → t < slot + 16
         → BothDiffer planes.now v p.a p.b t ⊎ BothDiffer planes.now v p.c p.d t }
 {
@@ -62,22 +66,12 @@ pub(crate) fn suspect(planes: &[u8; CELLS], slot: usize, v: u64, p: Pairs) -> bo
     let z = byte_of(v, p.c) as u8;
     let w = byte_of(v, p.d) as u8;
     let mut any = false;
-    let mut j: usize = 0;
-    while j < 16 {
+    for j in 0..16 {
         any = any
             | (((planes[a + j] == x) | (planes[b + j] == y))
                 & ((planes[c + j] == z) | (planes[d + j] == w)));
-        j += 1;
     }
     any
-}
-
-// Whether byte j of x is 0.
-fn zero_at(x: u64, j: usize) -> bool
-    requires { j < 8 }
-    ensures { result ≡ false → byte_of x j ≡ 0 → ⊥ }
-{
-    byte_of(x, j) == 0
 }
 
 // Whether one of two bytes of x is 0.
@@ -85,30 +79,19 @@ fn one_zero(x: u64, a: usize, b: usize) -> bool
     requires { (a < 8) × (b < 8) }
     ensures { result ≡ false → (byte_of x a ≡ 0 → ⊥) × (byte_of x b ≡ 0 → ⊥) }
 {
-    if zero_at(x, a) {
-        return true;
-    }
-    zero_at(x, b)
+    byte_of(x, a) == 0 || byte_of(x, b) == 0
 }
 
-// Whether the zero bytes of x at both ends may be more than `sum`.
-fn maybe(x: u64, sum: usize, p: Pairs) -> bool
-    requires { Apart sum p.a p.b × Apart sum p.c p.d }
-    ensures { result ≡ false → lead_zeros x + trail_zeros x ≤ sum }
+// Whether the zero bytes of x at both ends may be more than the pairs' sum.
+fn maybe(x: u64, p: Pairs) -> bool
+    ensures { result ≡ false → lead_zeros x + trail_zeros x ≤ p.sum }
 {
-    if one_zero(x, p.a, p.b) {
-        return one_zero(x, p.c, p.d);
-    }
-    false
+    one_zero(x, p.a, p.b) && one_zero(x, p.c, p.d)
 }
 
-// Whether the zero bytes of x at both ends are more than `sum`. They are counted only where they may be.
-pub(crate) fn beats(x: u64, sum: usize, p: Pairs) -> bool
-    requires { Apart sum p.a p.b × Apart sum p.c p.d }
-    ensures { result ≡ false → lead_zeros x + trail_zeros x ≤ sum }
+// Whether the zero bytes of x at both ends are more than the pairs' sum. They are counted only where they may be.
+pub(crate) fn beats(x: u64, p: Pairs) -> bool
+    ensures { result ≡ false → lead_zeros x + trail_zeros x ≤ p.sum }
 {
-    if maybe(x, sum, p) {
-        return sum < lead_zeros(x) + trail_zeros(x);
-    }
-    false
+    maybe(x, p) && p.sum < lead_zeros(x) + trail_zeros(x)
 }

@@ -1,10 +1,9 @@
 // The search: blocks of 16 slots are passed over by the planes, single ratios by their xor, and the others are counted.
-ghost use Rattle.std.specs.Prelude.{◌≡◌, ◌-◌, ◌≤◌, ◌<◌, max, length, take};
+ghost use Rattle.std.specs.Prelude.{◌≡◌, ◌-◌, ◌≤◌, ◌<◌, length, take};
 ghost use Rattle.ratio_format.specs.Windows.{window_size, window_of};
 ghost use Rattle.ratio_window.specs.Searched.{Searched};
 ghost use Rattle.ratio_window.specs.Passed.{Passed};
 ghost use Rattle.ratio_search.specs.BytePlanes.{Planes};
-ghost use Rattle.ratio_search.specs.Apart.{Apart};
 
 use super::pairs::{Pairs, beats, pairs_of, suspect};
 use super::planes::{CELLS, SLOTS};
@@ -17,69 +16,47 @@ fn pass_blocks(
     from: usize,
     high: usize,
     v: u64,
-    sum: usize,
     p: Pairs,
 ) -> usize
-    requires { Planes planes.now ratios.now from high × (from ≤ high) × Apart sum p.a p.b × Apart sum p.c p.d }
-    ensures { (from ≤ result) × (result ≤ high) × Passed v ratios.now sum result high }
+    requires { Planes planes.now ratios.now from high × (from ≤ high) × (high ≤ length ratios.now) }
+    ensures { (from ≤ result) × (result ≤ high) × Passed v ratios.now p.sum result high }
 {
-    let mut h = high;
-    while from < h {
-        let low = (h - 1) / 16 * 16;
-        if suspect(planes, low % SLOTS, v, p) {
-            return h;
+    for block in (from / 16..high.div_ceil(16)).rev() {
+        if suspect(planes, 16 * block % SLOTS, v, p) {
+            return high.min(16 * block + 16);
         }
-        h = low;
     }
     from
 }
 
 // The end of the newest ratio from `low` up to `high` that has a larger sum, or `low`.
-fn pass_ratios(ratios: &[u64], low: usize, high: usize, v: u64, sum: usize, p: Pairs) -> usize
-    requires { (low ≤ high) × (high ≤ length ratios.now) × Apart sum p.a p.b × Apart sum p.c p.d }
-    ensures { (low ≤ result) × (result ≤ high) × Passed v ratios.now sum result high }
+fn pass_ratios(ratios: &[u64], low: usize, high: usize, v: u64, p: Pairs) -> usize
+    requires { (low ≤ high) × (high ≤ length ratios.now) }
+    ensures { (low ≤ result) × (result ≤ high) × Passed v ratios.now p.sum result high }
 {
-    let mut k = high;
-    while low < k {
-        if beats(v ^ ratios[k - 1], sum, p) {
-            return k;
+    for k in (low..high).rev() {
+        if beats(v ^ ratios[k], p) {
+            return k + 1;
         }
-        k -= 1;
     }
     low
 }
 
-// The larger of two indices.
-fn later(a: usize, b: usize) -> usize
-    ensures { result ≡ max a b }
-{
-    if a < b { b } else { a }
-}
-
 // The end of the newest ratio from `from` up to `high` that is still to be counted, or `from`.
-fn pass(
-    planes: &[u8; CELLS],
-    ratios: &[u64],
-    from: usize,
-    high: usize,
-    v: u64,
-    sum: usize,
-    p: Pairs,
-) -> usize
-    requires { Planes planes.now ratios.now from high × (from ≤ high) × (high ≤ length ratios.now)
-        × Apart sum p.a p.b × Apart sum p.c p.d }
-    ensures { (from ≤ result) × (result ≤ high) × Passed v ratios.now sum result high }
+fn pass(planes: &[u8; CELLS], ratios: &[u64], from: usize, high: usize, v: u64, p: Pairs) -> usize
+    requires { Planes planes.now ratios.now from high × (from ≤ high) × (high ≤ length ratios.now) }
+    ensures { (from ≤ result) × (result ≤ high) × Passed v ratios.now p.sum result high }
 {
-    let h = pass_blocks(planes, ratios, from, high, v, sum, p);
+    let h = pass_blocks(planes, ratios, from, high, v, p);
     if h <= from {
         return from;
     }
-    let low = later(from, (h - 1) / 16 * 16);
-    pass_ratios(ratios, low, h, v, sum, p)
+    let low = from.max((h - 1) / 16 * 16);
+    pass_ratios(ratios, low, h, v, p)
 }
 
 // The best of the window of ratio i for v, newest first; an equal ratio ends the search.
-pub fn find_best(planes: &[u8; CELLS], ratios: &[u64], i: usize, v: u64) -> Best
+pub(crate) fn find_best(planes: &[u8; CELLS], ratios: &[u64], i: usize, v: u64) -> Best
     requires { (0 < i) × (i ≤ length ratios.now) × Planes planes.now ratios.now (i - window_size) i }
     ensures { Searched v (window_of window_size (take i ratios.now)) result.place result.sum }
 {
@@ -89,6 +66,7 @@ pub fn find_best(planes: &[u8; CELLS], ratios: &[u64], i: usize, v: u64) -> Best
     let mut trail: usize = 0;
     let mut sum: usize = 1;
     let mut q = i;
+    // Counted by hand: a turn goes on behind the ratios that it passes over.
     while from < q {
         let x = v ^ ratios[q - 1];
         if x == 0 {
@@ -105,7 +83,7 @@ pub fn find_best(planes: &[u8; CELLS], ratios: &[u64], i: usize, v: u64) -> Best
             sum = s;
         }
         let p = pairs_of(trail, sum, own);
-        q = pass(planes, ratios, from, q - 1, v, sum, p);
+        q = pass(planes, ratios, from, q - 1, v, p);
     }
     Best {
         place: i - 1 - at,

@@ -22,11 +22,7 @@ pub const EQUAL_SUM: usize = 16;
 pub fn window_start(i: usize) -> usize
     ensures { result ≡ i - window_size }
 {
-    if i < Window::SIZE {
-        0
-    } else {
-        i - Window::SIZE
-    }
+    i.saturating_sub(Window::SIZE)
 }
 
 // The leading zero bytes of x.

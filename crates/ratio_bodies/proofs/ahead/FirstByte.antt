@@ -1,5 +1,6 @@
 -- A ratio of a list read by the open rule, by its first byte b: b % 128 is the place in the window, and the ratio there stands in the list
 -- itself. Where ten bytes are left, no form runs past them.
+use Rattle.std.specs.Prelude.{None}
 use mathlib.Core.Path.{◌≡◌, refl, sym, ap, ◌∙◌}
 use mathlib.Core.Bool.{Bool, true, false}
 use mathlib.Core.List.{List}
@@ -12,10 +13,8 @@ use lib.Dec.{ltb}
 use borrow.Author.Tests.{ltb-true, ltb-false}
 use Rattle.ratio_format.specs.RatioForms.{xor_byte, exception_byte}
 use Rattle.bits.specs.Digits.{number_of}
-use Rattle.ratio_format.specs.declared.Read.{Read}
-use Rattle.ratio_format.specs.declared.Read.TheVariants.{Ratio, Nothing}
 use Rattle.ratio_format.specs.Windows.{window_size, window_of}
-use Rattle.ratio_format.specs.Open.{open_one, open_xor}
+use Rattle.ratio_format.specs.Open.{Read, Ratio, open_one, open_xor}
 use Rattle.ratio_format.proofs.Open.{xor_high, xor_good, open_reference, open_far, open_xor_lem, open_away, open_exception}
 use Rattle.ratio_format.proofs.Windows.{window_few}
 use Rattle.ratio_codec.proofs.read.References.{Named}
@@ -39,7 +38,7 @@ module _ (u at : ℕ) (l : List ℕ) (room : at + 9 ≤ length l) where
   filled : length (drop at l) ≡ 0 → ⊥
   filled e = omega (arith, many)
 
-  pub xor-ahead_high : 8 < get_or l at 0 / 16 + get_or l at 0 % 16 → Nothing ≡ open_xor u (drop at l)
+  pub xor-ahead_high : 8 < get_or l at 0 / 16 + get_or l at 0 % 16 → None ≡ open_xor u (drop at l)
   xor-ahead_high h = xor_high u (drop at l) filled (rw (rest_first at l) h)
 
   pub xor-ahead_good : (m r : ℕ) → get_or l at 0 / 16 + get_or l at 0 % 16 ≤ 8 → m ≡ number_of 256 (take (get_or l at 0 % 16) (drop (at + 1) l))
@@ -68,17 +67,17 @@ module _ (rs : List ℕ) (i : ℕ) (room : i ≤ length rs) where
 
   module _ (s : List ℕ) (b : ℕ) (is : get_or s 0 0 ≡ b) (filled : length s ≡ 0 → ⊥) (byte : b < 256) (plain : b ≡ exception_byte → ⊥) where
     -- no ratio stands at the place
-    place_none : length w ≤ b % xor_byte → Nothing ≡ open_one w s
+    place_none : length w ≤ b % xor_byte → None ≡ open_one w s
     place_none h = go (ltb b xor_byte) refl
       where
-        go : (t : Bool) → ltb b xor_byte ≡ t → Nothing ≡ open_one w s
+        go : (t : Bool) → ltb b xor_byte ≡ t → None ≡ open_one w s
         go true e = let l = ltb-true b xor_byte e in open_far w s filled (omega arith) (omega arith)
         go false e = let l = ltb-false b xor_byte e in open_away w s filled (omega arith) (omega arith) (omega arith)
 
-    pub place_far : i ≤ b % xor_byte → Nothing ≡ open_one w s
+    pub place_far : i ≤ b % xor_byte → None ≡ open_one w s
     place_far h = place_none (omega (arith, most))
 
-    pub place_past : b % xor_byte ≡ window_size → Nothing ≡ open_one w s
+    pub place_past : b % xor_byte ≡ window_size → None ≡ open_one w s
     place_past e = place_none (omega (arith, most))
 
     -- one does

@@ -1,5 +1,6 @@
 -- Bytes that name a ratio by its place in the window, a reference: what is written for such a ratio, its strict reading, and that a ratio is
 -- so named exactly where it was read from one byte.
+use Rattle.std.specs.Prelude.{None}
 use mathlib.Core.Path.{◌≡◌, refl, sym, ap, ◌∙◌}
 use mathlib.Core.Bool.{Bool, true, false, cond}
 use mathlib.Core.List.{List, [], ◌∷◌}
@@ -8,16 +9,17 @@ use native.Mathlib.Omega.{arith}
 use lib.Bits.{bit_xor}
 use lib.Dec.{eqb, leb, ltb}
 use lib.ListN.{length, get_or, take}
-use borrow.Author.Tests.{lt-ltb, eq-eqb, ne_eqb, ltb-true, eqb-true}
+use borrow.Author.Tests.{lt-ltb, ltb-true, eqb-true}
+use Rattle.std.specs.Bool.{then_some}
+use Rattle.std.proofs.lemmas.Option.{some_pair_parts}
 use Rattle.lists.specs.Compare.{both, begins}
 use Rattle.bits.specs.Digits.{number_of}
-use Rattle.ratio_format.specs.declared.Read.TheVariants.{Ratio, Nothing}
 use Rattle.ratio_format.specs.Windows.{window_size}
 use Rattle.ratio_format.specs.Choice.{find, ratio_form}
 use Rattle.ratio_format.specs.RatioForms.{xor_byte, exception_byte, written, coded}
-use Rattle.ratio_format.specs.Open.{open_one, open_xor, strict_one}
+use Rattle.ratio_format.specs.Open.{Ratio, open_one, open_xor, strict_one}
 use Rattle.ratio_format.proofs.Choice.{find_at, find_lt}
-use Rattle.ratio_format.proofs.Open.{open_reference, strict_good, strict_other}
+use Rattle.ratio_format.proofs.Open.{open_reference, strict_if}
 use Rattle.ratio_format.proofs.Open.{read_reference}
 use Rattle.ratio_codec.proofs.Heads.{one_is}
 
@@ -41,14 +43,11 @@ module _ (w : List ℕ) (v : ℕ) where
       named_open : Ratio v 1 ≡ open_one w s
       named_open = open_reference w s v (λ e. omega arith) (omega arith) n.1 (sym n.2)
 
-      pub named_good : find v w ≡ get_or s 0 0 → Ratio v 1 ≡ strict_one w s
-      named_good e = strict_good w s (Ratio v 1) named_open v 1 (eqb (find v w) (get_or s 0 0)) refl (sym named_begins) (eq-eqb (find v w) (get_or s 0 0) e)
-
-      pub named_other : (find v w ≡ get_or s 0 0 → ⊥) → Nothing ≡ strict_one w s
-      named_other e = strict_other w s (Ratio v 1) named_open v 1 (eqb (find v w) (get_or s 0 0)) refl (sym named_begins) (ne_eqb (find v w) (get_or s 0 0) e)
+      pub named_strict : then_some (eqb (find v w) (get_or s 0 0)) (v, 1) ≡ strict_one w s
+      named_strict = strict_if w s (Ratio v 1) named_open v 1 (eqb (find v w) (get_or s 0 0)) refl (sym named_begins)
 
   -- a ratio that was read from one byte is named
-  never : {A : Type 0} → Nothing ≡ Ratio v 1 → A
+  never : {A : Type 0} → None ≡ Ratio v 1 → A
   never e = let z : ◌≡◌ {A = ℕ} 0 1 = cc in absurd (omega arith)
 
   xor_longer : (u : ℕ) (s : List ℕ) → open_xor u s ≡ Ratio v 1 → ⊥
@@ -56,8 +55,8 @@ module _ (w : List ℕ) (v : ℕ) where
   xor_longer u [] e = never e
   xor_longer u (c ∷ s) e = go (leb (c / 16 + c % 16) 8) (leb (c % 16) (length s)) e
     where
-      go : (x y : Bool) → cond x (cond y (Ratio (bit_xor (number_of 256 (take (c % 16) s) * 256 ^ (c / 16)) u) (c % 16 + 2)) Nothing) Nothing ≡ Ratio v 1 → ⊥
-      go true true e = let z : c % 16 + 2 ≡ 1 = cc in omega arith
+      go : (x y : Bool) → cond x (cond y (Ratio (bit_xor (number_of 256 (take (c % 16) s) * 256 ^ (c / 16)) u) (c % 16 + 2)) None) None ≡ Ratio v 1 → ⊥
+      go true true e = omega (arith, (some_pair_parts _ _ _ _ e).1)
       go true false e = never e
       go false y e = never e
 
@@ -67,14 +66,14 @@ module _ (w : List ℕ) (v : ℕ) where
   named_one (b ∷ s) e = go (ltb b xor_byte) (ltb b (length w)) refl (ltb b exception_byte) (ltb (b - xor_byte) (length w)) (leb 8 (length s)) e
     where
       go : (x y : Bool) → ltb b (length w) ≡ y → (z t u : Bool)
-          → cond x (cond y (Ratio (get_or w b 0) 1) Nothing)
-          (cond z (cond t (open_xor (get_or w (b - xor_byte) 0) s) Nothing) (cond u (Ratio (number_of 256 (take 8 s)) 9) Nothing)) ≡ Ratio v 1
+          → cond x (cond y (Ratio (get_or w b 0) 1) None)
+          (cond z (cond t (open_xor (get_or w (b - xor_byte) 0) s) None) (cond u (Ratio (number_of 256 (take 8 s)) 9) None)) ≡ Ratio v 1
           → Named (b ∷ s)
-      go true true f z t u e = (omega arith, ltb-true b (length w) f, cc)
+      go true true f z t u e = (omega arith, ltb-true b (length w) f, (some_pair_parts _ _ _ _ e).0)
       go true false f z t u e = never e
       go false y f true true u e = absurd (xor_longer (get_or w (b - xor_byte) 0) s e)
       go false y f true false u e = never e
-      go false y f false t true e = let n : ◌≡◌ {A = ℕ} 9 1 = cc in absurd (omega arith)
+      go false y f false t true e = absurd (omega (arith, (some_pair_parts _ _ _ _ e).1))
       go false y f false t false e = never e
 
   -- what is accepted and takes more than one byte is not in the window
@@ -93,4 +92,4 @@ module _ (w : List ℕ) (v : ℕ) where
       let f = find_lt v w p h q in
       let r = begins-one s (find v w) (ap (λ (c : List ℕ). begins c s) (sym (coded_in p h q)) ∙ g) in
       let o = ap (open_one w) r.1 ∙ read_reference w r.0 small v (find v w) f (find_at v w f) in
-      m (let z : n ≡ 1 = cc in z)
+      m (some_pair_parts v v n 1 (sym e ∙ o)).1

@@ -1,5 +1,6 @@
 -- Reading ratio by ratio, by any rule for one ratio: what is read when the bytes are a coding, and what a reading says of its first ratio.
 -- The open rule's laws are instances.
+use Rattle.std.specs.Prelude.{None}
 use mathlib.Core.Path.{◌≡◌, refl, sym, ap, ◌∙◌, subst}
 use mathlib.Core.List.{List, [], ◌∷◌, ◌++◌}
 use mathlib.Core.Option.{Option, none, some}
@@ -9,11 +10,9 @@ use lib.ListN.{length, drop}
 use lib.Seq.{drop_at}
 use Rattle.lists.specs.Below.{Below}
 use Rattle.lists.proofs.Below.{below_drop}
-use Rattle.ratio_format.specs.declared.Read.{Read}
-use Rattle.ratio_format.specs.declared.Read.TheVariants.{Ratio, Nothing}
 use Rattle.ratio_format.specs.Windows.{window_size, push}
 use Rattle.ratio_format.specs.RatioForms.{coded}
-use Rattle.ratio_format.specs.Open.{open_one}
+use Rattle.ratio_format.specs.Open.{Read, Ratio, open_one}
 use Rattle.ratio_format.specs.Bodies.{coded_from, open_from, before, at_end, on_ratio}
 use Rattle.ratio_format.proofs.Windows.{push-length, push_below}
 use Rattle.ratio_format.proofs.Open.{read_back, open_value}
@@ -34,7 +33,7 @@ open_is size w (suc n) s = go (λ v k. open_is size (push size v w) n (drop k s)
   where
     go : ((v k : ℕ) → open_from size (push size v w) n (drop k s) ≡ read_from open_one size (push size v w) n (drop k s)) → (r : Read)
         → on_ratio r (λ v k. before v (open_from size (push size v w) n (drop k s))) ≡ on_ratio r (λ v k. before v (read_from open_one size (push size v w) n (drop k s)))
-    go ih Nothing = refl
+    go ih None = refl
     go ih (Ratio v k) = ap (before v) (ih v k)
 
 -- the rule reads what is written for one ratio, whatever follows
@@ -72,7 +71,7 @@ module _ (rule : Rule) (size : ℕ) where
       at v k q (some us) f e = record { ratio = v; used = k; others = us; reads = q; goes = f; splits = cc }
 
       go : (r : Read) → rule w s ≡ r → on_ratio r (λ v k. before v (read_from rule size (push size v w) n (drop k s))) ≡ some vs → FirstOf rule size w n s vs
-      go Nothing q e = let z : ◌≡◌ {A = ℕ} 0 1 = cc in absurd (omega arith)
+      go None q e = let z : ◌≡◌ {A = ℕ} 0 1 = cc in absurd (omega arith)
       go (Ratio v k) q e = at v k q (read_from rule size (push size v w) n (drop k s)) refl e
 
   -- no ratios are read from no bytes only

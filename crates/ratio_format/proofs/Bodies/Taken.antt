@@ -1,5 +1,6 @@
 -- What reading takes from the front of bytes, ratio by ratio and stretch by stretch. A reading of a whole body is that all was taken; strictly the
 -- bytes begin with the coding of what was taken, and of no more ratios.
+use Rattle.std.specs.Prelude.{None}
 use mathlib.Core.Path.{◌≡◌, refl, sym, ap, ap₂, ◌∙◌, subst}
 use mathlib.Core.Bool.{Bool, true, false, cond}
 use mathlib.Core.List.{List, [], ◌∷◌, ◌++◌, append-nil, append_assoc}
@@ -13,11 +14,9 @@ use lib.Seq.{drop_at, drop-drop, append_snoc}
 use Rattle.lists.specs.Below.{Below}
 use Rattle.lists.specs.Compare.{both}
 use Rattle.lists.proofs.Below.{below_drop}
-use Rattle.ratio_format.specs.declared.Read.{Read}
-use Rattle.ratio_format.specs.declared.Read.TheVariants.{Ratio, Nothing}
 use Rattle.ratio_format.specs.Windows.{window_size, push, window_of}
 use Rattle.ratio_format.specs.RatioForms.{coded}
-use Rattle.ratio_format.specs.Open.{open_one, strict_one}
+use Rattle.ratio_format.specs.Open.{Read, Ratio, open_one, strict_one}
 use Rattle.ratio_format.specs.Bodies.{coded_from, coded_ratios, before, open_ratios, strict_ratios, Taken, none_taken, and_taken, after_taken, on_taken, taken_from, open_taken, strict_taken, whole_taken}
 use Rattle.ratio_format.proofs.Windows.{push-length, push_below, window_snoc}
 use Rattle.ratio_format.proofs.Open.{strict_takes, strict_open, strict_only, open_used, open_value}
@@ -30,7 +29,7 @@ module _ (rule : Rule) (size : ℕ) (w : List ℕ) (n : ℕ) (s : List ℕ) wher
   rest : ℕ → ℕ → Taken
   rest v k = and_taken v k (taken_from rule size (push size v w) n (drop k s))
 
-  pub taken_stop : rule w s ≡ Nothing → taken_from rule size w (suc n) s ≡ none_taken
+  pub taken_stop : rule w s ≡ None → taken_from rule size w (suc n) s ≡ none_taken
   unfolding taken_from rest
   taken_stop e = ap (λ (r : Read). on_taken r rest) e
 
@@ -46,7 +45,7 @@ taken_count rule size w (suc n) s = go (λ v k. taken_count rule size (push size
   where
     go : ((v k : ℕ) → length (taken_from rule size (push size v w) n (drop k s)).ratios ≤ n) → (r : Read)
         → length (on_taken r (λ v k. and_taken v k (taken_from rule size (push size v w) n (drop k s)))).ratios ≤ suc n
-    go ih Nothing = omega arith
+    go ih None = omega arith
     go ih (Ratio v k) = omega (arith, ih v k)
 
 -- stretch by stretch
@@ -84,7 +83,7 @@ module _ (rule : Rule) (size : ℕ) where
           ≡ after_taken (from (us ++ (v ∷ [])) m (drop j s)).ratios (from (us ++ (v ∷ [])) m (drop j s)).used
           (from ((us ++ (v ∷ [])) ++ (from (us ++ (v ∷ [])) m (drop j s)).ratios) n (drop (from (us ++ (v ∷ [])) m (drop j s)).used (drop j s))))
           → (r : Read) → rule (window_of size us) s ≡ r → Part (from us (suc m) s)
-      go ih Nothing f = absurd (omega (arith, ap (λ (t : Taken). length t.ratios) (taken_stop rule size (window_of size us) m s f), h))
+      go ih None f = absurd (omega (arith, ap (λ (t : Taken). length t.ratios) (taken_stop rule size (window_of size us) m s f), h))
       go ih (Ratio v j) f =
           let t = from (us ++ (v ∷ [])) m (drop j s) in
           let q : from us (suc m) s ≡ and_taken v j t = from_next us m s v j f in
@@ -107,7 +106,7 @@ module _ (rule : Rule) (size : ℕ) where
 
       go : ((v j : ℕ) → length (from (us ++ (v ∷ [])) m (drop j s)).ratios < m → from (us ++ (v ∷ [])) (m + n) (drop j s) ≡ from (us ++ (v ∷ [])) m (drop j s))
           → (r : Read) → rule (window_of size us) s ≡ r → from us k s ≡ from us (suc m) s
-      go ih Nothing f = all ∙ taken_stop rule size (window_of size us) (m + n) s f ∙ sym (taken_stop rule size (window_of size us) m s f)
+      go ih None f = all ∙ taken_stop rule size (window_of size us) (m + n) s f ∙ sym (taken_stop rule size (window_of size us) m s f)
       go ih (Ratio v j) f =
           let q = from_next us m s v j f in
           all ∙ from_next us (m + n) s v j f ∙ ap (and_taken v j) (ih v j (omega (arith, ap (λ (x : Taken). length x.ratios) q, h))) ∙ sym q
@@ -159,7 +158,7 @@ read_taken rule within size w (suc n) s = go (λ v k. read_taken rule within siz
 
     go : ((v k : ℕ) → read_from rule size (push size v w) n (drop k s) ≡ whole_taken n (drop k s) (taken_from rule size (push size v w) n (drop k s))) → (r : Read)
         → rule w s ≡ r → read_from rule size w (suc n) s ≡ whole_taken (suc n) s (taken_from rule size w (suc n) s)
-    go ih Nothing e = rw e (sym (whole-none (suc n) s none_taken (λ p q. omega arith)))
+    go ih None e = rw e (sym (whole-none (suc n) s none_taken (λ p q. omega arith)))
     go ih (Ratio v k) e = rw e (ap (before v) (ih v k) ∙ at v k (taken_from rule size (push size v w) n (drop k s)) (within w s v k e))
 
 -- openly
@@ -201,7 +200,7 @@ module _ (size : ℕ) (hz : size ≤ window_size) where
     where
       go : ((v k : ℕ) → v < 2 ^ 64 → CodedFront (push size v w) (drop k s) (taken_from strict_one size (push size v w) n (drop k s))) → (r : Read) → strict_one w s ≡ r
           → CodedFront w s (taken_from strict_one size w (suc n) s)
-      go ih Nothing e = rw (taken_stop strict_one size w n s e) (coded-front-none w s)
+      go ih None e = rw (taken_stop strict_one size w n s e) (coded-front-none w s)
       go ih (Ratio v k) e =
           let hv = strict_gives w s v k hs ha e in
           let o = strict_only v k w s hv ha hw e in

@@ -40,4 +40,4 @@ returns c =
     let state = state_of c.args.place c.args.count c.args.seen c.args.ratios.now c.args.fill in
     let not_bad : bad_cursor c.args.body.now state ≡ false = sym c.bad_state.ensures ∙ c.if-bad_state.false in
     let reads : next_read c.args.body.now state ≡ c.read_one_strict-read.result = sym (c.read_one_strict-read.ensures ∙ ap (strict_one (held state.window)) (rest_is c.args.place c.args.body.now)) in
-    step-found_ratio c.args.body.now state c.in-Ratio.ratio c.in-Ratio.used (left_ratio c.args.body.now state c.in-Ratio.ratio c.in-Ratio.used not_bad c.if-seen-count.false (reads ∙ c.in-Ratio.is))
+    step-found_ratio c.args.body.now state c.in-Some.ratio c.in-Some.used (left_ratio c.args.body.now state c.in-Some.ratio c.in-Some.used not_bad c.if-seen-count.false (reads ∙ c.in-Some.is))

@@ -1,10 +1,6 @@
 -- `put_planes` meets its contract. The invariant: the lowest j bytes are put, and all other slots stay.
-use Prim.Native.Nat.{◌-◌}
-use Rattle.ratio_search.proofs.BytePlanes.{InSlot}
+use Rattle.ratio_search.proofs.Kept.{InSlot}
 use Rattle.ratio_search.proofs.planes.put_planes.Given as goal
 
 abbrev pub invariant-loop-j : goal.invariant-loop-j
 invariant-loop-j l = InSlot l.initial.planes l.i l.v l.planes l.j
-
-abbrev pub decreases-loop-j : goal.decreases-loop-j
-decreases-loop-j l = 8 - l.j

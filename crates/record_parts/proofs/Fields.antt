@@ -49,6 +49,11 @@ passed_on {ts = ts} P (Err y) h k = subst (RefusedBy ts) (sym h) k
 pub past_clear : (fs ts : List Test) → numbered fs ≡ true → first_of fs ≡ no_refusal → first_of (fs ++ ts) ≡ first_of ts
 past_clear fs ts n e = first_of-append-none fs ts n (ap (λ (x : Refusal). x.number) e)
 
+-- what is judged by tests that give the same
+pub judged_as : {T : Type 0} (us ts : List Test) (P : T → Type 0) (r : Result T Refusal) → first_of us ≡ first_of ts → Judged ts P r → Judged us P r
+judged_as us ts P (Ok x) same h = (same ∙ h.0, h.1)
+judged_as us ts P (Err g) same h = refused_as same h
+
 -- the length that is asked for
 stated_as : (m : Option ℕ) (l : ℕ) → length_good m l ≡ true → Stated m l
 stated_as none l e = tt
@@ -109,16 +114,17 @@ module _ (s tags : List ℕ) (n : Option ℕ) (p : ℕ) where
         pub field_found : Below 256 s → l ≤ length s - (p + head_size)
             → (first_of tests ≡ no_refusal) × FieldFound s p (record { from = p + head_size; to = p + head_size + l })
         field_found bytes h =
-            let whole : next_at s p ≤ length s = omega (arith, next_is) in
-            (sym alone ∙ field_good s tags n p [] whole-head tag_good length_good_lem whole ∙ first_of_end,
-            record {
-              part = record {
-                next = sym next_is;
-                inside = whole;
-                near = omega (arith, next_most s p bytes whole-head);
-              };
-              from = refl;
-            })
+            let whole : next_at s p ≤ length s = omega (arith, next_is) in (
+              sym alone ∙ field_good s tags n p [] whole-head tag_good length_good_lem whole ∙ first_of_end,
+              record {
+                part = record {
+                  next = sym next_is;
+                  inside = whole;
+                  near = omega (arith, next_most s p bytes whole-head);
+                };
+                from = refl;
+              },
+            )
 
 -- ---- contents after a field
 

@@ -14,7 +14,7 @@ ghost use Rattle.record_parts.specs.Fields.{CountFound, ratios_by, tag_of, coded
 use super::field::{has_tag, is_head_whole, read_field};
 use limits::{MAX_POINTS, MAX_WIDE_POINTS};
 use position_format::Form;
-use record_format::{OLD_TAG, RATIOS_TAG, WIDE_TAG};
+use record_format::{OLD_TAG, RATIOS_TAG, WIDE_TAG, form_tag};
 use refusals::{Cause, Refusal};
 
 // How the numbers of a body are coded.
@@ -29,16 +29,6 @@ pub enum Coding {
 pub enum Reading {
     Strict,
     Open,
-}
-
-// The tag of positions in a form.
-pub fn form_tag(form: Form) -> u8
-    ensures { result ≡ positions_tag form }
-{
-    match form {
-        Form::Old => OLD_TAG,
-        Form::Wide => WIDE_TAG,
-    }
 }
 
 // The largest number of points of a run in a form.

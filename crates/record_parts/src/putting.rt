@@ -13,12 +13,14 @@ ghost use Rattle.record_format.specs.Runs.{side_fields, positions_field, front_f
 ghost use Rattle.record_parts.specs.Fields.{tag_of, coded_by, Codable};
 ghost use Rattle.record_parts.specs.Leads.{lead_fields, RecodedAs, RecodedNowhere};
 
-use super::coding::{Coding, form_tag, put_body, tag_of};
+use super::coding::{Coding, put_body, tag_of};
 use super::field::{LENGTH_SIZE, TAG_SIZE};
 use outputs::both_wrote;
 use position_codec::Recoded;
 use position_format::Form;
-use record_format::{COUNT_SIZE, COUNT_TAG, HEAD_SIZE, RATE_SIZE, RATE_TAG, SIDE_SIZE, SIDE_TAG};
+use record_format::{
+    COUNT_SIZE, COUNT_TAG, HEAD_SIZE, RATE_SIZE, RATE_TAG, SIDE_SIZE, SIDE_TAG, form_tag,
+};
 
 // The tag and the length of a field, at the front of the output.
 fn put_head(out: &mut [u8], tag: u8, n: usize)
@@ -78,16 +80,18 @@ fn put_front(rate: u32, side: u32, count: usize, out: &mut [u8]) -> Option<usize
 }
 
 // The fields of the rate, of the side, of the count and of the positions in a form, at the front of the output: all but the ratios'.
-pub fn put_lead(rate: u32, side: u32, form: Form, positions: &[u64], out: &mut [u8]) -> Option<usize>
+pub fn put_lead(
+    rate: u32,
+    side: u32,
+    form: Form,
+    positions: &[u64],
+    out: &mut [u8],
+) -> Option<usize>
     requires { CodablePositions form positions.now × (length positions.now ≤ max_points) }
     ensures { Placed (laid (lead_fields rate side form positions.now)) result out.old out.new }
 {
     let front_end = put_front(rate, side, positions.len(), out)?;
-    let field_size = put_coded(
-        Coding::Positions(form),
-        positions,
-        &mut out[front_end..],
-    )?;
+    let field_size = put_coded(Coding::Positions(form), positions, &mut out[front_end..])?;
     Some(front_end + field_size)
 }
 

@@ -64,9 +64,6 @@ module _ (s : List ℕ) (p : ℕ) (f : FieldBody) (h : FieldFound s p f) where
   unfolding next_at
   body_order = omega (arith, h.from, h.part.next)
 
-  pub body_inside : f.to ≤ length s
-  body_inside = omega (arith, h.part.next, h.part.inside)
-
   body_lent : take (f.to - f.from) (drop f.from s) ≡ body_at s p
   unfolding body_at next_at
   body_lent =
@@ -110,8 +107,8 @@ module _ {us : List Test} {tags : List ℕ} {k : List ℕ → Option (List ℕ)}
           (past_field ∙ first_of_skip _ _ g ∙ first_of_end, record { part = i.1.part; filled = got_body.1 g })
 
 -- a cut head decides, whatever tests follow
-head_cut : (s tags : List ℕ) (p : ℕ) (us ts : List Test) → ltb (length s) (p + head_size) ≡ true → first_of (head_tests s tags p ++ us) ≡ first_of (head_tests s tags p ++ ts)
-head_cut s tags p us ts cut = first_of_here _ _ cut ∙ sym (first_of_here _ _ cut)
+head_cut : (s tags : List ℕ) (p : ℕ) (xs ys : List Test) → ltb (length s) (p + head_size) ≡ true → first_of (head_tests s tags p ++ xs) ≡ first_of (head_tests s tags p ++ ys)
+head_cut s tags p xs ys cut = first_of_here _ _ cut ∙ sym (first_of_here _ _ cut)
 
 -- ---- the positions' field, by whether its head is whole and its form has fewer points than the count
 

@@ -4,22 +4,21 @@ use mathlib.Core.Path.{◌≡◌, refl, sym, ap, ◌∙◌, subst}
 use mathlib.Core.Bool.{Bool, true, false, not}
 use mathlib.Core.List.{List, [], ◌∷◌, ◌++◌}
 use mathlib.Core.Option.{some}
-use Prim.Native.Nat.{ℕ, ◌^◌, ◌≤◌, ◌<◌}
+use Prim.Native.Nat.{ℕ, ◌≤◌, ◌<◌}
 use native.Mathlib.Omega.{arith}
 use borrow.Author.Tests.{ltb-false, le-ltb, lt-ltb}
 use lib.Dec.{ltb, eqb, lit<}
-use lib.ListN.{length, take, drop}
+use lib.ListN.{length}
 use Rattle.bits.specs.Digits.{number_of}
-use Rattle.bits.proofs.Digits.{pow_above}
 use Rattle.limits.specs.Points.{max_points}
 use Rattle.limits.specs.Rates.{is_rate}
 use Rattle.limits.specs.Sides.{is_side}
 use Rattle.refusals.specs.declared.Refusal.{Refusal}
-use Rattle.refusals.specs.Tests.{Test, test, refusal, first_of, no_refusal}
+use Rattle.refusals.specs.Tests.{Test, test, refusal, first_of}
 use Rattle.refusals.proofs.Tests.{first_of_here, first_of_skip, first_of_clear, first_of_end}
 use Rattle.record_format.specs.Fields.{tag_at, body_at, next_at, field_tests}
 use Rattle.record_format.specs.Runs.{rate_tag, side_tag, count_tag, rate_size, side_size, count_size}
-use Rattle.record_format.specs.Reading.{rate_at, side_at, has_side, count_at, rate_in, count_in, other_rate, rate_tests, side_tests, count_tests, front_tests}
+use Rattle.record_format.specs.Reading.{rate_at, side_at, has_side, count_at, count_in, other_rate, rate_tests, side_tests, count_tests, front_tests}
 use Rattle.record_format.proofs.Reading.{field_clear, side_numbered}
 use Rattle.record_format.proofs.Reading.Sides.{absent_count, absent_side, absent_tests, present_count, present_side, present_tests}
 use Rattle.record_parts.specs.declared.front.Number.{Number}
@@ -60,15 +59,16 @@ side_seen s p at e = e ∙ ap (λ (q : ℕ). eqb (tag_at s q) side_tag) at
 
 -- there is none
 pub side_absent : (s : List ℕ) (p : ℕ) → p ≡ side_at s → p ≤ length s → has_side s ≡ false → SideRead s (Ok (record { value = 0; end = p }))
-side_absent s p at inside e =
-    (ap first_of (absent_tests s e) ∙ first_of_end,
-    record {
-      value = sym (absent_side s e);
-      small = lit< tt;
-      next = at ∙ sym (absent_count s e);
-      inside = omega (arith, absent_count s e);
-      near = omega (arith, absent_count s e);
-    })
+side_absent s p at inside e = (
+  ap first_of (absent_tests s e) ∙ first_of_end,
+  record {
+    value = sym (absent_side s e);
+    small = lit< tt;
+    next = at ∙ sym (absent_count s e);
+    inside = omega (arith, absent_count s e);
+    near = omega (arith, absent_count s e);
+  },
+)
 
 -- the test of a side n at the offset q
 abbrev side_contents : ℕ → ℕ → List Test
@@ -93,15 +93,16 @@ module _ (s : List ℕ) (p : ℕ) (at : p ≡ side_at s) (present : has_side s �
 
     pub side_good : is_side f.value ≡ true → SideRead s (Ok f)
     side_good b =
-        let past : next_at s p ≡ count_at s = ap (next_at s) at ∙ sym (present_count s present) in
-        (sided ∙ first_of_skip _ _ (ap not b) ∙ first_of_end,
-        record {
-          value = h.1.value ∙ ap (λ (q : ℕ). number_of 256 (body_at s q)) at ∙ sym (present_side s present);
-          small = h.1.small;
-          next = h.1.part.next ∙ past;
-          inside = omega (arith, h.1.part.inside, past);
-          near = omega (arith, h.1.part.near, past, at);
-        })
+        let past : next_at s p ≡ count_at s = ap (next_at s) at ∙ sym (present_count s present) in (
+          sided ∙ first_of_skip _ _ (ap not b) ∙ first_of_end,
+          record {
+            value = h.1.value ∙ ap (λ (q : ℕ). number_of 256 (body_at s q)) at ∙ sym (present_side s present);
+            small = h.1.small;
+            next = h.1.part.next ∙ past;
+            inside = omega (arith, h.1.part.inside, past);
+            near = omega (arith, h.1.part.near, past, at);
+          },
+        )
 
 -- ---- the count, at the offset p
 
@@ -152,20 +153,21 @@ module _ (e : ℕ) (s : List ℕ) (f : Number) (h : NumberRead rate_size (rate_t
       pub front-found : FrontRead e s (Ok (record { rate = f.value; side = d.value; count = g.value; place = d.end; end = g.end }))
       front-found =
           let at : d.end ≡ count_at s = i.1.next in
-          let next : next_at s d.end ≡ next_at s (count_at s) = ap (next_at s) at in
-          (past_side ∙ k.0,
-          record {
-            rate = h.1.value;
-            side = i.1.value;
-            count = record {
-              counted = k.1.value ∙ ap (λ (q : ℕ). number_of 256 (body_at s q)) at;
-              few = few_in;
-              stands = at;
-              next = k.1.part.next ∙ next;
-              inside = subst (λ (q : ℕ). q ≤ length s) next k.1.part.inside;
-              near = omega (arith, h.1.part.near, i.1.near, k.1.part.near, next, at);
-            };
-          })
+          let next : next_at s d.end ≡ next_at s (count_at s) = ap (next_at s) at in (
+            past_side ∙ k.0,
+            record {
+              rate = h.1.value;
+              side = i.1.value;
+              count = record {
+                counted = k.1.value ∙ ap (λ (q : ℕ). number_of 256 (body_at s q)) at;
+                few = few_in;
+                stands = at;
+                next = k.1.part.next ∙ next;
+                inside = subst (λ (q : ℕ). q ≤ length s) next k.1.part.inside;
+                near = omega (arith, h.1.part.near, i.1.near, k.1.part.near, next, at);
+              };
+            },
+          )
 
 -- the count's field begins before it ends
 pub place_near : {s : List ℕ} {c q p : ℕ} → CountFound s c q p → q ≤ farthest 3

@@ -1,5 +1,5 @@
 -- Laws of the points of a record as they are read: what each outcome leaves to be said.
-use mathlib.Core.Path.{◌≡◌, refl, sym, ap, ap₂, ◌∙◌}
+use mathlib.Core.Path.{◌≡◌, refl, ap, ap₂, ◌∙◌}
 use mathlib.Core.List.{List, ◌++◌}
 use mathlib.Core.Option.{Option}
 use Prim.Native.Nat.{ℕ, ◌≤◌}
@@ -7,7 +7,7 @@ use native.Mathlib.Omega.{arith}
 use Rattle.lists.specs.Optional.{list_of}
 use Rattle.outputs.specs.Outputs.{over}
 use Rattle.refusals.specs.declared.Refusal.{Refusal}
-use Rattle.refusals.specs.Tests.{Test, first_of}
+use Rattle.refusals.specs.Tests.{first_of}
 use Rattle.position_format.specs.declared.Form.{Form}
 use Rattle.position_format.specs.Positions.{read_positions}
 use Rattle.position_format.specs.Tables.{table_of}
@@ -58,17 +58,18 @@ module _ {s ts : List ℕ} {c m p : ℕ} {o : Form} {e : ℕ} {ps : List ℕ} (h
     points_found l qs j =
         let b = h.count.counted in
         let at = ratios_at_lem in
-        let ends : l ≡ end_at s = j.1.part.next ∙ ap (next_at s) at in
-        (past_positions ∙ j.0,
-        record {
-          form = h.form;
-          from = at;
-          next = ends;
-          inside = omega (arith, ends, j.1.part.next, j.1.part.inside);
-          near = omega (arith, ends, j.1.part.next, j.1.part.near, ratios_near);
-          positions = λ room.
-              h.read.1.filled (omega (arith, b))
-              ∙ ap₂ (λ (n q : ℕ). over (list_of (read_positions (table_of o) n (body_at s q))) ts) b h.count.next
-              ∙ ap (λ (x : Form). over (list_of (read_positions (table_of x) (count_in s) (body_at s (positions_at s)))) ts) h.form;
-          ratios = λ room. j.1.filled (omega (arith, b)) ∙ ap₂ (λ (n q : ℕ). over (list_of (k n (body_at s q))) vs) b at;
-        })
+        let ends : l ≡ end_at s = j.1.part.next ∙ ap (next_at s) at in (
+          past_positions ∙ j.0,
+          record {
+            form = h.form;
+            from = at;
+            next = ends;
+            inside = omega (arith, ends, j.1.part.next, j.1.part.inside);
+            near = omega (arith, ends, j.1.part.next, j.1.part.near, ratios_near);
+            positions = λ room.
+                h.read.1.filled (omega (arith, b))
+                ∙ ap₂ (λ (n q : ℕ). over (list_of (read_positions (table_of o) n (body_at s q))) ts) b h.count.next
+                ∙ ap (λ (x : Form). over (list_of (read_positions (table_of x) (count_in s) (body_at s (positions_at s)))) ts) h.form;
+            ratios = λ room. j.1.filled (omega (arith, b)) ∙ ap₂ (λ (n q : ℕ). over (list_of (k n (body_at s q))) vs) b at;
+          },
+        )

@@ -21,8 +21,8 @@ use Rattle.position_codec.specs.declared.recode.Recoded.{Recoded}
 use Rattle.position_codec.specs.declared.recode.Recoded.TheVariants.{Outside, Put}
 use Rattle.record_format.specs.Fields.{length_size, head_size, laid}
 use Rattle.record_format.specs.Runs.{positions_tag, positions_field}
-use Rattle.record_parts.specs.Leads.{RecodedAs, RecodedNowhere}
-use Rattle.record_parts.proofs.putting.Writings.{field_none, field_fits, field_done}
+use Rattle.record_parts.specs.Leads.{RecodedAs}
+use Rattle.record_parts.proofs.putting.Writings.{field_none, field_done}
 
 -- as many are read as are asked for
 pub length-read : (f : Form) (n : ℕ) (body : List ℕ) → missing (read_positions (table_of f) n body) ≡ false
@@ -64,17 +64,6 @@ module _ (f : Form) (ts : List ℕ) where
     recoded_none short = (body_put.0, field_none (positions_tag f) body o q w h body_put.1 short)
 
     module _ (n : ℕ) (done : w ≡ Some n) where
-      pub recoded_fits : n + head_size ≤ length o
-      recoded_fits = field_fits (positions_tag f) body o q w h body_put.1 n done
-
       pub recoded_done : (l : List ℕ) (t : ℕ) → t ≡ positions_tag f → l ≡ over (t ∷ bytes_of length_size n) (put_mid head_size (length o - head_size) o q)
           → RecodedAs f ts (laid (positions_field f ts ∷ [])) (Put (Some (n + head_size))) o l
       recoded_done l t tagged g = (body_put.0, field_done (positions_tag f) body o q w h body_put.1 n done l t tagged g)
-
-  -- no output has room
-  module _ (o p : List ℕ) (r : Recoded) (h : RecodedInto f ts r o p) where
-    pub nowhere_outside : {i : ℕ} → r ≡ Outside i → RecodedNowhere f ts (Outside i)
-    nowhere_outside e bs q l short = recoded_outside _ o p r (recoded_body r o p h) e bs q l
-
-    pub nowhere_put : {w : Wrote ℕ} → r ≡ Put w → RecodedNowhere f ts (Put None)
-    nowhere_put e bs q l short = ((recoded_put _ o p r (recoded_body r o p h) e).0, short)

@@ -1,19 +1,19 @@
 -- Laws of a record as it is written: a head, a field, and fields after others, put at the front of an output.
 use mathlib.Core.Path.{◌≡◌, refl, sym, ap, ap₂, ◌∙◌, subst}
-use mathlib.Core.List.{List, [], ◌∷◌, ◌++◌, append_assoc, append-nil}
+use mathlib.Core.List.{List, [], ◌∷◌, ◌++◌, append_assoc}
 use Prim.Native.Nat.{ℕ, zero, suc, ◌+◌, ◌-◌, ◌≤◌, ◌<◌}
 use native.Mathlib.Omega.{arith}
 use lib.ListN.{length, take, drop, length-append, length-drop}
 use lib.Seq.{take_at, drop_at, drop-drop, length-take-le}
 use borrow.Rule.Slice.PartMut.{put_mid}
 use Rattle.bits.specs.Digits.{bytes_of}
-use Rattle.outputs.specs.Outputs.{over, over_at, Placed, both_wrote, Next}
+use Rattle.outputs.specs.Outputs.{over, over_at, Placed, both_wrote}
 use Rattle.bits.proofs.Digits.{length_digits}
 use Rattle.outputs.proofs.Outputs.Parts.{rest_is, put_rest}
-use Rattle.outputs.proofs.Outputs.Writers.{both_fit, next_placed}
+use Rattle.outputs.proofs.Outputs.Writers.{next_placed}
 use Rattle.std.specs.Prelude.{Option, Some, None}
 use Rattle.record_format.specs.Fields.{Field, field_of, length_size, head_size, field_bytes, laid}
-use Rattle.record_format.specs.Runs.{side_tag, side_size, side_fields}
+use Rattle.record_format.specs.Runs.{side_fields}
 use Rattle.record_format.proofs.Fields.{length_field, length-laid, laid-append, laid_one}
 
 -- ---- a head, and a field of a number
@@ -106,9 +106,6 @@ pub record FirstLaid (fs gs all : List Field) (n : ℕ) (o p : List ℕ) : Type 
 
 -- another said v of the others, in the rest, which is now q
 module _ {fs gs all : List Field} {n : ℕ} {o p : List ℕ} (h : FirstLaid fs gs all n o p) (q : List ℕ) where
-  pub first-laid_fits : (v : Option ℕ) → Placed (laid gs) v (take (length p - n) (drop n p)) q → (m : ℕ) → v ≡ Some m → n + m ≤ length o
-  first-laid_fits v next = both_fit (laid gs) p (Some n) n refl q v next (laid fs) o h.put
-
   pub first-laid_then : (v : Option ℕ) → Placed (laid gs) v (take (length p - n) (drop n p)) q → Placed (laid all) (both_wrote n v) o (put_mid n (length p - n) p q)
   first-laid_then v next =
       subst (λ (l : List ℕ). Placed l (both_wrote n v) o (put_mid n (length p - n) p q)) (sym (ap laid h.both ∙ laid-append fs gs))

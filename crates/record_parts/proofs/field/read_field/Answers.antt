@@ -4,7 +4,7 @@ use mathlib.Core.Bool.{true}
 use lib.ListN.{get_or}
 use Rattle.lists.specs.Lists.{member}
 use Rattle.lists.proofs.Below.{below_of}
-use Rattle.record_parts.specs.Fields.{length_asked, length_good}
+use Rattle.record_parts.specs.Fields.{length_asked}
 use Rattle.record_parts.proofs.Fields.{member_any, field_head, field_tag, field_length, field_cut, field_found}
 use Rattle.record_parts.proofs.field.read_field.Goals as goal
 

@@ -9,10 +9,11 @@ get_bytes-requires c =
 
 pub returns : goal.returns
 returns c =
-    let h = c.in_ok-field.ensures in
-    (h.0,
-    record {
-      part = h.1.part;
-      value = number_is c.args.input.now c.args.tag c.args.n c.args.at c.in_ok-field.field h.0 h.1 _ c.get_bytes.ensures.0;
-      small = c.get_bytes.ensures.1;
-    })
+    let h = c.in_ok-field.ensures in (
+      h.0,
+      record {
+        part = h.1.part;
+        value = number_is c.args.input.now c.args.tag c.args.n c.args.at c.in_ok-field.field h.0 h.1 _ c.get_bytes.ensures.0;
+        small = c.get_bytes.ensures.1;
+      },
+    )

@@ -1,5 +1,5 @@
 -- `put_front` meets its contract: each writer puts its field past those before.
-use mathlib.Core.List.{[], ◌∷◌, ◌++◌, append_assoc}
+use mathlib.Core.List.{[], ◌∷◌, ◌++◌}
 use mathlib.Core.Path.{refl}
 use Rattle.std.specs.Prelude.{Some, None}
 use Rattle.record_format.specs.Runs.{rate_field, count_field, side_fields, front_fields}

@@ -1,9 +1,11 @@
 -- Laws of the rates.
-use mathlib.Core.Bool.{true}
-use mathlib.Core.Path.{◌≡◌, refl}
+use mathlib.Core.Bool.{Bool, true, false, cond, ◌||◌}
+use mathlib.Core.List.{List, [], ◌∷◌}
+use mathlib.Core.Path.{◌≡◌, refl, sym, ap₂, ◌∙◌}
 use Prim.Native.Nat.{ℕ, ◌≤◌}
-use borrow.Author.Tests.{leb-true}
-use lib.Dec.{leb}
+use borrow.Author.Tests.{leb-true, eqb-true, eq-eqb}
+use lib.Dec.{leb, eqb}
+use Rattle.std.specs.List.{list_any}
 use Rattle.limits.specs.Rates.{rates, is_rate, six_rates, RateRule}
 use Rattle.lists.specs.Lists.{member}
 use Rattle.lists.proofs.Compare.{same_test}
@@ -15,6 +17,16 @@ use Rattle.lists.proofs.Lists.{member_every}
 pub rate_rule : RateRule
 unfolding is_rate rates member
 rate_rule r = same_test (is_rate r) (member r six_rates) (member_every (λ x. member x six_rates) rates r refl) (member_every is_rate six_rates r refl)
+
+or_cond : (a b : Bool) → (a || b) ≡ cond a true b
+or_cond true b = refl
+or_cond false b = refl
+
+-- a list contains its members
+pub member_any : (x : ℕ) (l : List ℕ) → list_any (λ y. eqb y x) l ≡ member x l
+unfolding member
+member_any x [] = refl
+member_any x (y ∷ l) = ap₂ (λ s t. s || t) (same_test (eqb y x) (eqb x y) (λ e. eq-eqb x y (sym (eqb-true y x e))) (λ e. eq-eqb y x (sym (eqb-true x y e)))) (member_any x l) ∙ or_cond (eqb x y) (member x l)
 
 -- ---- bounds
 

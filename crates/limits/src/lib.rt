@@ -1,7 +1,7 @@
 // The limits of a run: rates, points, positions and sides.
 #![tactic(auto)]
 
-ghost use Rattle.std.specs.Prelude.{◌≡◌, ◌*◌, ◌^◌, ◌<◌};
+ghost use Rattle.std.specs.Prelude.{◌≡◌, ◌*◌, ◌^◌, ◌<◌, length, MatchOption};
 ghost use Rattle.lists.specs.Lists.{member};
 ghost use Rattle.limits.specs.Points.{first_high};
 ghost use Rattle.limits.specs.Rates.{times_one_two_four, is_rate};
@@ -23,7 +23,7 @@ fn is_times_one_two_four(base: u32, rate: u32) -> bool
     requires { 4 * base < 2 ^ 32 }
     ensures { result ≡ member rate (times_one_two_four base) }
 {
-    rate == base || rate == 2 * base || rate == 4 * base
+    [base, 2 * base, 4 * base].contains(&rate)
 }
 
 // Whether a number is a rate: 44,100 or 48,000 times one, two or four.
@@ -38,20 +38,14 @@ pub fn is_rate(rate: u32) -> bool
 pub fn is_side(side: u32) -> bool
     ensures { result ≡ is_side side }
 {
-    1 <= side && side <= MAX_SIDE
+    (1..=MAX_SIDE).contains(&side)
 }
 
-// The index of the first position above the largest, or their number where there is none.
-#[tactic(auto, using(crate::proofs::Points::first_here))]
-pub fn first_high(positions: &[u64]) -> usize
-    ensures { result ≡ first_high positions.now }
+// The index of the first position above the largest, where there is one.
+pub fn first_high(positions: &[u64]) -> Option<usize>
+    ensures { MatchOption result (first_high positions.now ≡ length positions.now) (λ i. (i ≡ first_high positions.now) × (i < length positions.now)) }
 {
-    let mut i = 0;
-    while i < positions.len() {
-        if MAX_POSITION < positions[i] {
-            return i;
-        }
-        i += 1;
-    }
-    i
+    positions
+        .iter()
+        .position(|position| MAX_POSITION < *position)
 }

@@ -1,38 +1,48 @@
--- Laws of an addition by any coder, in the parts that the code has: the tests of the state refuse it, or what the coder did with the output decides.
+-- Laws of an addition by any coder, in the parts that the code has: a test of the state refuses it, there is no room, or the coder's bytes stand in
+-- the output.
 use mathlib.Core.Path.{◌≡◌, sym, ap, ◌∙◌}
 use mathlib.Core.List.{List}
-use Prim.Native.Nat.{ℕ}
+use Prim.Native.Nat.{ℕ, ◌≤◌, ◌<◌}
 use native.Mathlib.Omega.{arith}
-use lib.ListN.{length, replicate}
-use Rattle.refusals.specs.Tests.{first_of}
-use Rattle.std.specs.Prelude.{Option, Some, None}
+use lib.ListN.{length}
+use Rattle.std.proofs.Common.{Ok, Err, Some}
+use Rattle.limits.specs.Points.{max_points}
+use Rattle.refusals.specs.declared.Refusal.{Refusal}
+use Rattle.refusals.specs.Tests.{refusal, no_refusal, first_of}
 use Rattle.outputs.specs.Outputs.{zeros, Placed}
 use Rattle.ratio_format.specs.declared.Live.{Live}
-use Rattle.ratio_format.specs.declared.AddAnswer.{AddAnswer}
-use Rattle.ratio_format.specs.Lives.{state_tests, Coder, add_bytes_by, add_answer_by, add_output_by, add_state_by}
-use Rattle.ratio_format.proofs.Lives.{add_tested, add_short, add_none, add_refused, add_good}
-use Rattle.live.specs.Additions.{wrote_answer, wrote_state, wrote_output}
+use Rattle.ratio_format.specs.Windows.{window_size}
+use Rattle.ratio_format.specs.Lives.{state_tests, added_to, added_numbers, Coder, add_bytes_by, add_answer_by, add_output_by, add_state_by}
+use Rattle.ratio_format.proofs.Lives.{good_fill, good_live, state_passed, state_place, add_tested, add_short, add_none, add_refused, add_good}
+
+-- what a state that no test refuses allows
+module _ (s : Live) (e : first_of (state_tests s) ≡ no_refusal) where
+  clear : (first_of (state_tests s)).number ≡ 0
+  clear = ap (λ (f : Refusal). f.number) e
+
+  pub passed_fill : s.window.fill ≤ window_size
+  passed_fill = omega (arith, good_fill s.window s.seen (good_live s (state_passed s clear).0).0)
+
+  pub passed_seen : s.seen < max_points
+  passed_seen = (state_passed s clear).1
 
 module _ (k : Coder) (s : Live) (v : ℕ) (o : List ℕ) where
-  -- what an addition answers, the state after it, and the output
-  abbrev pub Gives : AddAnswer → Live → List ℕ → Type 0
-  Gives a u p = (a ≡ add_answer_by k s v o) × (u ≡ add_state_by k s v o) × (p ≡ add_output_by k s v o)
+  -- a refusal: what it leaves
+  abbrev pub Refuses : Refusal → Type 0
+  Refuses f = (add_answer_by k s v o ≡ added_numbers (Err f)) × (add_state_by k s v o ≡ s) × (add_output_by k s v o ≡ zeros o)
 
-  -- a test of the state applies: nothing is written
-  pub gives_tested : (n : ℕ) → n ≡ (first_of (state_tests s)).number → (n ≡ 0 → ⊥) → (a : AddAnswer) (u : Live) (p : List ℕ)
-      → (a ≡ record { number = n; place = 0; length = 0 }) × (u ≡ s) × (p ≡ zeros o) → Gives a u p
-  gives_tested n e z a u p t =
-      let f = add_refused k s v o n z (add_tested k s v o n e z) in (t.0 ∙ sym f.0, t.1 ∙ sym f.1, t.2 ∙ sym f.2)
+  pub addition_tested : (f : Refusal) → f ≡ first_of (state_tests s) → (f.number ≡ 0 → ⊥) → Refuses f
+  addition_tested f e n =
+      let number : f.number ≡ (first_of (state_tests s)).number = ap (λ (g : Refusal). g.number) e in
+      let place : f.place ≡ 0 = ap (λ (g : Refusal). g.place) e ∙ state_place s in
+      rw place (add_refused k s v o f.number n (add_tested k s v o f.number number n))
 
-  -- none does: what the coder did with the output o, which it left as p, decides
-  pub gives-wrote : (first_of (state_tests s)).number ≡ 0 → (w : (Option ℕ)) (p : List ℕ) → length p ≡ length o → Placed (add_bytes_by k s v) w o p
-      → (a : AddAnswer) (u : Live) (l : List ℕ) → (a ≡ wrote_answer w) × (u ≡ wrote_state w s v) × (l ≡ wrote_output w p) → Gives a u l
-  gives-wrote z (Some n) p e q a u l t =
-      let g = add_good k s v o (add_none k s v o z q.1) in (
-        t.0 ∙ ap (λ (i : ℕ). record { number = 0; place = 0; length = i }) q.0 ∙ sym g.0,
-        t.1 ∙ sym g.1,
-        t.2 ∙ q.2 ∙ sym g.2,
-      )
-  gives-wrote z None p e q a u l t =
-      let f = add_refused k s v o 6 (λ n. omega arith) (add_short k s v o z q) in
-      (t.0 ∙ sym f.0, t.1 ∙ sym f.1, t.2 ∙ ap (λ (i : ℕ). replicate i 0) e ∙ sym f.2)
+  module _ (e : first_of (state_tests s) ≡ no_refusal) where
+    pub addition_short : length o < length (add_bytes_by k s v) → Refuses (refusal 6 0)
+    addition_short h = add_refused k s v o 6 (λ n. omega arith) (add_short k s v o (clear s e) h)
+
+    pub addition_written : (n : ℕ) (p : List ℕ) → Placed (add_bytes_by k s v) (Some n) o p
+        → (add_answer_by k s v o ≡ added_numbers (Ok n)) × (add_state_by k s v o ≡ added_to s v) × (add_output_by k s v o ≡ p)
+    addition_written n p q =
+        let g = add_good k s v o (add_none k s v o (clear s e) q.1) in
+        (g.0 ∙ ap (λ (i : ℕ). added_numbers (Ok i)) (sym q.0), g.1, g.2 ∙ sym q.2)

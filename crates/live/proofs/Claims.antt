@@ -2,11 +2,10 @@
 use mathlib.Core.Path.{refl}
 use Rattle.ratio_format.specs.SteppingClaims.{step_answers}
 use Rattle.ratio_format.proofs.SteppingClaims.{steps}
-use Rattle.live.specs.Readers.{cursor_of}
 use Rattle.live.specs.Claims.{NextSteps, TwoSteps}
 
 pub next_steps : NextSteps
-next_steps r bytes size cells = (steps r.body.now (cursor_of r) bytes size cells, refl)
+next_steps r bytes size cells = (steps r.body.now r.cursor bytes size cells, refl)
 
 pub two_steps : TwoSteps
 unfolding step_answers

@@ -10,11 +10,8 @@ use Rattle.live.specs.Readers.{next_answer, next_reader, first_two}
 
 -- of every reader: the three conditions are those of the types of its body and its window
 abbrev pub NextSteps : Type 0
-NextSteps = (r : Reader) → Below 256 r.body.now → length r.window.ratios ≡ 127 → Below (2 ^ 64) r.window.ratios
-    → let q = next_reader r in
-    StepsSo r.body.now (record { place = r.place; count = r.count; seen = r.seen; window = r.window }) (next_answer r)
-    (record { place = q.place; count = q.count; seen = q.seen; window = q.window })
-    × (q.body ≡ r.body)
+NextSteps = (r : Reader) → Below 256 r.body.now → length r.cursor.window.ratios ≡ 127 → Below (2 ^ 64) r.cursor.window.ratios
+    → let q = next_reader r in StepsSo r.body.now r.cursor (next_answer r) q.cursor × (q.body ≡ r.body)
 
 -- of every body and count
 abbrev pub TwoSteps : Type 0

@@ -1,4 +1,3 @@
 pub mod Readers
 pub mod States
-pub mod Additions
 pub mod Claims

@@ -1,40 +1,25 @@
--- Kept states by their numbers, and what a step finds, in terms of the definitions over whole states.
---   bad_fill fill seen                     no window that took `seen` ratios has this fill
---   bad_counts fill seen                   a live state with these numbers is bad
---   state_number fill seen                 the number of the first test of an addition to such a state that needs no bytes, or 0
---   live_of ratios fill seen               the live state with these cells and numbers
---   state_of place count seen ratios fill  the reader's state with these cells and numbers
---   step_found b c                         the number and the ratio of a step's answer, and how many bytes the step takes
-use Rattle.std.specs.Prelude.{Bool, List, [], ℕ, ◌-◌}
-use Rattle.refusals.specs.Tests.{first_of}
-use Rattle.ratio_format.specs.declared.Live.{Live}
+-- What making a reader and a step find, in terms of the definitions of their answers.
+--   begun_numbers r  the state that a reader starts with, or the refusal of making it, as making answers to C
+--   Sought b c r     what a step of a reader of the body b in the state c finds: a ratio and how many bytes it takes, with the answer and the
+--                    state that these make, or a refusal, with the answer that it makes and the state as it was
+use Rattle.std.specs.Prelude.{◌≡◌, ◌≢◌, List, ℕ, ◌+◌, ◌≤◌, ◌<◌, length, Result, Ok, Err}
+use Rattle.limits.specs.Points.{max_points}
+use Rattle.refusals.specs.declared.Refusal.{Refusal}
+use Rattle.refusals.specs.Tests.{no_refusal}
 use Rattle.ratio_format.specs.declared.Cursor.{Cursor}
-use Rattle.ratio_format.specs.Lives.{bad_window, bad_live, state_tests}
-use Rattle.ratio_format.specs.Stepping.{step_answer, step_cursor}
-use Rattle.live.specs.declared.stepping.Found.{Found}
+use Rattle.ratio_format.specs.Windows.{fresh_window, pushed}
+use Rattle.ratio_format.specs.Stepping.{step_answer, step_cursor, stepped_numbers}
+use Rattle.live.specs.declared.stepping.Begun.{Begun}
 
--- a live state put together
-abbrev pub live_of : List ℕ → ℕ → ℕ → Live
-live_of ratios fill seen = record { window = record { ratios = ratios; fill = fill }; seen = seen }
+-- a refused making leaves the count 0
+abbrev pub begun_numbers : Result Cursor Refusal → Begun
+begun_numbers (Ok c) = record { refusal = no_refusal; cursor = c }
+begun_numbers (Err f) = record { refusal = f; cursor = record { place = 0; count = 0; seen = 0; window = fresh_window } }
 
--- the test reads no cell
-abbrev pub bad_fill : ℕ → ℕ → Bool
-bad_fill fill seen = bad_window (record { ratios = []; fill = fill }) seen
-
--- nor does this one
-abbrev pub bad_counts : ℕ → ℕ → Bool
-bad_counts fill seen = bad_live (live_of [] fill seen)
-
--- 7, 3, or 0
-abbrev pub state_number : ℕ → ℕ → ℕ
-state_number fill seen = (first_of (state_tests (live_of [] fill seen))).number
-
--- a reader's state put together
-abbrev pub state_of : ℕ → ℕ → ℕ → List ℕ → ℕ → Cursor
-state_of place count seen ratios fill =
-    record { place = place; count = count; seen = seen; window = record { ratios = ratios; fill = fill } }
-
--- a refused step takes none
-abbrev pub step_found : List ℕ → Cursor → Found
-step_found b c =
-    record { number = (step_answer b c).number; ratio = (step_answer b c).ratio; used = (step_cursor b c).place - c.place }
+-- the ratio v of k bytes ends within the body; a refusal has a number
+abbrev pub Sought : List ℕ → Cursor → Result (ℕ × ℕ) Refusal → Type 0
+Sought b c (Ok (v, k)) =
+    (step_answer b c ≡ stepped_numbers (Ok v))
+    × (step_cursor b c ≡ record { place = c.place + k; count = c.count; seen = c.seen + 1; window = pushed c.window v })
+    × (c.place + k ≤ length b) × (c.seen < max_points)
+Sought b c (Err f) = (step_answer b c ≡ stepped_numbers (Err f)) × (step_cursor b c ≡ c) × (f.number ≢ 0)

@@ -1,74 +1,55 @@
 // A reader of coded ratios, which holds the body and its own place in it.
-ghost use Rattle.std.specs.Prelude.{◌≡◌};
-ghost use Rattle.ratio_format.specs.Stepping.{made, made_body, made_cursor};
-ghost use Rattle.live.specs.Readers.{cursor_of, next_answer, next_reader, first_two};
+ghost use Rattle.std.specs.Prelude.{◌≡◌, ◌≢◌, IfErr};
+ghost use Rattle.ratio_format.specs.Stepping.{made, made_body, made_cursor, stepped_numbers};
+ghost use Rattle.live.specs.Readers.{refusal_in, next_answer, next_reader, first_two};
 
-use super::stepping::{begin, kept_body, step_at};
-use ratio_format::{Cursor, StepAnswer, Window};
+use super::stepping::{before_first, begin, step_at};
+use ratio_format::{Cursor, StepAnswer};
 use refusals::Refusal;
 
-// The coded ratios, the offset of the next form, the count, the number of ratios given and the window.
+// The coded ratios, and the state of the reading.
 #[derive(Clone, Copy)]
 pub struct Reader<'a> {
     pub body: &'a [u8],
-    pub place: u64,
-    pub count: u64,
-    pub seen: u64,
-    pub window: Window,
+    pub cursor: Cursor,
 }
 
-// The answer of making a reader, and the reader.
+// Whether a reader was made, and the reader. A refused making gives one too, with an empty body and the count 0: document 01, "Stepping".
 #[derive(Clone, Copy)]
 pub struct Making<'a> {
-    pub number: u32,
-    pub place: u32,
+    pub made: Result<(), Refusal>,
     pub reader: Reader<'a>,
 }
 
 // A reader of the body with this count; a refused making gives one with an empty body and count 0.
 pub fn make<'a>(body: &'a [u8], count: u64) -> Making<'a>
-    ensures { (result.number ≡ (made count).number)
-        × (result.place ≡ (made count).place)
-        × (result.reader.body.now ≡ made_body count body.now)
-        × (cursor_of result.reader ≡ made_cursor count) }
+    ensures made { refusal_in result.made ≡ made count }
+    ensures body { result.reader.body.now ≡ made_body count body.now }
+    ensures cursor { result.reader.cursor ≡ made_cursor count }
+    ensures refused { IfErr result.made (λ f. f.number ≢ 0) }
 {
-    let begun = begin(count);
-    let refusal = begun.refusal;
-    let cursor = begun.cursor;
-    let window = cursor.window;
-    let body = kept_body(body, count);
-    let reader = Reader {
-        body,
-        place: cursor.place,
-        count: cursor.count,
-        seen: cursor.seen,
-        window,
-    };
-    Making {
-        number: refusal.number,
-        place: refusal.place,
-        reader,
+    match begin(count) {
+        Ok(cursor) => Making {
+            made: Ok(()),
+            reader: Reader { body, cursor },
+        },
+        Err(refusal) => Making {
+            made: Err(refusal),
+            reader: Reader {
+                body: &body[..0],
+                cursor: before_first(0),
+            },
+        },
     }
 }
 
 // The next ratio, the end, or a refusal.
-pub fn next<'s, 'a>(r: &'s mut Reader<'a>) -> StepAnswer
-    ensures { (result ≡ next_answer r.old) × (r.new ≡ next_reader r.old) }
+pub fn next<'s, 'a>(r: &'s mut Reader<'a>) -> Result<u64, Refusal>
+    ensures answer { stepped_numbers result ≡ next_answer r.old }
+    ensures reader { r.new ≡ next_reader r.old }
+    ensures refused { IfErr result (λ f. f.number ≢ 0) }
 {
-    let window = r.window;
-    let cursor = Cursor {
-        place: r.place,
-        count: r.count,
-        seen: r.seen,
-        window,
-    };
-    let step = step_at(r.body, cursor);
-    let after = step.cursor;
-    let window = after.window;
-    r.place = after.place;
-    r.seen = after.seen;
-    r.window = window;
-    step.answer
+    step_at(r.body, &mut r.cursor)
 }
 
 // The answers of making a reader and of its first two steps.
@@ -84,17 +65,16 @@ pub struct Two {
 pub fn first_two(body: &[u8], count: u64) -> Two
     ensures { result ≡ first_two body.now count }
 {
-    let m = make(body, count);
-    let mut r = m.reader;
-    let first = next(&mut r);
-    let second = next(&mut r);
-    let made = Refusal {
-        number: m.number,
-        place: m.place,
-    };
+    let making = make(body, count);
+    let mut reader = making.reader;
+    let first = next(&mut reader);
+    let second = next(&mut reader);
     Two {
-        made,
-        first,
-        second,
+        made: making.made.err().unwrap_or(Refusal {
+            number: 0,
+            place: 0,
+        }),
+        first: first.into(),
+        second: second.into(),
     }
 }

@@ -70,7 +70,7 @@ module _ (s : Live) where
       (bad.0, leb-false max_points s.seen many.0)
 
   -- each gives the place 0
-  state_place : (first_of (state_tests s)).place ≡ 0
+  pub state_place : (first_of (state_tests s)).place ≡ 0
   state_place = go (bad_live s) refl (leb max_points s.seen) refl
     where
       go : (b : Bool) → bad_live s ≡ b → (m : Bool) → leb max_points s.seen ≡ m → (first_of (state_tests s)).place ≡ 0

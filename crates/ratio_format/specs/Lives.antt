@@ -14,7 +14,8 @@
 --   add_answer s v o   the answer: number, place and the number of bytes written
 --   add_output s v o   the output o afterwards
 --   add_state s v o    the state afterwards
-use Rattle.std.specs.Prelude.{Bool, true, not, cond, List, [], ◌∷◌, ◌++◌, ℕ, ◌+◌, min, leb, ltb, eqb, length}
+--   added_numbers a    the number of bytes written, or the refusal in its place, in numbers
+use Rattle.std.specs.Prelude.{Bool, true, not, cond, List, [], ◌∷◌, ◌++◌, ℕ, ◌+◌, min, leb, ltb, eqb, length, Result, Ok, Err}
 use Rattle.refusals.specs.declared.Refusal.{Refusal}
 use Rattle.limits.specs.Points.{max_points}
 use Rattle.refusals.specs.Tests.{Test, test, first_of, refused}
@@ -98,3 +99,8 @@ add_output = add_output_by coded
 -- the state afterwards
 abbrev pub add_state : Live → ℕ → List ℕ → Live
 add_state = add_state_by coded
+
+-- the number of bytes written, or the refusal in its place, in numbers
+abbrev pub added_numbers : Result ℕ Refusal → AddAnswer
+added_numbers (Ok n) = record { number = 0; place = 0; length = n }
+added_numbers (Err f) = record { number = f.number; place = f.place; length = 0 }

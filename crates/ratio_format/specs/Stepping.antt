@@ -11,7 +11,8 @@
 --   step_refusal b c   the refusal of a step, the end among them, or none
 --   step_answer b c    the answer: number, place and the ratio
 --   step_cursor b c    the reader's state afterwards
-use Rattle.std.specs.Prelude.{Bool, true, false, cond, List, [], ◌∷◌, ℕ, ◌+◌, ltb, eqb, length, drop, None}
+--   stepped_numbers a  a ratio, or the refusal in its place, in numbers
+use Rattle.std.specs.Prelude.{Result, Ok, Err, Bool, true, false, cond, List, [], ◌∷◌, ℕ, ◌+◌, ltb, eqb, length, drop, None}
 use Rattle.lists.specs.Compare.{both}
 use Rattle.refusals.specs.declared.Refusal.{Refusal}
 use Rattle.limits.specs.Points.{max_points}
@@ -95,3 +96,8 @@ step_cursor b c =
     let r = next_read b c in
     cond (refused (step_refusal b c)) c
     (record { place = c.place + used_of r; count = c.count; seen = c.seen + 1; window = pushed c.window (ratio_of r) })
+
+-- a ratio, or the refusal in its place, in numbers
+abbrev pub stepped_numbers : Result ℕ Refusal → StepAnswer
+stepped_numbers (Ok v) = record { number = 0; place = 0; ratio = v }
+stepped_numbers (Err f) = record { number = f.number; place = f.place; ratio = 0 }

@@ -3,7 +3,10 @@
 
 ghost use Rattle.std.specs.Prelude.{◌≡◌, [], ◌∷◌, ◌++◌, length, drop};
 ghost use Rattle.ratio_format.specs.Windows.{window_size, fresh_window, pushed};
-ghost use Rattle.ratio_format.specs.Lives.{fresh_live};
+ghost use Rattle.ratio_format.specs.Lives.{fresh_live, added_numbers};
+ghost use Rattle.ratio_format.specs.Stepping.{stepped_numbers};
+
+use refusals::Refusal;
 
 // How one ratio is written: a place of the window; the xor with the ratio at a place, by its trailing zero bytes, the middle's length
 // and the middle as a number; or the ratio itself.
@@ -100,6 +103,25 @@ pub struct AddAnswer {
     pub length: u64,
 }
 
+impl From<Result<usize, Refusal>> for AddAnswer {
+    ghost from_gives = { λ added answer. answer ≡ added_numbers added };
+
+    fn from(added: Result<usize, Refusal>) -> AddAnswer {
+        match added {
+            Ok(length) => AddAnswer {
+                number: 0,
+                place: 0,
+                length: length as u64,
+            },
+            Err(refusal) => AddAnswer {
+                number: refusal.number,
+                place: refusal.place,
+                length: 0,
+            },
+        }
+    }
+}
+
 // What a reader keeps beside its body: the offset of the next form, the count, the number of ratios given and the window.
 #[repr(C)]
 #[derive(Clone, Copy)]
@@ -117,4 +139,23 @@ pub struct StepAnswer {
     pub number: u32,
     pub place: u32,
     pub ratio: u64,
+}
+
+impl From<Result<u64, Refusal>> for StepAnswer {
+    ghost from_gives = { λ stepped answer. answer ≡ stepped_numbers stepped };
+
+    fn from(stepped: Result<u64, Refusal>) -> StepAnswer {
+        match stepped {
+            Ok(ratio) => StepAnswer {
+                number: 0,
+                place: 0,
+                ratio,
+            },
+            Err(refusal) => StepAnswer {
+                number: refusal.number,
+                place: refusal.place,
+                ratio: 0,
+            },
+        }
+    }
 }

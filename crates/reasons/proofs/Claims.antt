@@ -1,8 +1,8 @@
 -- What document 02 says of the reason for a ratio's bytes holds.
 use mathlib.Core.Bool.{Bool, true, false, cond}
 use mathlib.Core.List.{List, ◌++◌, append_assoc, reverse}
-use mathlib.Core.Option.{some}
-use mathlib.Core.Path.{◌≡◌, refl, sym, ap, ap₂, subst, ◌∙◌}
+use Rattle.std.proofs.Common.{Ok}
+use mathlib.Core.Path.{◌≡◌, refl, sym, ap, ap₂, ◌∙◌}
 use Prim.Native.Nat.{ℕ, ◌+◌, ◌-◌, ◌≤◌, ◌<◌, min}
 use native.Mathlib.Nat.{lt_of_not-le}
 use native.Mathlib.Omega.{arith}
@@ -21,8 +21,8 @@ use Rattle.ratio_format.proofs.Bodies.{coded_on, coded_more}
 use Rattle.ratio_format.proofs.Choice.{best_at, best_most, best-first, best-xor, best_xor, find_at, find_first}
 use Rattle.ratio_format.proofs.Windows.Before.{window_inside, window_at_lem}
 use Rattle.reasons.specs.declared.Reason.{Reason}
-use Rattle.reasons.specs.declared.Reason.TheVariants.{Reference, Xor, Exception, Empty, Refused}
-use Rattle.reasons.specs.Reasons.{xor_reason, reason_of, window_at, explained}
+use Rattle.reasons.specs.declared.Reason.TheVariants.{Reference, Xor, Exception, Empty}
+use Rattle.reasons.specs.Reasons.{xor_reason, reason_of, window_at}
 use Rattle.reasons.specs.Numbers.{reason_numbers}
 use Rattle.reasons.specs.Claims.{NoneEqual, Says, SaysTrue, WindowIs, SaysOne, ratio_form_named, NamesRatioForm, OnlyWindow, RefusesExactly}
 use Rattle.reasons.proofs.Reasons.{reason_cases, explained_many, explained_past, explained_here}
@@ -60,13 +60,13 @@ module _ (v : ℕ) (w : List ℕ) where
       (λ h p g. (g, some-best p, (λ q q<. best_most v w q q<), none_equal h))
 
   -- the reason's form is the one that is chosen
-  reason_names : ratio_form_named v w (reason_of v w) ≡ some (ratio_form v w)
+  reason_names : ratio_form_named v w (reason_of v w) ≡ ratio_form v w
   unfolding reason_of ratio_form
   reason_names = go (ltb (find v w) (length w)) (leb 2 (best v w).sum) (eqb (length w) 0)
     where
       go : (t s r : Bool)
           → ratio_form_named v w (cond t (Reference (find v w)) (cond s (xor_reason (best v w).place (best_xor v w)) (cond r Empty (Exception (best v w).sum))))
-          ≡ some (cond t (ByPlace (find v w)) (cond s (xor_form (best v w).place (best_xor v w)) Literal))
+          ≡ cond t (ByPlace (find v w)) (cond s (xor_form (best v w).place (best_xor v w)) Literal)
       go true s r = refl
       go false true r = refl
       go false false true = refl
@@ -113,16 +113,11 @@ says_one v w Empty (Reference q) h g = absurd (omega (arith, g.0, h))
 says_one v w Empty (Xor q m u) h g = absurd (omega (arith, g.0, h))
 says_one v w Empty (Exception s) h g = absurd (omega (arith, g.1.1, h))
 says_one v w Empty Empty h g = refl
-says_one v w (Refused n p) q h g = absurd h
-says_one v w (Reference p) (Refused n k) h g = absurd g
-says_one v w (Xor p l t) (Refused n k) h g = absurd g
-says_one v w (Exception s) (Refused n k) h g = absurd g
-says_one v w Empty (Refused n k) h g = absurd g
 
 -- ---- of a run's ratios
 
 pub says_true : SaysTrue
-says_true vs i few h = subst (Says (get_or vs i 0) (window_at vs i)) (sym (explained_here vs i few h)) (reason_says (get_or vs i 0) (window_at vs i))
+says_true vs i few h = (reason_of (get_or vs i 0) (window_at vs i), explained_here vs i few h, reason_says (get_or vs i 0) (window_at vs i))
 
 pub names_ratio_form : NamesRatioForm
 unfolding coded
@@ -130,7 +125,7 @@ names_ratio_form vs i few h =
     let v = get_or vs i 0 in
     let w = window_at vs i in
     let rest = coded_from window_size (window_at vs (i + 1)) (drop (i + 1) vs) in (
-      ap (ratio_form_named v w) (explained_here vs i few h) ∙ reason_names v w,
+      (reason_of v w, explained_here vs i few h, reason_names v w),
       ap coded_ratios (sym (take-append-drop (i + 1) vs))
           ∙ coded_on window_size (take (i + 1) vs) (drop (i + 1) vs)
           ∙ ap (λ (l : List ℕ). l ++ rest) (coded_more window_size vs i h)
@@ -162,24 +157,22 @@ window_same vs us i hv hu same = ext_get_or 0 (window_at vs i) (window_at us i) 
 pub only_window : OnlyWindow
 only_window vs us i fv fu hv hu same =
     explained_here vs i fv hv
-    ∙ ap₂ reason_of (same i (omega arith) (omega arith)) (window_same vs us i hv hu same)
+    ∙ ap₂ (λ v w. Ok (reason_of v w)) (same i (omega arith) (omega arith)) (window_same vs us i hv hu same)
     ∙ sym (explained_here us i fu hu)
 
--- a reason that says something has the number 0 and the place 0
-said_clear : (v : ℕ) (w : List ℕ) (r : Reason) → Says v w r → ((reason_numbers r).number ≡ 0) × ((reason_numbers r).place ≡ 0)
-said_clear v w (Reference p) h = (refl, refl)
-said_clear v w (Xor p l t) h = (refl, refl)
-said_clear v w (Exception s) h = (refl, refl)
-said_clear v w Empty h = (refl, refl)
-said_clear v w (Refused n p) h = absurd h
+-- a reason has the number 0 and the place 0
+reason_clear : (r : Reason) → ((reason_numbers (Ok r)).number ≡ 0) × ((reason_numbers (Ok r)).place ≡ 0)
+reason_clear (Reference p) = (refl, refl)
+reason_clear (Xor p l t) = (refl, refl)
+reason_clear (Exception s) = (refl, refl)
+reason_clear Empty = (refl, refl)
 
 pub refuses_exactly : RefusesExactly
 refuses_exactly vs i = (
   λ h. let e = explained_many vs i h in (e, ap reason_numbers e),
   (λ few h. let e = explained_past vs i few h in (e, ap reason_numbers e)),
   λ few h.
-      let v = get_or vs i 0 in
-      let w = window_at vs i in
-      let s = says_true vs i few h in
-      let clear = said_clear v w (explained vs i) s in ((λ n p e. subst (Says v w) e s), clear.0, clear.1),
+      let here = explained_here vs i few h in
+      let clear = rw (← here) at (reason_clear (reason_of (get_or vs i 0) (window_at vs i))) in
+      ((λ f e. cc), clear.0, clear.1),
 )

@@ -4,16 +4,17 @@
 --   SaysTrue                the answer for an index says what is true of the window there
 --   SaysOne                 no two answers are true of the same ratio and window
 --   WindowIs                what that window holds: the ratio before the index at place 0, up to 127 of them, and not the ratio itself
---   ratio_form_named v w r  the ratio form of v that the reason r names; a refusal names none
+--   ratio_form_named v w r  the ratio form of v that the reason r names
 --   NamesRatioForm          it is the ratio form that the writer chooses there, and its bytes are those at that point of the body of the whole run
 --   OnlyWindow              the answer goes by the ratio at the index and the 127 before it, and by no other
 --   refused_numbers n       the numbers of the refusal n, each of them written out: its place and all else is 0
 --   RefusesExactly          it is the refusal 3 for more than 4,096 ratios, else 22 for an index not below their number, and else no refusal, in numbers too
 --   ReasonsApart            no two answers have the same numbers
-use Rattle.std.specs.Prelude.{List, ◌++◌, ◌≡◌, ℕ, ◌+◌, ◌-◌, ◌/◌, ◌^◌, ◌≤◌, ◌<◌, min, length, get_or, take, drop}
-use Rattle.std.proofs.Math.Option.{Option, none, some}
+use Rattle.std.specs.Prelude.{Result, Ok, Err, List, ◌++◌, ◌≡◌, ℕ, ◌+◌, ◌-◌, ◌/◌, ◌^◌, ◌≤◌, ◌<◌, min, length, get_or, take, drop}
 use Rattle.std.specs.Int.Bits.{bit_xor}
 use Rattle.limits.specs.Points.{max_points}
+use Rattle.refusals.specs.declared.Refusal.{Refusal}
+use Rattle.refusals.specs.Tests.{refusal}
 use Rattle.ratio_format.specs.declared.RatioForm.{RatioForm}
 use Rattle.ratio_format.specs.declared.RatioForm.TheVariants.{Reference as ByPlace, Xor as ByXor, Exception as Literal}
 use Rattle.ratio_format.specs.Bodies.{coded_from, coded_ratios}
@@ -22,7 +23,7 @@ use Rattle.ratio_format.specs.RatioForms.{written}
 use Rattle.ratio_format.specs.Windows.{window_size}
 use Rattle.ratio_format.specs.Zeros.{lead_zeros, trail_zeros, sum_of}
 use Rattle.reasons.specs.declared.Reason.{Reason}
-use Rattle.reasons.specs.declared.Reason.TheVariants.{Reference, Xor, Exception, Empty, Refused}
+use Rattle.reasons.specs.declared.Reason.TheVariants.{Reference, Xor, Exception, Empty}
 use Rattle.reasons.specs.declared.ExplainAnswer.{ExplainAnswer}
 use Rattle.reasons.specs.Reasons.{window_at, explained}
 use Rattle.reasons.specs.Numbers.{reason_numbers}
@@ -37,7 +38,7 @@ NoneAbove v w s = (q : ℕ) → q < length w → sum_of v (get_or w q 0) ≤ s
 
 -- equal to the ratio at place p, no nearer one equal; xored with place p, with the two counts, no ratio of the window equal, none with a
 -- larger sum nor a nearer one with the same; an exception, with the best sum, below 2, which some ratio has and none exceeds, and none
--- equal; nothing in the window. A refusal says nothing of it.
+-- equal; nothing in the window
 abbrev pub Says : ℕ → List ℕ → Reason → Type 0
 Says v w (Reference p) = (p < length w) × (get_or w p 0 ≡ v) × NoneEqual v w p
 Says v w (Xor p l t) =
@@ -46,11 +47,10 @@ Says v w (Xor p l t) =
 Says v w (Exception s) =
     (s < 2) × ((q : ℕ) × (q < length w) × (sum_of v (get_or w q 0) ≡ s)) × NoneAbove v w s × NoneEqual v w (length w)
 Says v w Empty = length w ≡ 0
-Says v w (Refused n p) = ⊥
 
--- the answer is true of the window at the index
+-- the answer is a reason, and it is true of the window at the index
 abbrev pub SaysTrue : Type 0
-SaysTrue = (vs : List ℕ) (i : ℕ) → length vs ≤ max_points → i < length vs → Says (get_or vs i 0) (window_at vs i) (explained vs i)
+SaysTrue = (vs : List ℕ) (i : ℕ) → length vs ≤ max_points → i < length vs → (r : Reason) × (explained vs i ≡ Ok r) × Says (get_or vs i 0) (window_at vs i) r
 
 -- place p is the ratio p + 1 before the index, as far as 127 and as the ratios go
 abbrev pub WindowIs : Type 0
@@ -62,18 +62,17 @@ abbrev pub SaysOne : Type 0
 SaysOne = (v : ℕ) (w : List ℕ) (r q : Reason) → Says v w r → Says v w q → r ≡ q
 
 -- a reference; the xor's middle between the zero bytes; an exception
-abbrev pub ratio_form_named : ℕ → List ℕ → Reason → Option RatioForm
-ratio_form_named v w (Reference p) = some (ByPlace p)
-ratio_form_named v w (Xor p l t) = some (ByXor p t (8 - (l + t)) (bit_xor v (get_or w p 0) / 256 ^ t))
-ratio_form_named v w (Exception s) = some Literal
-ratio_form_named v w Empty = some Literal
-ratio_form_named v w (Refused n p) = none
+abbrev pub ratio_form_named : ℕ → List ℕ → Reason → RatioForm
+ratio_form_named v w (Reference p) = ByPlace p
+ratio_form_named v w (Xor p l t) = ByXor p t (8 - (l + t)) (bit_xor v (get_or w p 0) / 256 ^ t)
+ratio_form_named v w (Exception s) = Literal
+ratio_form_named v w Empty = Literal
 
 -- the writer's form there, and the bytes there: after those of the ratios before it, and before those of the ratios after it
 abbrev pub NamesRatioForm : Type 0
 NamesRatioForm = (vs : List ℕ) (i : ℕ) → length vs ≤ max_points → i < length vs
     → let v = get_or vs i 0 in let w = window_at vs i in
-    (ratio_form_named v w (explained vs i) ≡ some (ratio_form v w))
+    ((r : Reason) × (explained vs i ≡ Ok r) × (ratio_form_named v w r ≡ ratio_form v w))
     × (coded_ratios vs ≡ coded_ratios (take i vs) ++ (written v (ratio_form v w) ++ coded_from window_size (window_at vs (i + 1)) (drop (i + 1) vs)))
 
 -- two runs that have the same ratio at the index and the same 127 before it get the same answer
@@ -90,10 +89,10 @@ abbrev pub RefusesExactly : Type 0
 RefusesExactly = (vs : List ℕ) (i : ℕ)
     → let answer = explained vs i in
     let numbers = reason_numbers answer in
-    (max_points < length vs → (answer ≡ Refused 3 0) × (numbers ≡ refused_numbers 3))
-    × (length vs ≤ max_points → length vs ≤ i → (answer ≡ Refused 22 0) × (numbers ≡ refused_numbers 22))
-    × (length vs ≤ max_points → i < length vs → ((n p : ℕ) → answer ≡ Refused n p → ⊥) × (numbers.number ≡ 0) × (numbers.place ≡ 0))
+    (max_points < length vs → (answer ≡ Err (refusal 3 0)) × (numbers ≡ refused_numbers 3))
+    × (length vs ≤ max_points → length vs ≤ i → (answer ≡ Err (refusal 22 0)) × (numbers ≡ refused_numbers 22))
+    × (length vs ≤ max_points → i < length vs → ((f : Refusal) → answer ≡ Err f → ⊥) × (numbers.number ≡ 0) × (numbers.place ≡ 0))
 
 -- so each case can be told, with all that it carries
 abbrev pub ReasonsApart : Type 0
-ReasonsApart = (r q : Reason) → reason_numbers r ≡ reason_numbers q → r ≡ q
+ReasonsApart = (r q : Result Reason Refusal) → reason_numbers r ≡ reason_numbers q → r ≡ q

@@ -5,7 +5,7 @@
 --   explain_tests vs i the tests of the call in their order: 3, 22
 --   reason_by f r      the refusal f, or the reason r where there is none
 --   explained vs i     the whole answer: the reason for the ratio of index i, or the refusal
-use Rattle.std.specs.Prelude.{not, cond, List, [], ◌∷◌, ℕ, leb, ltb, eqb, length, get_or, take}
+use Rattle.std.specs.Prelude.{not, cond, Result, Ok, Err, List, [], ◌∷◌, ℕ, leb, ltb, eqb, length, get_or, take}
 use Rattle.std.specs.Int.Bits.{bit_xor}
 use Rattle.limits.specs.Points.{max_points}
 use Rattle.refusals.specs.declared.Refusal.{Refusal}
@@ -14,7 +14,7 @@ use Rattle.ratio_format.specs.Zeros.{lead_zeros, trail_zeros}
 use Rattle.ratio_format.specs.Choice.{find, best}
 use Rattle.ratio_format.specs.Windows.{window_size, window_of}
 use Rattle.reasons.specs.declared.Reason.{Reason}
-use Rattle.reasons.specs.declared.Reason.TheVariants.{Reference, Xor, Exception, Empty, Refused}
+use Rattle.reasons.specs.declared.Reason.TheVariants.{Reference, Xor, Exception, Empty}
 
 -- the two counts of the xor
 abbrev pub xor_reason : ℕ → ℕ → Reason
@@ -37,10 +37,10 @@ window_at vs i = window_of window_size (take i vs)
 abbrev pub explain_tests : List ℕ → ℕ → List Test
 explain_tests vs i = test (ltb max_points (length vs)) 3 0 ∷ test (not (ltb i (length vs))) 22 0 ∷ []
 
--- by the refusal: its number and place, or the reason
-abbrev pub reason_by : Refusal → Reason → Reason
-reason_by f r = cond (refused f) (Refused f.number f.place) r
+-- the refusal, or the reason
+abbrev pub reason_by : Refusal → Reason → Result Reason Refusal
+reason_by f r = cond (refused f) (Err f) (Ok r)
 
 -- the whole answer
-unfoldable pub explained : List ℕ → ℕ → Reason
+unfoldable pub explained : List ℕ → ℕ → Result Reason Refusal
 explained vs i = reason_by (first_of (explain_tests vs i)) (reason_of (get_or vs i 0) (window_at vs i))

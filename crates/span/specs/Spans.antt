@@ -7,7 +7,8 @@
 --   span_tests r ts       the tests of a span in their order: 1, 3, 4
 --   span_answer f z       the answer by the refusal f, or the milliseconds z
 --   spanned r ts          the whole answer
-use Rattle.std.specs.Prelude.{not, cond, List, [], ◌∷◌, ℕ, ◌-◌, ltb, ℤ, pos, ◌-ℤ◌, ◌*ℤ◌, length, get_or}
+--   span_numbers s        a span, or the refusal in its place, in numbers
+use Rattle.std.specs.Prelude.{not, cond, List, [], ◌∷◌, ℕ, ◌-◌, ltb, ℤ, pos, ◌-ℤ◌, ◌*ℤ◌, length, get_or, Result, Ok, Err}
 use Rattle.std.specs.Int.Signed.{shr_z}
 use Rattle.refusals.specs.declared.Refusal.{Refusal}
 use Rattle.limits.specs.Rates.{is_rate}
@@ -50,3 +51,8 @@ span_answer f z = record { number = f.number; place = f.place; milliseconds = co
 -- the whole answer
 unfoldable pub spanned : ℕ → List ℕ → SpanAnswer
 spanned r ts = span_answer (first_of (span_tests r ts)) (milliseconds r ts)
+
+-- a span, or the refusal in its place, in numbers
+abbrev pub span_numbers : Result ℤ Refusal → SpanAnswer
+span_numbers (Ok z) = record { number = 0; place = 0; milliseconds = z }
+span_numbers (Err f) = record { number = f.number; place = f.place; milliseconds = pos 0 }

@@ -1,16 +1,13 @@
--- `first_high` meets its contract: the goals that the check leaves.
-use native.Mathlib.Omega.{arith}
-use borrow.Author.Tests.{le-ltb}
-use lib.ListN.{get_or}
-use Rattle.limits.specs.Points.{max_position, too_high}
-use Rattle.lists.proofs.Lists.{first_le, first_next}
+-- `first_high` meets its contract: what the search finds is the definition's index.
+use Rattle.std.specs.List.{position}
+use Rattle.std.proofs.Common.{◌≡◌, rules, tests}
+use Rattle.std.proofs.lemmas.Iterator.{YieldsList-from_slice}
+use Rattle.std.proofs.lemmas.Iterator.Search.{position_from_yields_List}
+use Rattle.limits.specs.Points.{too_high}
+use Rattle.limits.proofs.Points.{high_found}
 use Rattle.limits.proofs.first_high.Goals as goal
 
-pub loop-i-preserved : goal.loop-i-preserved
-loop-i-preserved c =
-    let ts = c.args.positions.now in
-    let l = c.loop-i in
-    omega (arith, first_next too_high 0 ts l.i c.loop-i-test.true l.invariant (le-ltb max_position (get_or ts l.i 0) c.if-positions-i-gt-MAX_POSITION.false))
-
 pub returns : goal.returns
-returns c = omega (arith, first_le too_high c.args.positions.now)
+returns c =
+    let found : c.position.result ≡ position too_high c.args.positions.now = position_from_yields_List too_high _ _ c.position.result c.position.ensures.ran (YieldsList-from_slice c.args.positions.now (cc)) (λ x b q k. search (rules, tests)) in
+    high_found c.args.positions.now c.position.result found

@@ -1,15 +1,12 @@
 -- `live::stepping::begin` meets its contract.
-use mathlib.Core.Path.{sym}
-use mathlib.Core.List.{[]}
+use Rattle.std.proofs.Common.{[]}
 use Rattle.ratio_format.proofs.Stepping.{made_good, made-refused}
 use Rattle.live.proofs.stepping.begin.Goals as goal
 
-pub returns-then-count : goal.returns-then-count
-returns-then-count c =
-    let m = made-refused c.args.count [] c.if-count.true in
-    (sym m.0, simp c.fresh-window.ensures (sym m.2))
+pub returns-then-count-clause-answer : goal.returns-then-count-clause-answer
+returns-then-count-clause-answer c =
+    let m = made-refused c.args.count [] c.if-count.true in rw (m.0, m.2, c.at.ensures)
 
-pub returns : goal.returns
-returns c =
-    let m = made_good c.args.count [] c.if-count.false in
-    (sym m.0, simp c.fresh-window.ensures (sym m.2))
+pub returns-clause-answer : goal.returns-clause-answer
+returns-clause-answer c =
+    let m = made_good c.args.count [] c.if-count.false in rw (m.0, m.2, c.before_first.ensures)

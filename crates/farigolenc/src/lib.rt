@@ -68,7 +68,7 @@ pub extern "C" fn farigolenc_write(
     ensures { (result ≡ write_answer (run rate side (form_of form) positions.now ratios.now) out.old)
         × (out.new ≡ write_output (run rate side (form_of form) positions.now ratios.now) out.old) }
 {
-    record_codec::write(rate, side, form_of(form), positions, ratios, out)
+    record_codec::write(rate, side, form_of(form), positions, ratios, out).into()
 }
 
 // Checks a record, with no output, and answers one number: 65,536 times the refusal's number plus its place, or the size of a sound record.
@@ -84,7 +84,7 @@ pub extern "C" fn farigolenc_check(expected: u32, input: &[u8]) -> u32
 pub extern "C" fn farigolenc_describe(expected: u32, input: &[u8]) -> CheckAnswer
     ensures { result ≡ checked expected input.now }
 {
-    record_codec::check(expected, input)
+    record_codec::check(expected, input).into()
 }
 
 // Fetches the points of a record into the outputs.
@@ -99,7 +99,7 @@ pub extern "C" fn farigolenc_fetch(
         × (positions.new ≡ (fetched expected input.now positions.old ratios.old).positions)
         × (ratios.new ≡ (fetched expected input.now positions.old ratios.old).ratios) }
 {
-    record_codec::fetch(expected, input, positions, ratios)
+    record_codec::fetch(expected, input, positions, ratios).into()
 }
 
 // Open reading of a record.
@@ -114,7 +114,7 @@ pub extern "C" fn farigolenc_read_open(
         × (positions.new ≡ (read_open expected input.now positions.old ratios.old).positions)
         × (ratios.new ≡ (read_open expected input.now positions.old ratios.old).ratios) }
 {
-    record_codec::read_open(expected, input, positions, ratios)
+    record_codec::read_open(expected, input, positions, ratios).into()
 }
 
 // Moves a record to the wide form.
@@ -123,7 +123,7 @@ pub extern "C" fn farigolenc_to_wide(input: &[u8], out: &mut [u8]) -> MoveAnswer
     ensures { (result ≡ (move_of Form.Wide input.now out.old).answer)
         × (out.new ≡ (move_of Form.Wide input.now out.old).output) }
 {
-    record_codec::to_wide(input, out)
+    record_codec::move_to(Form::Wide, input, out).into()
 }
 
 // Moves a record to the old form.
@@ -132,7 +132,7 @@ pub extern "C" fn farigolenc_to_old(input: &[u8], out: &mut [u8]) -> MoveAnswer
     ensures { (result ≡ (move_of Form.Old input.now out.old).answer)
         × (out.new ≡ (move_of Form.Old input.now out.old).output) }
 {
-    record_codec::to_old(input, out)
+    record_codec::move_to(Form::Old, input, out).into()
 }
 
 // The reason for the ratio of an index among a run's ratios.

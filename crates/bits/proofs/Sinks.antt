@@ -16,15 +16,17 @@ use Rattle.outputs.specs.Outputs.{over, over_at}
 use Rattle.outputs.proofs.Outputs.{length-over_at}
 use Rattle.bits.specs.Digits.{digits_of, bits_of, bytes_of}
 use Rattle.bits.specs.Packing.{bits, fill_of, pack}
-use Rattle.bits.specs.Sinks.{Sound, Held, over_word, PlacedBits, Laid}
-use Rattle.bits.specs.declared.fields.Sink.{Sink}
+use Rattle.bits.specs.Sinks.{Held, over_word, PlacedBits, Laid}
+use Rattle.bits.specs.declared.laying.Sink.{Sink}
 use Rattle.bits.proofs.Digits.{two⁺, length_digits, digits_zero, digits_append, digits_join, digits_of_mod}
 use Rattle.bits.proofs.Packing.{bits-append, bits_bytes, bits-take, bits-drop, bits-same, length-pack, below_pack, bits-pack}
 use Rattle.bits.proofs.Digits.Word.{mask_pow, above_lt, shl_is, two_lt, two-bits}
 
--- a sink by its parts
-abbrev pub sink : ℕ → ℕ → ℕ → Sink
-sink at held width = record { at = at; held = held; width = width }
+-- a sink with these parts
+pub record Parts (r : Sink) (a h w : ℕ) : Type 0 where
+  pub at : r.at ≡ a
+  pub held : r.held ≡ h
+  pub width : r.width ≡ w
 
 -- ---- bytes and bits written into a list
 
@@ -60,12 +62,9 @@ over-pack o p ds o< p< ds< room e =
 -- ---- at the start
 
 -- nothing is laid, and nothing is held
-pub start_sound : Sound (sink 0 0 0)
-start_sound = record { small = omega arith; fits = pow_pos 0 }
-
-pub start_held : Held [] (sink 0 0 0)
+pub start_held : (r : Sink) → Parts r 0 0 0 → Held [] r
 unfolding digits_of
-start_held = record { size = refl; tail = refl }
+start_held r e = record { size = omega (arith, e.at, e.width); tail = rw (e.at, e.held, e.width) refl }
 
 pub start_placed : (o : List ℕ) → PlacedBits [] 0 o o
 start_placed o = record { same = refl; front = λ r. refl }
@@ -102,31 +101,34 @@ module _ (ds : List ℕ) (s : Sink) (h : Held ds s) where
 
 -- ---- a field that fits beside the bits held
 
-module _ (s : Sink) (sound : Sound s) (n w : ℕ) (w< : w < 2 ^ n) (few : s.width + n < 64) where
-  abbrev beside : Sink
-  beside = sink s.at (s.held * 2 ^ n % 2 ^ 64 + w) (s.width + n)
+module _ (s : Sink) (n w : ℕ) (w< : w < 2 ^ n) (few : s.width + n < 64) where
+  -- all that are held then
+  abbrev both : ℕ
+  both = s.held * 2 ^ n % 2 ^ 64 + w
 
   fit : s.width + n ≤ 64
   fit = omega arith
 
-  pub beside_sound : Sound beside
-  beside_sound = record { small = few; fits = two_lt s.width n sound.fits w< fit }
+  pub beside_fits : both < 2 ^ (s.width + n)
+  beside_fits = two_lt s.width n s.fits w< fit
 
-  pub beside_laid : (p : List ℕ) → Laid (bits_of n w) s beside p p
-  beside_laid p ds h = (
+  pub beside_laid : (r : Sink) → Parts r s.at both (s.width + n) → (p : List ℕ) → Laid (bits_of n w) s r p p
+  beside_laid r e p ds h = (
     record {
-      size = length-append ds (bits_of n w) ∙ omega (arith, h.size, length_digits 2 n w);
-      tail = two-bits s.width n sound.fits w< fit ∙ ap (λ (d : List ℕ). d ++ bits_of n w) h.tail ∙ sym (drop-append-le (8 * s.at) ds (bits_of n w) (inside ds s h));
+      size = length-append ds (bits_of n w) ∙ omega (arith, h.size, length_digits 2 n w, e.at, e.width);
+      tail = rw (e.at, e.held, e.width)
+          (two-bits s.width n s.fits w< fit ∙ ap (λ (d : List ℕ). d ++ bits_of n w) h.tail ∙ sym (drop-append-le (8 * s.at) ds (bits_of n w) (inside ds s h)));
     },
     λ o t. record {
       same = t.same;
-      front = λ r. t.front r ∙ ap (λ (d : List ℕ). over d (bits o)) (sym (take-append-le (8 * s.at) ds (bits_of n w) (inside ds s h)));
+      front = λ m. rw e.at
+          (t.front (rw e.at at m) ∙ ap (λ (d : List ℕ). over d (bits o)) (sym (take-append-le (8 * s.at) ds (bits_of n w) (inside ds s h))));
     },
   )
 
 -- ---- a field that fills the word
 
-module _ (s : Sink) (sound : Sound s) (n w : ℕ) (n≤ : n ≤ 64) (w< : w < 2 ^ n) (many : 64 ≤ s.width + n) where
+module _ (s : Sink) (n w : ℕ) (n≤ : n ≤ 64) (w< : w < 2 ^ n) (many : 64 ≤ s.width + n) where
   -- how many bits are left over, and how many fill the word
   abbrev more : ℕ
   more = s.width + n - 64
@@ -138,24 +140,25 @@ module _ (s : Sink) (sound : Sound s) (n w : ℕ) (n≤ : n ≤ 64) (w< : w < 2 
   abbrev word : ℕ
   word = s.held * 2 ^ (63 - s.width) % 2 ^ 64 * 2 % 2 ^ 64 + w / 2 ^ more
 
-  abbrev past : Sink
-  past = sink (s.at + 8) (w % (1 * 2 ^ more % 2 ^ 64)) more
+  -- what is left of it
+  abbrev left : ℕ
+  left = w % (1 * 2 ^ more % 2 ^ 64)
 
   full : s.width + fill ≡ 64
-  full = omega (arith, sound.small)
+  full = omega (arith, s.small)
 
   all_of : fill + more ≡ n
-  all_of = omega (arith, sound.small)
+  all_of = omega (arith, s.small)
 
-  more< : more < 64
-  more< = omega (arith, sound.small)
+  pub more< : more < 64
+  more< = omega (arith, s.small)
 
   moved : s.held * 2 ^ (63 - s.width) % 2 ^ 64 * 2 % 2 ^ 64 ≡ s.held * 2 ^ fill
   moved =
-      let j : s.width + (63 - s.width) ≡ 63 = omega (arith, sound.small) in
-      let k : (63 - s.width) + 1 ≡ fill = omega (arith, sound.small) in
-      let lt : s.held * 2 ^ (63 - s.width) < 2 ^ 63 = rw j at (shl_lt s.width (63 - s.width) sound.fits) in
-      ap (λ (x : ℕ). x * 2 % 2 ^ 64) (shl_exact s.width (63 - s.width) 64 sound.fits (omega arith))
+      let j : s.width + (63 - s.width) ≡ 63 = omega (arith, s.small) in
+      let k : (63 - s.width) + 1 ≡ fill = omega (arith, s.small) in
+      let lt : s.held * 2 ^ (63 - s.width) < 2 ^ 63 = rw j at (shl_lt s.width (63 - s.width) s.fits) in
+      ap (λ (x : ℕ). x * 2 % 2 ^ 64) (shl_exact s.width (63 - s.width) 64 s.fits (omega arith))
       ∙ shl_exact 63 1 64 lt (omega arith)
       ∙ mul_assoc s.held (2 ^ (63 - s.width)) 2
       ∙ ap (λ (x : ℕ). s.held * x) (sym (pow-add 2 (63 - s.width) 1) ∙ ap (λ (m : ℕ). 2 ^ m) k)
@@ -164,15 +167,15 @@ module _ (s : Sink) (sound : Sound s) (n w : ℕ) (n≤ : n ≤ 64) (w< : w < 2 
   first< = shr_lt fill more (rw all_of w<)
 
   pub word_fits : word < 2 ^ 64
-  word_fits = rw moved (rw full at (above_lt s.width fill sound.fits first< (omega (arith, full))))
+  word_fits = rw moved (rw full at (above_lt s.width fill s.fits first< (omega (arith, full))))
 
   word_bits : bits_of 64 word ≡ bits_of s.width s.held ++ bits_of fill (w / 2 ^ more)
   word_bits =
       ap (λ (m : ℕ). bits_of m word) (sym full) ∙ ap (λ (x : ℕ). bits_of (s.width + fill) (x + w / 2 ^ more)) moved
       ∙ digits_join two⁺ s.width fill s.held first<
 
-  pub past_sound : Sound past
-  past_sound = record { small = more<; fits = rw (mask_pow more more<) (mod-lt w (pow_pos more)) }
+  pub left_fits : left < 2 ^ more
+  left_fits = rw (mask_pow more more<) (mod-lt w (pow_pos more))
 
   module _ (ds : List ℕ) (h : Held ds s) where
     all : ds ++ bits_of n w ≡ (take (8 * s.at) ds ++ bits_of 64 word) ++ bits_of more w
@@ -187,16 +190,17 @@ module _ (s : Sink) (sound : Sound s) (n w : ℕ) (n≤ : n ≤ 64) (w< : w < 2 
     length_full : length (take (8 * s.at) ds ++ bits_of 64 word) ≡ 8 * (s.at + 8)
     length_full = length-append (take (8 * s.at) ds) (bits_of 64 word) ∙ omega (arith, length_front ds s h, length_digits 2 64 word)
 
-  pub past_laid : (p : List ℕ) → Laid (bits_of n w) s past p (over_word p s.at word)
-  past_laid p ds h = (
+  pub past_laid : (r : Sink) → Parts r (s.at + 8) left more → (p : List ℕ) → Laid (bits_of n w) s r p (over_word p s.at word)
+  past_laid r e p ds h = (
     record {
-      size = length-append ds (bits_of n w) ∙ omega (arith, h.size, length_digits 2 n w);
-      tail = ap (λ (m : ℕ). bits_of more (w % m)) (mask_pow more more<) ∙ digits_of_mod two⁺ more w
-          ∙ sym (ap (drop (8 * (s.at + 8))) (all ds h) ∙ drop_at (take (8 * s.at) ds ++ bits_of 64 word) (bits_of more w) (8 * (s.at + 8)) (length_full ds h));
+      size = length-append ds (bits_of n w) ∙ omega (arith, h.size, length_digits 2 n w, e.at, e.width);
+      tail = rw (e.at, e.held, e.width)
+          (ap (λ (m : ℕ). bits_of more (w % m)) (mask_pow more more<) ∙ digits_of_mod two⁺ more w
+          ∙ sym (ap (drop (8 * (s.at + 8))) (all ds h) ∙ drop_at (take (8 * s.at) ds ++ bits_of 64 word) (bits_of more w) (8 * (s.at + 8)) (length_full ds h)));
     },
     λ o t.
-        word_placed o p ds (ds ++ bits_of n w) s.at word (inside ds s h)
-        (ap (take (8 * (s.at + 8))) (all ds h) ∙ take_at (take (8 * s.at) ds ++ bits_of 64 word) (bits_of more w) (8 * (s.at + 8)) (length_full ds h)) t,
+        rw e.at (word_placed o p ds (ds ++ bits_of n w) s.at word (inside ds s h)
+        (ap (take (8 * (s.at + 8))) (all ds h) ∙ take_at (take (8 * s.at) ds ++ bits_of 64 word) (bits_of more w) (8 * (s.at + 8)) (length_full ds h)) t),
   )
 
 -- ---- a field, and then another
@@ -210,7 +214,7 @@ laid-laid es fs s t r p q u f g ds h =
 
 -- ---- the end
 
-module _ (o p ds : List ℕ) (s : Sink) (sound : Sound s) (h : Held ds s) (t : PlacedBits ds s.at o p) where
+module _ (o p ds : List ℕ) (s : Sink) (h : Held ds s) (t : PlacedBits ds s.at o p) where
   -- how many bytes the bits that are held take, and how many bits fill the last
   abbrev bytes : ℕ
   bytes = (s.width + 7) / 8
@@ -233,7 +237,7 @@ module _ (o p ds : List ℕ) (s : Sink) (sound : Sound s) (h : Held ds s) (t : P
         let all : s.width + pad ≡ 8 * bytes = omega arith in
         let none : s.held * 2 ^ pad ≡ s.held * 2 ^ pad + 0 = omega arith in
         ap (λ (m : ℕ). bits_of m last) (sym all)
-        ∙ ap (bits_of (s.width + pad)) (shl_is s.width pad {l = 0} sound.fits (pow_pos pad) (omega (arith, sound.small)) ∙ none)
+        ∙ ap (bits_of (s.width + pad)) (shl_is s.width pad {l = 0} s.fits (pow_pos pad) (omega (arith, s.small)) ∙ none)
         ∙ digits_join two⁺ s.width pad s.held (pow_pos pad) ∙ ap (λ (d : List ℕ). bits_of s.width s.held ++ d) (digits_zero 2 pad)
 
     pub last_placed : (q : List ℕ) → Below 256 q → q ≡ over_at p s.at bytes (bytes_of bytes last) → (length (pack ds) ≤ length o) × (q ≡ over (pack ds) o)

@@ -1,19 +1,13 @@
 -- Bits on their way into an output, field after field (document 01, "Positions"). The standard term for a sink is a bit writer.
---   Sound s                fewer than 64 bits are held, and `held` has no others
 --   Held ds s              of the bits ds, all that were laid, those from byte `at` on are held: they are the lower `width` bits of `held`
 --   over_word p at x        the output p with the eight bytes of x at `at`, if there is room for them
 --   PlacedBits ds at o p   the bits ds before byte `at` were put at the front of o, which is now p, if there is room for them
 --   Laid es s r p q        from the sink s and the output p to r and q: the bits es come after all that were laid
-use Rattle.std.specs.Prelude.{cond, List, ◌++◌, ◌≡◌, ℕ, ◌+◌, ◌*◌, ◌^◌, ◌≤◌, ◌<◌, leb, length, take, drop}
+use Rattle.std.specs.Prelude.{cond, List, ◌++◌, ◌≡◌, ℕ, ◌+◌, ◌*◌, ◌≤◌, leb, length, take, drop}
 use Rattle.outputs.specs.Outputs.{over, over_at}
 use Rattle.bits.specs.Digits.{bits_of, bytes_of}
 use Rattle.bits.specs.Packing.{bits}
-use Rattle.bits.specs.declared.fields.Sink.{Sink}
-
--- what is held fits its width
-pub record Sound (s : Sink) : Type 0 where
-  pub small : s.width < 64
-  pub fits : s.held < 2 ^ s.width
+use Rattle.bits.specs.declared.laying.Sink.{Sink}
 
 -- what is held of the bits that were laid
 pub record Held (ds : List ℕ) (s : Sink) : Type 0 where

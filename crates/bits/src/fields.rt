@@ -1,13 +1,9 @@
-// Fields of 0 to 64 bits: read from a slice at any bit offset, and laid into one after the other. Bits are laid from the top bit of each
-// byte down. A field that is laid goes by way of a word, which holds the bits that fill no eight bytes yet.
-ghost use Rattle.std.specs.Prelude.{List, ◌++◌, ◌≡◌, ℕ, ◌+◌, ◌*◌, ◌^◌, ◌≤◌, ◌<◌, length, take, drop};
-ghost use Rattle.lists.specs.Below.{Below};
+// Fields of 0 to 64 bits, read from a slice at any bit offset. Bits are laid from the top bit of each byte down.
+ghost use Rattle.std.specs.Prelude.{◌≡◌, ◌+◌, ◌*◌, ◌^◌, ◌≤◌, ◌<◌, length, take, drop};
 ghost use Rattle.bits.specs.Digits.{bits_of, number_of};
-ghost use Rattle.bits.specs.Packing.{bits, pack, ahead};
-ghost use Rattle.bits.specs.Sinks.{Sound, Held, over_word, PlacedBits, Laid};
-ghost use Rattle.outputs.specs.Outputs.{Placed};
+ghost use Rattle.bits.specs.Packing.{bits, ahead};
 
-use crate::{get_bytes, put_bytes};
+use crate::get_bytes;
 
 // The number of the k bits from the bit offset `at` on, of which eight bytes hold up to 57 wherever they begin.
 fn get_few(s: &[u8], at: usize, k: usize) -> u64
@@ -48,77 +44,4 @@ pub fn get_ahead(s: &[u8], at: usize) -> u64
     }
     let last = s.len() - 8;
     get_bytes(s, last, 8) << (at - 8 * last)
-}
-
-// Bits on their way into an output: whole bytes stand before `at`, and `held` has the `width` bits after them.
-#[derive(Clone, Copy)]
-pub struct Sink {
-    pub at: usize,
-    pub held: u64,
-    pub width: usize,
-}
-
-// The eight bytes of x are written at `at`, if there is room for them.
-fn put_word(out: &mut [u8], at: usize, x: u64)
-    requires { at ≤ 2 ^ 32 }
-    ensures { out.new ≡ over_word out.old at x }
-{
-    if at + 8 <= out.len() {
-        put_bytes(out, at, 8, x);
-    }
-}
-
-// The n bits of w come after those of s: eight bytes are written when there are so many. The bits held are moved up in two shifts, since
-// a word that holds none is moved by 64.
-pub fn lay(out: &mut [u8], s: Sink, n: usize, w: u64) -> Sink
-    requires { (s.at ≤ 2 ^ 32) × Sound s × (n ≤ 64) × (w < 2 ^ n) }
-    ensures { (result.at ≤ s.at + 8) × Sound result × Laid (bits_of n w) s result out.old out.new }
-{
-    let at = s.at;
-    let held = s.held;
-    let old = s.width;
-    let width = old + n;
-    if width < 64 {
-        return Sink {
-            at,
-            held: (held << n) + w,
-            width,
-        };
-    }
-    let more = width - 64;
-    put_word(out, at, ((held << (63 - old)) << 1) + (w >> more));
-    Sink {
-        at: at + 8,
-        held: w % (1 << more),
-        width: more,
-    }
-}
-
-// The p bits of x and then the k bits of y come after those of s: as one field where they fit a word.
-pub fn lay_both(out: &mut [u8], s: Sink, p: usize, x: u64, k: usize, y: u64) -> Sink
-    requires { (s.at + 8 ≤ 2 ^ 32) × Sound s × (0 < p) × (p ≤ 64) × (x < 2 ^ p) × (k ≤ 64) × (y < 2 ^ k) }
-    ensures { (result.at ≤ s.at + 16) × Sound result × Laid (bits_of p x ++ bits_of k y) s result out.old out.new }
-{
-    let n = p + k;
-    if n <= 64 {
-        return lay(out, s, n, (x << k) + y);
-    }
-    let t = lay(out, s, p, x);
-    lay(out, t, k, y)
-}
-
-// The bits that are held come after those that are written, and 0 bits fill the last byte, if there is room.
-pub fn put_last(out: &mut [u8], s: Sink) -> Option<usize>
-    requires { (s.at ≤ 2 ^ 32) × Sound s }
-    ensures { (o ds : List ℕ) → Below 256 o → Below 2 ds → Held ds s → PlacedBits ds s.at o out.old
-        → Placed (pack ds) result o out.new }
-{
-    let at = s.at;
-    let width = s.width;
-    let n = (width + 7) / 8;
-    if out.len() < at + n {
-        return None;
-    }
-    put_bytes(out, at, n, s.held << (8 * n - width));
-    Some(at + n)
 }

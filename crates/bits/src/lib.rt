@@ -4,18 +4,14 @@
 
 ghost use Rattle.std.specs.Prelude.{◌≡◌, ◌+◌, ◌*◌, ◌^◌, ◌≤◌, ◌<◌, length, take, drop};
 ghost use Rattle.bits.specs.Digits.{bytes_of, byte_of, number_of};
+ghost use Rattle.bits.specs.Sinks.{over_word};
 ghost use Rattle.outputs.specs.Outputs.{over_at};
 
-mod fields; // fields of bits
+mod fields; // fields of bits, read
+mod laying; // fields of bits, laid
 
-pub use fields::{Sink, get_ahead, get_bits, lay, lay_both, put_last};
-
-// A byte as a wider number.
-fn wide(x: u8) -> u64
-    ensures { (result ≡ x) × (result < 256) }
-{
-    x as u64
-}
+pub use fields::{get_ahead, get_bits};
+pub use laying::Sink;
 
 // Byte j of x, byte 0 the lowest.
 pub fn byte_of(x: u64, j: usize) -> u64
@@ -30,12 +26,20 @@ pub fn put_bytes(out: &mut [u8], at: usize, n: usize, x: u64)
     requires { at + n ≤ length out.old }
     ensures { out.new ≡ over_at out.old at n (bytes_of n x) }
 {
-    let mut i = n;
     let mut y = x;
-    while 0 < i {
-        i -= 1;
+    for i in (0..n).rev() {
         out[at + i] = (y % 256) as u8;
-        y = y / 256;
+        y /= 256;
+    }
+}
+
+// The eight bytes of x are written at `at`, if there is room for them.
+pub(crate) fn put_word(out: &mut [u8], at: usize, x: u64)
+    requires { at ≤ 2 ^ 32 }
+    ensures { out.new ≡ over_word out.old at x }
+{
+    if at + 8 <= out.len() {
+        put_bytes(out, at, 8, x);
     }
 }
 
@@ -44,11 +48,9 @@ pub fn get_bytes(s: &[u8], at: usize, n: usize) -> u64
     requires { (n ≤ 8) × (at + n ≤ length s.now) }
     ensures { (result ≡ number_of 256 (take n (drop at s.now))) × (result < 256 ^ n) }
 {
-    let mut i = 0;
     let mut y: u64 = 0;
-    while i < n {
-        y = y * 256 + wide(s[at + i]);
-        i += 1;
+    for b in &s[at..at + n] {
+        y = y * 256 + u64::from(*b);
     }
     y
 }

@@ -20,8 +20,7 @@ ghost use Rattle.differences.specs.Overall.{overall_of};
 ghost use Rattle.differences.specs.Numbers.{difference_numbers, overall_numbers};
 
 use differences::{DifferenceAnswer, OverallAnswer};
-use kind::KindAnswer;
-use live::adding::add;
+use kind::{Kind, KindAnswer};
 use live::stepping::{Begun, Step};
 use position_format::Form;
 use ratio_format::{AddAnswer, Cursor, Live};
@@ -34,7 +33,7 @@ use span::SpanAnswer;
 pub extern "C" fn farigolenc_kind(ratio: u64) -> KindAnswer
     ensures { result ≡ kind_numbers (kind_of ratio) }
 {
-    kind::kind_numbers(kind::kind_of(ratio))
+    Kind::of(ratio).into()
 }
 
 // The span of the positions at a rate.
@@ -42,7 +41,7 @@ pub extern "C" fn farigolenc_kind(ratio: u64) -> KindAnswer
 pub extern "C" fn farigolenc_span(rate: u32, positions: &[u64]) -> SpanAnswer
     ensures { result ≡ spanned rate positions.now }
 {
-    span::span(rate, positions)
+    span::span(rate, positions).into()
 }
 
 // The form that a number names: the wide one by its tag, and the old one by any other.
@@ -50,9 +49,10 @@ fn form_of(form: u32) -> Form
     ensures { result ≡ form_of form }
 {
     if form == WIDE_TAG as u32 {
-        return Form::Wide;
+        Form::Wide
+    } else {
+        Form::Old
     }
-    Form::Old
 }
 
 // Writes the record of a run, in the form that its number names, at the front of the output.
@@ -68,7 +68,7 @@ pub extern "C" fn farigolenc_write(
     ensures { (result ≡ write_answer (run rate side (form_of form) positions.now ratios.now) out.old)
         × (out.new ≡ write_output (run rate side (form_of form) positions.now ratios.now) out.old) }
 {
-    record_codec::write(rate, side, form_of(form), positions, ratios, out)
+    record_codec::write(rate, side, form_of(form), positions, ratios, out).into()
 }
 
 // Checks a record, with no output, and answers one number: 65,536 times the refusal's number plus its place, or the size of a sound record.
@@ -84,7 +84,7 @@ pub extern "C" fn farigolenc_check(expected: u32, input: &[u8]) -> u32
 pub extern "C" fn farigolenc_describe(expected: u32, input: &[u8]) -> CheckAnswer
     ensures { result ≡ checked expected input.now }
 {
-    record_codec::check(expected, input)
+    record_codec::check(expected, input).into()
 }
 
 // Fetches the points of a record into the outputs.
@@ -99,7 +99,7 @@ pub extern "C" fn farigolenc_fetch(
         × (positions.new ≡ (fetched expected input.now positions.old ratios.old).positions)
         × (ratios.new ≡ (fetched expected input.now positions.old ratios.old).ratios) }
 {
-    record_codec::fetch(expected, input, positions, ratios)
+    record_codec::fetch(expected, input, positions, ratios).into()
 }
 
 // Open reading of a record.
@@ -114,7 +114,7 @@ pub extern "C" fn farigolenc_read_open(
         × (positions.new ≡ (read_open expected input.now positions.old ratios.old).positions)
         × (ratios.new ≡ (read_open expected input.now positions.old ratios.old).ratios) }
 {
-    record_codec::read_open(expected, input, positions, ratios)
+    record_codec::read_open(expected, input, positions, ratios).into()
 }
 
 // Moves a record to the wide form.
@@ -123,7 +123,7 @@ pub extern "C" fn farigolenc_to_wide(input: &[u8], out: &mut [u8]) -> MoveAnswer
     ensures { (result ≡ (move_of Form.Wide input.now out.old).answer)
         × (out.new ≡ (move_of Form.Wide input.now out.old).output) }
 {
-    record_codec::to_wide(input, out)
+    record_codec::move_to(Form::Wide, input, out).into()
 }
 
 // Moves a record to the old form.
@@ -132,7 +132,7 @@ pub extern "C" fn farigolenc_to_old(input: &[u8], out: &mut [u8]) -> MoveAnswer
     ensures { (result ≡ (move_of Form.Old input.now out.old).answer)
         × (out.new ≡ (move_of Form.Old input.now out.old).output) }
 {
-    record_codec::to_old(input, out)
+    record_codec::move_to(Form::Old, input, out).into()
 }
 
 // The reason for the ratio of an index among a run's ratios.
@@ -140,7 +140,7 @@ pub extern "C" fn farigolenc_to_old(input: &[u8], out: &mut [u8]) -> MoveAnswer
 pub extern "C" fn farigolenc_explain(ratios: &[u64], index: u64) -> ExplainAnswer
     ensures { result ≡ reason_numbers (explained ratios.now index) }
 {
-    reasons::explain_numbers(ratios, index)
+    reasons::explain(ratios, index).into()
 }
 
 // The differences of two records that are of no index, by what a check of each, with no rate expected, answered in full. Any other answers are taken as
@@ -152,7 +152,7 @@ pub extern "C" fn farigolenc_compare_overall(
 ) -> OverallAnswer
     ensures { result ≡ overall_numbers (overall_of first second) }
 {
-    differences::overall_numbers(differences::overall_of(first, second))
+    differences::overall_of(first, second).into()
 }
 
 // The difference between two runs' positions at an index; none at an index that not both have. Each slice is a run's positions and no more: of what a
@@ -165,7 +165,7 @@ pub extern "C" fn farigolenc_compare_positions(
 ) -> DifferenceAnswer
     ensures { result ≡ difference_numbers (position_at first.now second.now index) }
 {
-    differences::difference_numbers(differences::position_at(first, second, index))
+    differences::position_at(first, second, index).into()
 }
 
 // The same of two runs' ratios, by the kinds and the bits of both.
@@ -177,7 +177,7 @@ pub extern "C" fn farigolenc_compare_ratios(
 ) -> DifferenceAnswer
     ensures { result ≡ difference_numbers (ratio_at first.now second.now index) }
 {
-    differences::difference_numbers(differences::ratio_at(first, second, index))
+    differences::ratio_at(first, second, index).into()
 }
 
 // Where a live coding starts.
@@ -195,10 +195,7 @@ pub extern "C" fn farigolenc_live_add(state: &mut Live, ratio: u64, out: &mut [u
         × (state.new ≡ add_state state.old ratio out.old)
         × (out.new ≡ add_output state.old ratio out.old) }
 {
-    let a = add(*state, ratio, out);
-    let next = a.state;
-    *state = next;
-    a.answer
+    live::adding::add(state, ratio, out).into()
 }
 
 // Making a reader, but for the body, which each step is lent.
@@ -206,7 +203,7 @@ pub extern "C" fn farigolenc_live_add(state: &mut Live, ratio: u64, out: &mut [u
 pub extern "C" fn farigolenc_cursor_new(count: u64) -> Begun
     ensures { (result.refusal ≡ made count) × (result.cursor ≡ made_cursor count) }
 {
-    live::stepping::begin(count)
+    live::stepping::begin(count).into()
 }
 
 // One step through a body.
@@ -214,5 +211,10 @@ pub extern "C" fn farigolenc_cursor_new(count: u64) -> Begun
 pub extern "C" fn farigolenc_step(body: &[u8], cursor: Cursor) -> Step
     ensures { (result.answer ≡ step_answer body.now cursor) × (result.cursor ≡ step_cursor body.now cursor) }
 {
-    live::stepping::step_at(body, cursor)
+    let mut next = cursor;
+    let answer = live::stepping::step_at(body, &mut next).into();
+    Step {
+        answer,
+        cursor: next,
+    }
 }

@@ -1,13 +1,15 @@
 // What every program that reads a record shares: room for as many bytes as it reads, and for the numbers of every run; and the reading. Internal.
 #![tactic(auto)]
 
-ghost use Rattle.std.specs.Prelude.{◌≡◌, ◌≤◌, length};
+ghost use Rattle.std.specs.Prelude.{◌≡◌, ◌≢◌, ◌≤◌, length, IfErr};
 ghost use Rattle.limits.specs.Points.{max_points};
+ghost use Rattle.record_format.specs.Answers.{check_answer};
 ghost use Rattle.inputs.specs.Inputs.{input_limit};
 ghost use Rattle.inputs.specs.Readings.{InputRead};
 
 use limits::MAX_POINTS;
-use record_format::CheckAnswer;
+use record_format::Description;
+use refusals::Refusal;
 
 // As many bytes as a program reads: 64 KiB, which every record stays below.
 pub const INPUT: usize = 65536;
@@ -31,14 +33,12 @@ pub fn read_input(
     input: &[u8],
     positions: &mut [u64; MAX_POINTS],
     ratios: &mut [u64; MAX_POINTS],
-) -> CheckAnswer
+) -> Result<Description, Refusal>
     requires { length input.now ≤ input_limit }
-    ensures { InputRead input.now result positions.new ratios.new }
+    ensures read { InputRead input.now (check_answer result) positions.new ratios.new }
+    ensures numbered { IfErr result (λ refusal. refusal.number ≢ 0) }
 {
-    let answer = record_codec::check(0, input);
-    if answer.number != 0 {
-        return answer;
-    }
-    record_codec::fetch(0, input, positions, ratios);
-    answer
+    let found = record_codec::check(0, input)?;
+    record_codec::fetch(0, input, positions, ratios)?;
+    Ok(found)
 }

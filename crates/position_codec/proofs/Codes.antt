@@ -19,12 +19,14 @@ use Rattle.position_format.specs.Tables.{table_of}
 use Rattle.lists.proofs.Lists.{first_le}
 use Rattle.position_format.proofs.Steps.{length-steps}
 use Rattle.position_format.proofs.Rows.{residue_lt}
-use Rattle.position_format.proofs.Rows.Codes.{code_row}
+use Rattle.position_format.proofs.Rows.Codes.{code_row, in_table-row}
 use Rattle.position_format.proofs.Points.{valid_here}
 use Rattle.position_format.proofs.Positions.Valid.{valid_parts, valid_of}
-use Rattle.position_format.proofs.Tables.WideRows.{every_step}
+use Rattle.position_format.proofs.Tables.WideRows.{every_step, same_range, form_row}
+use Rattle.position_codec.specs.declared.row.TableRow.{TableRow}
 use Rattle.position_codec.specs.declared.table.Code.{Code}
-use Rattle.position_codec.specs.Codes.{Coded, CodableStep, CodablePositions}
+use Rattle.position_codec.proofs.table.Numbers.{row_fits}
+use Rattle.position_codec.specs.Codes.{row_at, PrefixIs, Coded, CodableStep, CodablePositions}
 
 -- ---- a code as two numbers
 
@@ -47,12 +49,24 @@ coded_by_lem rs z e i is p x k y prefixed short x< narrow prefix width ey = reco
       ∙ sym (code_row no_row z rs e);
 }
 
+-- by a row of the wide table, whose width the form's table has too
+pub coded_by : (f : Form) (r : TableRow) (z : ℤ) → in_table (table_of f) z ≡ true → row_of (table_of f) z ≡ r.index → (x p k y : ℕ)
+    → PrefixIs (get_or (table_of f) r.index no_row) x p → k ≡ (row_at r).width → y ≡ residue k z → Coded (table_of f) z (code_of p x k y)
+coded_by f r z e is x p k y prefix width ey =
+    let inside : r.index < length (table_of f) = omega (arith, is, in_table-row (table_of f) z e) in
+    coded_by_lem (table_of f) z e r.index is p x k y prefix.prefixed prefix.short prefix.fits (omega (arith, width, (row_fits r.index r.known).narrow)) prefix.bits
+    (ap (λ (q : Row). q.width) (same_range f r.index inside) ∙ sym width) ey
+
 -- ---- what can be coded in a form
 
 -- its table holds such a step
 pub codable_held : (f : Form) (z : ℤ) → CodableStep f z → in_table (table_of f) z ≡ true
 codable_held Old z e = e
 codable_held Wide z s = ap (in_table wide_rows) s.step ∙ every_step.0 s.a s.b s.t s.a_low s.b_low s.t_low
+
+-- and the first row that holds it is the same in every table
+pub codable_row : (f : Form) (z y : ℤ) (i : ℕ) → CodableStep f z → y ≡ z → i ≡ row_of wide_rows y → (in_table (table_of f) y ≡ true) × (row_of (table_of f) y ≡ i)
+codable_row f z y i s same e = let held = ap (in_table (table_of f)) same ∙ codable_held f z s in (held, form_row f y held ∙ sym e)
 
 -- such positions are those that are valid by its table, and all are in range
 valid_range : (rs : List Row) (ts : List ℕ) → valid_positions rs ts ≡ true → length ts ≤ first_high ts

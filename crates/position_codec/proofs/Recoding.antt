@@ -1,7 +1,10 @@
 -- Laws of recoding: what a sound body is the coding of, that toward the wide form no step is outside.
+use Rattle.std.specs.Prelude.{Option, Some, None, Result}
+use Rattle.std.specs.Option.{ok_or}
 use mathlib.Core.Bool.{Bool, true, false}
 use mathlib.Core.List.{List}
-use mathlib.Core.Option.{Option, none, some}
+use mathlib.Core.Option as maybe
+use mathlib.Core.Option.{none, some}
 use mathlib.Core.Path.{◌≡◌, refl, sym, ap, ◌∙◌}
 use Prim.Native.Nat.{ℕ, ◌≤◌}
 use native.Mathlib.Omega.{arith}
@@ -11,16 +14,27 @@ use lib.ListN.{length}
 use Rattle.lists.specs.Optional.{missing, list_of}
 use Rattle.limits.specs.Points.{max_points, first_high}
 use Rattle.position_format.specs.declared.Form.{Form}
-use Rattle.position_format.specs.Positions.{read_positions}
+use Rattle.position_format.specs.Positions.{coded_positions, read_positions}
 use Rattle.position_format.specs.Tables.{table_of}
 use Rattle.position_format.proofs.Positions.{Coding, read_only}
+use Rattle.outputs.specs.Outputs.{Placed}
+use Rattle.position_codec.specs.declared.recode.RecodeError.{RecodeError}
+use Rattle.position_codec.specs.declared.recode.RecodeError.TheVariants.{NoRoom}
 use Rattle.position_codec.specs.Codes.{CodablePositions}
+use Rattle.position_codec.specs.Recoding.{RecodedInto}
 use Rattle.position_codec.proofs.Codes.{valid_codable, codable_range}
 use Rattle.position_codec.proofs.read.State.{body_long}
 
+-- ---- what recoding answers, by what the last bytes' writer did
+
+pub recoded_into : (f : Form) (ts : List ℕ) (w : Option ℕ) (o p : List ℕ) → CodablePositions f ts → Placed (coded_positions (table_of f) ts) w o p
+    → (r : Result ℕ RecodeError) → r ≡ ok_or w NoRoom → RecodedInto f ts r o p
+recoded_into f ts (Some n) o p codable placed r e = rw e (codable, placed)
+recoded_into f ts None o p codable placed r e = rw e (codable, placed)
+
 -- ---- a sound body
 
-there : (x : Option (List ℕ)) → missing x ≡ false → x ≡ some (list_of x)
+there : (x : maybe.Option (List ℕ)) → missing x ≡ false → x ≡ some (list_of x)
 there none e = cc
 there (some l) e = refl
 

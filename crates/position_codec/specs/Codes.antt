@@ -1,4 +1,5 @@
 -- What the internal functions say of codes and of points (document 01, "Positions", and document 02, No. 3).
+--   row_at r               the row of the wide table that r names by its index
 --   PrefixIs r x p         the prefix of the row r is the number x in p bits
 --   Coded rs z c           c is the code of the step z by the table rs
 --   BetweenPositions z     z is a step between positions in range
@@ -7,15 +8,20 @@
 --   Point f ts i           ts are such positions, not too many, and i is the index of one
 -- The step coder's promise is, in the wide form, that each step between positions in range has a code: a caller owes nothing of a table. In the old form
 -- it owes that the table holds the step.
-use Rattle.std.specs.Prelude.{true, List, ◌++◌, ◌≡◌, ℕ, ◌^◌, ◌≤◌, ◌<◌, ℤ, length}
+use Rattle.std.specs.Prelude.{true, List, ◌++◌, ◌≡◌, ℕ, ◌^◌, ◌≤◌, ◌<◌, ℤ, length, get_or}
 use Rattle.bits.specs.Digits.{bits_of}
 use Rattle.limits.specs.Points.{max_points, max_position, first_high}
 use Rattle.position_format.specs.declared.Form.{Form}
 use Rattle.position_format.specs.declared.Form.TheVariants.{Old, Wide}
-use Rattle.position_format.specs.Rows.{Row, rows, in_table, code}
+use Rattle.position_format.specs.Rows.{Row, rows, wide_rows, in_table, code, no_row}
 use Rattle.position_format.specs.Steps.{step_of}
 use Rattle.position_format.specs.Positions.{valid_positions}
+use Rattle.position_codec.specs.declared.row.TableRow.{TableRow}
 use Rattle.position_codec.specs.declared.table.Code.{Code}
+
+-- a row by its index
+abbrev pub row_at : TableRow → Row
+row_at r = get_or wide_rows r.index no_row
 
 -- a row's prefix as a number
 pub record PrefixIs (r : Row) (x p : ℕ) : Type 0 where

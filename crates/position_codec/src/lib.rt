@@ -3,11 +3,12 @@
 // meet each `requires`.
 #![tactic(auto)]
 
-mod table; // the tables of steps, and all that goes by their rows
+mod row; // the rows of the tables of steps
+mod table; // the tables: where a code begins, and the code of a step
 mod write; // positions written
 mod read; // positions read
 mod recode; // positions of one form coded in the other
 
 pub use read::{check_positions, get_positions};
-pub use recode::{Recoded, recode_positions};
+pub use recode::{RecodeError, recode_positions};
 pub use write::{first_outside, put_positions};

@@ -11,26 +11,12 @@ ghost use Rattle.position_format.specs.Tables.{table_of};
 ghost use Rattle.position_format.specs.Positions.{read_positions};
 ghost use Rattle.position_codec.specs.Found.{InBody, Ahead, StepFound, PositionFound, PointFound, kept, FilledPart};
 
-use crate::table::{GotStep, lead_of, short_step, step_by, width_of, within};
+use crate::table::{Lead, lead_of};
 use limits::MAX_POSITION;
 use position_format::Form;
 
 // The most bytes that the coding of 4,096 positions has in either form.
 const MAX_BYTES: usize = 35327;
-
-// The position at which a step leads.
-#[derive(Clone, Copy)]
-pub enum GotPosition {
-    At(u64),
-    Nothing,
-}
-
-// The position whose bits stand at the front of bits, and how many they are.
-#[derive(Clone, Copy)]
-pub enum GotPoint {
-    Point(u64, usize),
-    Nothing,
-}
 
 // The last `width` of the first n bits of the word w.
 pub(crate) fn field_ahead(w: u64, n: usize, width: usize) -> u64
@@ -48,83 +34,79 @@ fn field_at(body: &[u8], at: usize, n: usize, width: usize) -> u64
     bits::get_bits(body, at + (n - width), width)
 }
 
-// The step whose code by a form's table stands at the bit offset `at`, by the word w of the bits ahead: one bit, 0, for the step 0, or by the row of
-// its first five bits, if there are as many bits as its codes have. The word is sure to hold a code of 57 bits; a longer one is read from the body.
-fn step_ahead(form: Form, body: &[u8], at: usize, w: u64) -> GotStep
+// The step whose code by a form's table stands at the bit offset `at`, and how many bits that has, by the word w of the bits ahead: one bit, 0, for the
+// step 0, or by the row of its first five bits, if there are as many bits as its codes have. The word is sure to hold a code of 57 bits; a longer one is read from the body.
+fn step_ahead(form: Form, body: &[u8], at: usize, w: u64) -> Option<(i64, usize)>
     requires { InBody body.now at × Ahead body.now at w × (at < 8 * length body.now) }
     ensures { StepFound (table_of form) (drop at (bits body.now)) result }
 {
     if w < 9223372036854775808 {
-        return GotStep::Step(0, 1);
+        return Some((0, 1));
     }
-    let l = lead_of(form, w >> 59);
-    let row = l.row;
-    let n = l.len;
-    if 8 * body.len() - at < n {
-        return GotStep::Nothing;
+    let Lead { row, len } = lead_of(form, w >> 59);
+    if 8 * body.len() - at < len {
+        return None;
     }
-    let width = width_of(row);
-    if n <= 57 {
-        return short_step(row, n, field_ahead(w, n, width));
+    let width = row.width();
+    if len <= 57 {
+        let z = row.short_step(field_ahead(w, len, width))?;
+        return Some((z, len));
     }
-    step_by(row, n, field_at(body, at, n, width))
+    let z = row.step(field_at(body, at, len, width))?;
+    Some((z, len))
 }
 
-// The step whose code stands at the bit offset `at`.
-fn get_step(form: Form, body: &[u8], at: usize) -> GotStep
+// The same, by those bits.
+fn get_step(form: Form, body: &[u8], at: usize) -> Option<(i64, usize)>
     requires { InBody body.now at × (128 ≤ at) }
     ensures { StepFound (table_of form) (drop at (bits body.now)) result }
 {
     if at == 8 * body.len() {
-        return GotStep::Nothing;
+        return None;
     }
     step_ahead(form, body, at, bits::get_ahead(body, at))
 }
 
 // The position after a and b whose step is z, any i64. Where z is 0 the position fits an i64, and z is compared with the room on either
 // side of that one, since the sum can leave 64 bits.
-fn next_position(a: u64, b: u64, z: i64) -> GotPosition
+fn next_position(a: u64, b: u64, z: i64) -> Option<u64>
     requires { (a < 2 ^ 62) × (b < 2 ^ 62) }
     ensures { PositionFound a b z result }
 {
     let c = b as i64 + (b as i64 - a as i64);
-    if !within(z, -c, MAX_POSITION as i64 - c) {
-        return GotPosition::Nothing;
+    if !(-c..=MAX_POSITION as i64 - c).contains(&z) {
+        return None;
     }
-    GotPosition::At((c + z) as u64)
+    Some((c + z) as u64)
 }
 
-// The position of 64 bits at point i, one of the first two: no table has a part in it.
-fn get_raw(body: &[u8], i: usize) -> GotPoint
+// The position at point i, one of the first two, and that it has 64 bits: no table has a part in it.
+fn get_raw(body: &[u8], i: usize) -> Option<(u64, usize)>
     requires { InBody body.now (64 * i) × (i < 2) }
     ensures { (rs : List Row) (a b : ℕ) → PointFound rs i a b (drop (64 * i) (bits body.now)) result }
 {
     let at = 8 * i;
     if body.len() < at + 8 {
-        return GotPoint::Nothing;
+        return None;
     }
     let t = bits::get_bytes(body, at, 8);
     if MAX_POSITION < t {
-        return GotPoint::Nothing;
+        return None;
     }
-    GotPoint::Point(t, 64)
+    Some((t, 64))
 }
 
-// The position of point i, which stands at the bit offset `at`, after the positions a and b.
-fn get_point(form: Form, body: &[u8], at: usize, i: usize, a: u64, b: u64) -> GotPoint
+// The position of point i, which stands at the bit offset `at`, after the positions a and b, and how many bits it has.
+fn get_point(form: Form, body: &[u8], at: usize, i: usize, a: u64, b: u64) -> Option<(u64, usize)>
     requires { InBody body.now at × (i < 2 → at ≡ 64 * i) × (2 ≤ i → 128 ≤ at) × (a < 2 ^ 62) × (b < 2 ^ 62) }
     ensures { PointFound (table_of form) i a b (drop at (bits body.now)) result }
 {
     if i < 2 {
         return get_raw(body, i);
     }
-    let GotStep::Step(z, n) = get_step(form, body, at) else {
-        return GotPoint::Nothing;
-    };
-    let GotPosition::At(t) = next_position(a, b, z) else {
-        return GotPoint::Nothing;
-    };
-    GotPoint::Point(t, n)
+    let (z, n) = get_step(form, body, at)?;
+    let t = next_position(a, b, z)?;
+    Some((t, n))
 }
 
 // Whether the bits from `at` on are the fill: as many as end the byte, and all 0.
@@ -160,16 +142,14 @@ fn walk_positions(form: Form, body: &[u8], count: usize, out: &mut [u64]) -> boo
     let mut at = 0;
     let mut a = 0;
     let mut b = 0;
-    let mut i = 0;
-    while i < count {
-        let GotPoint::Point(t, n) = get_point(form, body, at, i, a, b) else {
+    for i in 0..count {
+        let Some((t, n)) = get_point(form, body, at, i, a, b) else {
             return false;
         };
         keep(out, i, t);
         a = b;
         b = t;
         at += n;
-        i += 1;
     }
     is_fill(body, at)
 }

@@ -1,6 +1,6 @@
 // Positions written: the bits of one point after the other, and then the fill.
-ghost use Rattle.std.specs.Prelude.{List, ◌≡◌, ℕ, ◌+◌, ◌^◌, ◌≤◌, ◌<◌, length, take};
-ghost use Rattle.bits.specs.Sinks.{Sound, Held, PlacedBits};
+ghost use Rattle.std.specs.Prelude.{SomeIff, List, ◌≡◌, ℕ, ◌+◌, ◌^◌, ◌≤◌, ◌<◌, length, take};
+ghost use Rattle.bits.specs.Sinks.{Held, PlacedBits};
 ghost use Rattle.outputs.specs.Outputs.{Placed};
 ghost use Rattle.limits.specs.Points.{max_points, first_high};
 ghost use Rattle.position_format.specs.Rows.{Row, rows};
@@ -29,56 +29,49 @@ fn step_at(positions: &[u64], i: usize) -> i64
     step(positions[i - 2], positions[i - 1], positions[i])
 }
 
-// The index of the first point whose step document 01's table does not hold; where there is none, the number of points, or 2 if that is more.
-pub fn first_outside(positions: &[u64]) -> usize
+// The index of the first point whose step document 01's table does not hold, if there is one.
+pub fn first_outside(positions: &[u64]) -> Option<usize>
     requires { (length positions.now ≤ first_high positions.now) × (length positions.now ≤ max_points) }
-    ensures { result ≡ first_outside rows positions.now }
+    ensures { SomeIff result (first_outside rows positions.now < length positions.now) (first_outside rows positions.now) }
 {
-    let mut i = 2;
-    while i < positions.len() {
+    for i in 2..positions.len() {
         if !in_table(step_at(positions, i)) {
-            return i;
+            return Some(i);
         }
-        i += 1;
     }
-    i
+    None
 }
 
 // The bits of the first two points, 64 for each, or of so many as there are: no table has a part in them.
 fn put_first(positions: &[u64], out: &mut [u8]) -> Sink
-    ensures { Sound result × ((rs : List Row) → Held (position_bits rs (take 2 positions.now)) result
-        × PlacedBits (position_bits rs (take 2 positions.now)) result.at out.old out.new) }
+    ensures { (rs : List Row) → Held (position_bits rs (take 2 positions.now)) result
+        × PlacedBits (position_bits rs (take 2 positions.now)) result.at out.old out.new }
 {
-    let empty = Sink {
-        at: 0,
-        held: 0,
-        width: 0,
-    };
     let n = positions.len();
     if n == 0 {
-        return empty;
+        return Sink::empty();
     }
-    let one = bits::lay(out, empty, 64, positions[0]);
+    let one = Sink::empty().lay(out, 64, positions[0]);
     if n == 1 {
         return one;
     }
-    bits::lay(out, one, 64, positions[1])
+    one.lay(out, 64, positions[1])
 }
 
 // The bits of point i, from the third on, come after those of the points before it: the code of its step. The step 0 is the usual one, and
 // its code one bit.
 fn put_point(form: Form, positions: &[u64], i: usize, out: &mut [u8], s: Sink) -> Sink
-    requires { (2 ≤ i) × Point form positions.now i × Sound s × Held (position_bits (table_of form) (take i positions.now)) s }
-    ensures { Sound result × Held (position_bits (table_of form) (take (i + 1) positions.now)) result
+    requires { (2 ≤ i) × Point form positions.now i × Held (position_bits (table_of form) (take i positions.now)) s }
+    ensures { Held (position_bits (table_of form) (take (i + 1) positions.now)) result
         × ((o : List ℕ) → PlacedBits (position_bits (table_of form) (take i positions.now)) s.at o out.old
         → PlacedBits (position_bits (table_of form) (take (i + 1) positions.now)) result.at o out.new) }
 {
     let z = step_at(positions, i);
     if z == 0 {
-        return bits::lay(out, s, 1, 0);
+        return s.lay(out, 1, 0);
     }
     let c = code_of(form, z);
-    bits::lay_both(out, s, c.size, c.prefix, c.width, c.rest)
+    s.lay_both(out, c.size, c.prefix, c.width, c.rest)
 }
 
 // The coding of the positions in a form is written at the front of the output, whose rest stays, if there is room. In the wide form all positions in
@@ -88,10 +81,8 @@ pub fn put_positions(form: Form, positions: &[u64], out: &mut [u8]) -> Option<us
     ensures { Placed (coded_positions (table_of form) positions.now) result out.old out.new }
 {
     let mut s = put_first(positions, out);
-    let mut i = 2;
-    while i < positions.len() {
+    for i in 2..positions.len() {
         s = put_point(form, positions, i, out, s);
-        i += 1;
     }
-    bits::put_last(out, s)
+    s.put_last(out)
 }

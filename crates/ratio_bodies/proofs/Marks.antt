@@ -9,6 +9,7 @@ use lib.Dec.{eqb, ltb}
 use lib.ListN.{length, get_or, take, set, length-set}
 use lib.Seq.{get_or-set_same, get_or-set_other}
 use borrow.Author.Tests.{eqb-true, eqb-false, eq-eqb, ne_eqb, ltb-true, ltb-false}
+use Rattle.std.specs.Bool.{then_some}
 use Rattle.lists.specs.Compare.{begins}
 use Rattle.ratio_format.specs.Windows.{window_size, window_of}
 use Rattle.ratio_format.specs.Choice.{find}
@@ -16,7 +17,7 @@ use Rattle.ratio_format.specs.RatioForms.{coded}
 use Rattle.ratio_format.specs.Open.{Ratio, open_one, strict_one}
 use Rattle.ratio_format.proofs.Windows.{window_few}
 use Rattle.ratio_format.proofs.Choice.{find_first}
-use Rattle.ratio_codec.proofs.read.References.{named_begins, named_good, named_one, named_absent}
+use Rattle.ratio_codec.proofs.read.References.{named_begins, named_strict, named_one, named_absent}
 use Rattle.ratio_format.proofs.Windows.Before.{window_inside, window_has, window_at_lem, find_newest}
 use Rattle.ratio_search.specs.BytePlanes.{slots}
 use Rattle.ratio_bodies.specs.Marks.{slot_of, Last, Again, Marks}
@@ -68,7 +69,8 @@ module _ (ms l : List ℕ) (i v : ℕ) (marks : Marks ms l i) (h : i ≤ length 
     -- a reference to it, whose mark is 0, is read strictly
     pub mark_accepts : (s : List ℕ) → 1 ≤ length s → get_or s 0 0 ≡ p → m ≡ 0 → Ratio v 1 ≡ strict_one w s
     mark_accepts s n is z =
-        named_good w v s (n, omega arith, ap (λ (q : ℕ). get_or w q 0) is ∙ e) (window_few window_size (take i l)).0 (smallest z ∙ sym is)
+        ap (λ (t : Bool). then_some t (v, 1)) (sym (eq-eqb (find v w) (get_or s 0 0) (smallest z ∙ sym is)))
+        ∙ named_strict w v s (n, omega arith, ap (λ (q : ℕ). get_or w q 0) is ∙ e) (window_few window_size (take i l)).0
 
   -- one ratio more, v at the index i, with the marks ns: what each mark of an older ratio must be
   abbrev Kept : List ℕ → ℕ → Type 0

@@ -1,20 +1,17 @@
 -- The last ratios of a full array moved to its front: planes, marks and window are theirs.
-use mathlib.Core.Path.{◌≡◌, refl, sym, ap, ◌∙◌, subst}
-use mathlib.Core.Bool.{Bool, true, false}
+use mathlib.Core.Path.{◌≡◌, sym, ap, ◌∙◌, subst}
 use mathlib.Core.List.{List}
 use Prim.Native.Nat.{ℕ, ◌+◌, ◌-◌, ◌*◌, ◌%◌, ◌≤◌, ◌<◌}
 use native.Mathlib.Omega.{arith}
-use borrow.Author.Tests.{eqb-true, eqb-false}
-use lib.Dec.{eqb}
-use lib.ListN.{length, get_or, take, set, length-set}
-use lib.Seq.{ext_get_or, get_or-set_same, get_or-set_other}
+use lib.ListN.{length, get_or, take}
+use lib.Seq.{ext_get_or}
 use Rattle.bits.specs.Digits.{byte_of}
 use Rattle.ratio_format.specs.Windows.{window_size, window_of}
 use Rattle.ratio_format.proofs.Windows.{window_few}
 use Rattle.ratio_format.proofs.Windows.Before.{window_inside, window_has, window_at_lem}
 use Rattle.ratio_search.specs.BytePlanes.{slots, Kept}
 use Rattle.ratio_bodies.specs.Marks.{Again, Marks}
-use Rattle.ratio_bodies.specs.declared.stretch.Stretch.{Stretch}
+use Rattle.ratio_search.specs.declared.planes.BytePlanes.{BytePlanes}
 use Rattle.ratio_bodies.specs.Taking.{Ready}
 use Rattle.ratio_bodies.specs.Sliding.{room, shift, Slid}
 
@@ -46,11 +43,10 @@ module _ (l m : List ℕ) (s : Slid l m) where
           let y : j < slots = omega (arith, a.1, a.2) in
           (j, omega (arith, a.1), y, s.1 j y ∙ ap (λ (i : ℕ). get_or l i 0) e ∙ a.3 ∙ sym (s.1 k h))
 
-  pub ready_slid : (ps ms : List ℕ) (r : Stretch) (n : ℕ) → r.count ≡ room → n ≡ r.done - shift → Ready ps ms l r → Ready ps ms m (record { count = slots; at = r.at; done = n })
-  ready_slid ps ms r n e f p = record {
-    planes = rw f (kept_slid ps r.done (omega (arith, p.behind)) p.planes);
-    behind = omega (arith, p.behind);
-    marks = marks_slid ms (subst (Marks ms l) e p.marks);
+  pub ready_slid : (p : BytePlanes) (ms : List ℕ) (i n : ℕ) → i ≡ room → n ≡ p.done - shift → Ready p ms l i → Ready (record { cells = p.cells; done = n }) ms m slots
+  ready_slid p ms i n e f r = record {
+    planes = (rw f (kept_slid p.cells p.done (omega (arith, r.planes.1)) r.planes.0), omega (arith, r.planes.1));
+    marks = marks_slid ms (subst (Marks ms l) e r.marks);
   }
 
   pub window_slid : length l ≡ room → window_of window_size (take slots m) ≡ window_of window_size (take room l)
@@ -67,30 +63,3 @@ module _ (l m : List ℕ) (s : Slid l m) where
       let x : slots - 1 - p + shift ≡ room - 1 - p = omega arith in
       window_at_lem window_size m slots hm p i.0 i.1 ∙ s.1 (slots - 1 - p) (omega arith) ∙ ap (λ (n : ℕ). get_or l n 0) x
       ∙ sym (window_at_lem window_size l room hl p i.0 (omega (arith, i.1))))
-
--- ---- one ratio after the other
-
--- the array m after the first k were moved
-abbrev pub Moved : List ℕ → List ℕ → ℕ → Type 0
-Moved l m k =
-    (k ≤ slots) × (length m ≡ length l) × ((j : ℕ) → j < k → get_or m j 0 ≡ get_or l (j + shift) 0) × ((j : ℕ) → k ≤ j → get_or m j 0 ≡ get_or l j 0)
-
-pub moved_start : (l : List ℕ) → Moved l l 0
-moved_start l = (omega arith, refl, λ j h. absurd (omega arith), λ j h. refl)
-
-pub moved_more : (l m : List ℕ) (k : ℕ) → k < slots → slots ≤ length l → Moved l m k → Moved l (set m k (get_or m (k + shift) 0)) (k + 1)
-moved_more l m k h n p =
-    let v = get_or m (k + shift) 0 in (
-      omega arith,
-      length-set m k v ∙ p.1,
-      λ j g. go j g (eqb j k) refl,
-      λ j g. get_or-set_other m k j v 0 (λ q. omega arith) ∙ p.3 j (omega arith),
-    )
-  where
-    go : (j : ℕ) → j < k + 1 → (t : Bool) → eqb j k ≡ t → get_or (set m k (get_or m (k + shift) 0)) j 0 ≡ get_or l (j + shift) 0
-    go j g true e =
-        let q = eqb-true j k e in
-        ap (λ (i : ℕ). get_or (set m k (get_or m (k + shift) 0)) i 0) q ∙ get_or-set_same m k (get_or m (k + shift) 0) 0 (omega (arith, p.1)) ∙ p.3 (k + shift) (omega arith) ∙ ap (λ (i : ℕ). get_or l (i + shift) 0) (sym q)
-    go j g false e =
-        let q = eqb-false j k e in
-        get_or-set_other m k j (get_or m (k + shift) 0) 0 q ∙ p.2 j (omega arith)

@@ -1,2 +1,3 @@
 -- What the proofs of functions of src/through.rt share.
 pub mod Counting
+pub mod Stretches

@@ -5,15 +5,15 @@
 --                      and `at` is the offset past the bytes used
 --   Taking rule to body o from begun out at i   how far reading by the rule has come that began with the first `from` numbers of o and at the
 --                      offset `begun` of the body and goes up to the index `to`: i numbers stand in out, and `at` is the offset past the bytes used
---   Ready ps ms l s    the planes ps and the marks ms are those of the ratios l, as far as strict reading has come
+--   Ready p ms l i     the planes p and the marks ms are those of the ratios l, of which strict reading has read the first i
 use Rattle.std.specs.Prelude.{List, ◌++◌, ◌≡◌, ℕ, ◌+◌, ◌-◌, ◌≤◌, length, take, drop}
 use Rattle.outputs.specs.Outputs.{over}
 use Rattle.ratio_format.specs.Windows.{window_size, window_of}
 use Rattle.ratio_format.specs.Bodies.{Taken, after_taken, taken_from}
-use Rattle.ratio_search.specs.BytePlanes.{Kept}
+use Rattle.ratio_search.specs.declared.planes.BytePlanes.{BytePlanes}
+use Rattle.ratio_search.specs.BytePlanes.{KeptTo}
 use Rattle.ratio_bodies.specs.Marks.{Marks}
 use Rattle.ratio_bodies.specs.declared.Took.{Took}
-use Rattle.ratio_bodies.specs.declared.stretch.Stretch.{Stretch}
 use Rattle.ratio_format.specs.Open.{Read}
 
 -- the answer
@@ -44,7 +44,6 @@ pub record Taking (rule : List ℕ → List ℕ → Read) (to : ℕ) (body o : L
       ≡ after_taken vs k (taken_from rule window_size (window_of window_size (take i out)) (to - i) (drop at body))
 
 -- what strict reading keeps
-pub record Ready (ps ms l : List ℕ) (s : Stretch) : Type 0 where
-  pub planes : Kept ps l s.done
-  pub behind : s.done ≤ s.count
-  pub marks : Marks ms l s.count
+pub record Ready (p : BytePlanes) (ms l : List ℕ) (i : ℕ) : Type 0 where
+  pub planes : KeptTo p l i
+  pub marks : Marks ms l i

@@ -6,23 +6,14 @@ ghost use Rattle.ratio_format.specs.Open.{open_xor, open_one};
 use bits::get_first;
 use ratio_codec::read::raised;
 use ratio_codec::{EXCEPTION, XOR, read_one_open};
-use ratio_format::{Read, Window};
+use ratio_format::Window;
 use ratio_window::window_start;
 
 // The most bytes that a form has.
 const LONGEST: usize = 10;
 
-// Ratio i at the offset `at`, by the open rule, against the ratios before it.
-fn open_nth(ratios: &[u64], i: usize, body: &[u8], at: usize) -> Read
-    requires { (i ≤ length ratios.now) × (at ≤ length body.now) }
-    ensures { result ≡ open_one (window_of window_size (take i ratios.now)) (drop at body.now) }
-{
-    let from = window_start(i);
-    read_one_open(&ratios[from..i], &body[at..])
-}
-
 // What stands after the byte of a place that holds u: the two counts, and the middle.
-fn xor_ahead(u: u64, body: &[u8], at: usize) -> Read
+fn xor_ahead(u: u64, body: &[u8], at: usize) -> Option<(u64, usize)>
     requires { at + 9 ≤ length body.now }
     ensures { result ≡ open_xor u (drop at body.now) }
 {
@@ -30,42 +21,39 @@ fn xor_ahead(u: u64, body: &[u8], at: usize) -> Read
     let trail = c / 16;
     let len = c % 16;
     if 8 < trail + len {
-        return Read::Nothing;
+        return None;
     }
     let m = get_first(body, at + 1, len);
-    Read::Ratio(raised(m, trail) ^ u, len + 2)
+    Some((raised(m, trail) ^ u, len + 2))
 }
 
 // Ratio i at the offset `at`, where the longest form fits.
-fn open_ahead(ratios: &[u64], i: usize, body: &[u8], at: usize) -> Read
+fn open_ahead(ratios: &[u64], i: usize, body: &[u8], at: usize) -> Option<(u64, usize)>
     requires { (i ≤ length ratios.now) × (at + 10 ≤ length body.now) }
     ensures { result ≡ open_one (window_of window_size (take i ratios.now)) (drop at body.now) }
 {
     let b = body[at] as usize;
     if b == EXCEPTION {
-        return Read::Ratio(get_first(body, at + 1, 8), 9);
+        return Some((get_first(body, at + 1, 8), 9));
     }
     let p = b % XOR;
-    if i <= p {
-        return Read::Nothing;
-    }
-    if p == Window::SIZE {
-        return Read::Nothing;
+    if i <= p || p == Window::SIZE {
+        return None;
     }
     let u = ratios[i - 1 - p];
     if b < XOR {
-        return Read::Ratio(u, 1);
+        return Some((u, 1));
     }
     xor_ahead(u, body, at + 1)
 }
 
 // Ratio i at the offset `at`.
-pub(crate) fn open_from(ratios: &[u64], i: usize, body: &[u8], at: usize) -> Read
+pub(crate) fn open_from(ratios: &[u64], i: usize, body: &[u8], at: usize) -> Option<(u64, usize)>
     requires { (i ≤ length ratios.now) × (at ≤ length body.now) }
     ensures { result ≡ open_one (window_of window_size (take i ratios.now)) (drop at body.now) }
 {
     if at + LONGEST <= body.len() {
         return open_ahead(ratios, i, body, at);
     }
-    open_nth(ratios, i, body, at)
+    read_one_open(&ratios[window_start(i)..i], &body[at..])
 }

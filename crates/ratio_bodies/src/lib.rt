@@ -21,14 +21,16 @@
 // the middle of an xor form by one load of eight bytes.
 #![tactic(auto)]
 
-ghost use Rattle.std.specs.Prelude.{◌≡◌, [], ◌∷◌, ◌-◌, ◌≤◌, ◌<◌, eqb, length, take, get_or};
+ghost use Rattle.std.specs.Prelude.{◌≡◌, ◌≤◌, ◌<◌, eqb, length, take, get_or, IfSome};
 ghost use Rattle.lists.specs.Compare.{both};
 ghost use Rattle.limits.specs.Points.{max_points};
 ghost use Rattle.outputs.specs.Outputs.{Placed};
 ghost use Rattle.ratio_format.specs.Windows.{window_size, window_of};
 ghost use Rattle.ratio_format.specs.RatioForms.{coded};
 ghost use Rattle.ratio_format.specs.Bodies.{coded_ratios, open_taken, strict_taken};
-ghost use Rattle.ratio_search.specs.BytePlanes.{Planes};
+ghost use Rattle.ratio_search.specs.BytePlanes.{KeptTo};
+ghost use Rattle.ratio_bodies.specs.Indexes.{PlaceIs};
+ghost use Rattle.ratio_bodies.specs.Sliding.{room};
 ghost use Rattle.ratio_bodies.specs.Taking.{took_of, TakenInto};
 
 mod ahead;
@@ -40,25 +42,29 @@ mod strict;
 mod through;
 
 use ahead::open_from;
-use choice::{choose_nth, refresh};
-use index::{KEYS, NONE, place_of};
+use choice::choose_nth;
+use index::{KEYS, place_of};
 use ratio_codec::write::{put_ratio_form, put_reference};
-use ratio_format::Read;
-use ratio_search::CELLS;
+use ratio_search::{BytePlanes, CELLS};
 use repeats::put_repeats;
 use through::{ROOM, read_through};
 
-// With at most so many ratios wanted a small array does.
+// With at most so many ratios wanted a small array does, which is sooner cleared.
 const SHORT: usize = 64;
 
 // Ratio i is coded at the front of the output, against the ratios before it; `place` is its place in the window, if the index knows one.
-fn put_nth(planes: &[u8; CELLS], ratios: &[u64], i: usize, place: usize, out: &mut [u8]) -> Option<usize>
-    requires { (i < length ratios.now)
-        × (place < window_size → coded (get_or ratios.now i 0) (window_of window_size (take i ratios.now)) ≡ place ∷ [])
-        × (window_size ≤ place → 16 ≤ i → Planes planes.now ratios.now (i - window_size) i) }
-    ensures { Placed (coded (get_or ratios.now i 0) (window_of window_size (take i ratios.now))) result out.old out.new }
+fn put_nth(
+    planes: &mut BytePlanes,
+    ratios: &[u64],
+    i: usize,
+    place: Option<usize>,
+    out: &mut [u8],
+) -> Option<usize>
+    requires { (i < length ratios.now) × KeptTo planes.old ratios.now i × IfSome place (λ p. PlaceIs ratios.now i p) }
+    ensures placed { Placed (coded (get_or ratios.now i 0) (window_of window_size (take i ratios.now))) result out.old out.new }
+    ensures kept { KeptTo planes.new ratios.now i }
 {
-    if place < NONE {
+    if let Some(place) = place {
         return put_reference(out, place);
     }
     let v = ratios[i];
@@ -71,18 +77,17 @@ pub fn put_ratios(ratios: &[u64], out: &mut [u8]) -> Option<usize>
     requires { length ratios.now ≤ max_points }
     ensures { Placed (coded_ratios ratios.now) result out.old out.new }
 {
-    let mut planes = [0; CELLS];
+    let mut planes = BytePlanes {
+        cells: [0; CELLS],
+        done: 0,
+    };
     let mut newest: [u16; KEYS] = [0; KEYS];
-    let mut done: usize = 0;
     let mut at: usize = 0;
     let mut i: usize = 0;
+    // Counted by hand: a turn writes a ratio and all repeats of it.
     while i < ratios.len() {
         let place = place_of(&mut newest, ratios, i);
-        done = refresh(&mut planes, ratios, done, i, place < NONE);
-        let r = put_nth(&planes, ratios, i, place, &mut out[at..]);
-        let Some(n) = r else {
-            return None;
-        };
+        let n = put_nth(&mut planes, ratios, i, place, &mut out[at..])?;
         let next = at + n;
         let k = put_repeats(ratios, i + 1, &mut out[next..]);
         at = next + k;
@@ -103,10 +108,7 @@ impl Took {
     pub fn whole(self, count: usize, size: usize) -> bool
         ensures { result ≡ both (eqb self.count count) (eqb self.used size) }
     {
-        if self.count != count {
-            return false;
-        }
-        self.used == size
+        self.count == count && self.used == size
     }
 }
 
@@ -119,21 +121,13 @@ pub fn get_strict(body: &[u8], count: usize, out: &mut [u64]) -> Took
     read_through(body, count, out)
 }
 
-// What `count_strict` answers of many ratios: they are read through an array that is used again.
-fn count_long(body: &[u8], count: usize) -> Took
+// What `count_strict` answers, by an array of N ratios.
+fn count_in<const N: usize>(body: &[u8], count: usize) -> Took
+    requires { (N ≤ room) × (N < count → N ≡ room) }
     ensures { result ≡ took_of (strict_taken count body.now) }
 {
-    let mut ratios = [0; ROOM];
+    let mut ratios = [0; N];
     read_through(body, count, &mut ratios)
-}
-
-// What it answers of few: a small array is sooner cleared.
-fn count_short(body: &[u8], count: usize) -> Took
-    requires { count ≤ 64 }
-    ensures { result ≡ took_of (strict_taken count body.now) }
-{
-    let mut ratios = [0; SHORT];
-    get_strict(body, count, &mut ratios)
 }
 
 // How many ratios strict reading takes from the front of the body, at most `count`, and how many bytes they use: with no output, in memory of a
@@ -142,9 +136,9 @@ pub fn count_strict(body: &[u8], count: usize) -> Took
     ensures { result ≡ took_of (strict_taken count body.now) }
 {
     if count <= SHORT {
-        return count_short(body, count);
+        return count_in::<SHORT>(body, count);
     }
-    count_long(body, count)
+    count_in::<ROOM>(body, count)
 }
 
 // Ratios are read into the output by the open rule, up to the first bytes that it does not read.
@@ -153,15 +147,12 @@ pub fn get_open(body: &[u8], count: usize, out: &mut [u64]) -> Took
     ensures { TakenInto (open_taken count body.now) result out.old out.new }
 {
     let mut at: usize = 0;
-    let mut i: usize = 0;
-    while i < count {
-        let r = open_from(out, i, body, at);
-        let Read::Ratio(v, n) = r else {
+    for i in 0..count {
+        let Some((v, n)) = open_from(out, i, body, at) else {
             return Took { count: i, used: at };
         };
         out[i] = v;
         at += n;
-        i += 1;
     }
-    Took { count: i, used: at }
+    Took { count, used: at }
 }

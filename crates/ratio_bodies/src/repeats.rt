@@ -10,16 +10,12 @@ pub(crate) fn put_repeats(ratios: &[u64], from: usize, out: &mut [u8]) -> usize
         × (out.new ≡ replicate result 0 ++ drop result out.old) }
 {
     let v = ratios[from - 1];
-    let mut k: usize = 0;
-    while from + k < ratios.len() {
+    let most = out.len().min(ratios.len() - from);
+    for k in 0..most {
         if ratios[from + k] != v {
             return k;
         }
-        if out.len() <= k {
-            return k;
-        }
         out[k] = 0;
-        k += 1;
     }
-    k
+    most
 }

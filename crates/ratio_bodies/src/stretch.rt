@@ -7,49 +7,42 @@ ghost use Rattle.ratio_format.specs.Bodies.{taken_from};
 ghost use Rattle.ratio_bodies.specs.Taking.{TakenOnto, Ready};
 
 use super::ahead::open_from;
-use super::choice::refresh;
 use super::strict::{accepts, get_references, mark};
-use ratio_format::Read;
-use ratio_search::{CELLS, SLOTS};
+use ratio_search::{BytePlanes, SLOTS};
 
-// How far strict reading has come: how many ratios stand in the array, the offset in the body, and up to which ratio the planes go.
+// How far strict reading has come: how many ratios stand in the array, and the offset in the body.
 #[derive(Clone, Copy)]
 pub struct Stretch {
     pub count: usize,
     pub at: usize,
-    pub done: usize,
 }
 
 // Ratios are read strictly from the body, up to the index `to` of the array, or up to the first bytes that are no written form of a next ratio.
-// `from` stand in the array, `begun` is the offset in the body, and the planes go up to ratio `ready`: three arguments, since a struct costs the
-// loop time. After each ratio the references that follow it are read in a loop of their own.
+// `from` stand in the array, and `begun` is the offset in the body: two arguments, since a struct costs the loop time. After each ratio the
+// references that follow it are read in a loop of their own.
 pub(crate) fn read_stretch(
     body: &[u8],
     from: usize,
     begun: usize,
-    ready: usize,
     to: usize,
-    planes: &mut [u8; CELLS],
+    planes: &mut BytePlanes,
     again: &mut [u8; SLOTS],
     ratios: &mut [u64],
 ) -> Stretch
-    requires { (from ≤ to) × (to ≤ length ratios.old) × (begun ≤ length body.now)
-        × Ready planes.old again.old ratios.old (record { count = from; at = begun; done = ready }) }
+    requires { (from ≤ to) × (to ≤ length ratios.old) × (begun ≤ length body.now) × Ready planes.old again.old ratios.old from }
     ensures { TakenOnto (taken_from strict_one window_size (window_of window_size (take from ratios.old)) (to - from) (drop begun body.now))
         from begun result.count result.at ratios.old ratios.new
-        × (result.at ≤ length body.now) × Ready planes.new again.new ratios.new result }
+        × (result.at ≤ length body.now) × Ready planes.new again.new ratios.new result.count }
 {
-    let mut done = ready;
     let mut at = begun;
     let mut i = from;
+    // Counted by hand: a turn reads a ratio and all references that follow it.
     while i < to {
-        let r = open_from(ratios, i, body, at);
-        let Read::Ratio(v, n) = r else {
-            return Stretch { count: i, at, done };
+        let Some((v, n)) = open_from(ratios, i, body, at) else {
+            return Stretch { count: i, at };
         };
-        done = refresh(planes, ratios, done, i, n == 1);
         if !accepts(planes, again, ratios, i, v, n, body, at) {
-            return Stretch { count: i, at, done };
+            return Stretch { count: i, at };
         }
         mark(again, i, n, body, at);
         ratios[i] = v;
@@ -58,5 +51,5 @@ pub(crate) fn read_stretch(
         at = next + k;
         i = i + 1 + k;
     }
-    Stretch { count: i, at, done }
+    Stretch { count: i, at }
 }

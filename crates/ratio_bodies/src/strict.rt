@@ -1,19 +1,18 @@
 // Whether bytes that were read as a ratio are those that are written for it, and references read strictly. Marks say which ratios of the window
 // occur again later in it.
-ghost use Rattle.std.specs.Prelude.{◌≡◌, ◌+◌, ◌-◌, ◌%◌, ◌≤◌, ◌<◌, length, take, drop, get_or, set};
+ghost use Rattle.std.specs.Prelude.{◌≡◌, ◌+◌, ◌-◌, ◌%◌, ◌≤◌, ◌<◌, length, take, drop, get_or, set, IfSome};
 ghost use Rattle.lists.specs.Compare.{begins};
 ghost use Rattle.ratio_format.specs.Windows.{window_size, window_of};
 ghost use Rattle.ratio_format.specs.RatioForms.{coded};
-ghost use Rattle.ratio_format.specs.Open.{open_one, strict_one};
-ghost use Rattle.ratio_format.specs.declared.Read.TheVariants.{Ratio};
-ghost use Rattle.ratio_search.specs.BytePlanes.{slots, Planes};
+ghost use Rattle.ratio_format.specs.Open.{Ratio, open_one, strict_one};
+ghost use Rattle.ratio_search.specs.BytePlanes.{slots, KeptTo};
 ghost use Rattle.ratio_bodies.specs.Marks.{Marks, slot_of};
 ghost use Rattle.ratio_bodies.specs.Taking.{Taking};
 
 use super::choice::choose_nth;
-use super::index::NONE;
 use ratio_codec::read::has_head;
-use ratio_search::{CELLS, SLOTS};
+use ratio_format::Window;
+use ratio_search::{BytePlanes, SLOTS};
 
 // The slot of the ratio that the reference at the offset `at` names.
 fn slot_of(i: usize, body: &[u8], at: usize) -> usize
@@ -27,7 +26,7 @@ fn slot_of(i: usize, body: &[u8], at: usize) -> usize
 // Whether the n bytes at the offset `at`, which were read as v, are those that are written for v. A reference is, where its ratio does not
 // occur again.
 pub(crate) fn accepts(
-    planes: &[u8; CELLS],
+    planes: &mut BytePlanes,
     again: &[u8; SLOTS],
     ratios: &[u64],
     i: usize,
@@ -38,8 +37,9 @@ pub(crate) fn accepts(
 ) -> bool
     requires { (i ≤ length ratios.now) × Marks again.now ratios.now i × (at ≤ length body.now)
         × (open_one (window_of window_size (take i ratios.now)) (drop at body.now) ≡ Ratio v n)
-        × ((n ≡ 1 → ⊥) → 16 ≤ i → Planes planes.now ratios.now (i - window_size) i) }
-    ensures { result ≡ begins (coded v (window_of window_size (take i ratios.now))) (drop at body.now) }
+        × KeptTo planes.old ratios.now i }
+    ensures test { result ≡ begins (coded v (window_of window_size (take i ratios.now))) (drop at body.now) }
+    ensures kept { KeptTo planes.new ratios.now i }
 {
     if n == 1 {
         let slot = slot_of(i, body, at);
@@ -58,32 +58,24 @@ pub(crate) fn mark(again: &mut [u8; SLOTS], i: usize, n: usize, body: &[u8], at:
     if n == 1 {
         let slot = slot_of(i, body, at);
         again[slot] = 1;
-        again[i % SLOTS] = 0;
-        return;
     }
     again[i % SLOTS] = 0;
 }
 
-// The place that the byte at the offset `at` names, where strict reading takes that byte as ratio i; NONE otherwise.
-fn reference_at(again: &[u8; SLOTS], i: usize, body: &[u8], at: usize) -> usize
-    ensures { result < window_size → (at < length body.now) × (get_or body.now at 0 ≡ result) × (result < i)
-        × (get_or again.now (slot_of i result) 0 ≡ 0) }
+// The place that the byte at the offset `at` names, if strict reading takes that byte as ratio i.
+fn reference_at(again: &[u8; SLOTS], i: usize, body: &[u8], at: usize) -> Option<usize>
+    ensures { IfSome result (λ p. (p < window_size) × (at < length body.now) × (get_or body.now at 0 ≡ p) × (p < i)
+        × (get_or again.now (slot_of i p) 0 ≡ 0)) }
 {
-    if body.len() <= at {
-        return NONE;
-    }
-    let place = body[at] as usize;
-    if NONE <= place {
-        return NONE;
-    }
-    if i <= place {
-        return NONE;
+    let place = *body.get(at)? as usize;
+    if Window::SIZE <= place || i <= place {
+        return None;
     }
     let slot = slot_of(i, body, at);
     if again[slot] != 0 {
-        return NONE;
+        return None;
     }
-    place
+    Some(place)
 }
 
 // References are read strictly from the offset `at` on, as ratio i and those after it, up to the index `to` or up to the first byte that strict
@@ -100,15 +92,12 @@ pub(crate) fn get_references(
     ensures { Taking strict_one to body.now ratios.old i at ratios.new (at + result) (i + result)
         × Marks again.new ratios.new (i + result) }
 {
-    let mut k: usize = 0;
-    while i + k < to {
-        let place = reference_at(again, i + k, body, at + k);
-        if NONE <= place {
+    for k in 0..to - i {
+        let Some(place) = reference_at(again, i + k, body, at + k) else {
             return k;
-        }
+        };
         mark(again, i + k, 1, body, at + k);
         ratios[i + k] = ratios[i + k - 1 - place];
-        k += 1;
     }
-    k
+    to - i
 }

@@ -1,15 +1,15 @@
 // Ratios read strictly through an array. Where more are wanted than it has room for, it is used again: where it is full, the last ratios move to its
 // front, with the window of the next ratio among them. They move by a multiple of SLOTS, so that each keeps its slot in the planes and in the
 // marks, and neither has to be made anew.
-ghost use Rattle.std.specs.Prelude.{◌≡◌, ◌-◌, ◌≤◌, ◌<◌, min, length};
+ghost use Rattle.std.specs.Prelude.{◌≡◌, ◌≤◌, ◌<◌, length};
 ghost use Rattle.outputs.specs.Outputs.{over};
 ghost use Rattle.ratio_format.specs.Bodies.{strict_taken};
 ghost use Rattle.ratio_bodies.specs.Taking.{took_of};
-ghost use Rattle.ratio_bodies.specs.Sliding.{room, shift, Slid};
+ghost use Rattle.ratio_bodies.specs.Sliding.{room, Slid};
 
 use super::Took;
 use super::stretch::read_stretch;
-use ratio_search::{CELLS, SLOTS};
+use ratio_search::{BytePlanes, CELLS, SLOTS};
 
 // How many ratios an array that is used again has room for, and by how many the last of them move.
 pub(crate) const ROOM: usize = 512;
@@ -21,31 +21,7 @@ fn slide(ratios: &mut [u64])
     requires { length ratios.old ≡ room }
     ensures { Slid ratios.old ratios.new }
 {
-    let mut k: usize = 0;
-    while k < SLOTS {
-        ratios[k] = ratios[k + SHIFT];
-        k += 1;
-    }
-}
-
-// Up to which ratio the planes then go.
-fn slid(done: usize) -> usize
-    ensures { result ≡ done - shift }
-{
-    if done < SHIFT {
-        return 0;
-    }
-    done - SHIFT
-}
-
-// The end of a stretch in which so many ratios are wanted, in an array of that size.
-fn end_of(wanted: usize, size: usize) -> usize
-    ensures { result ≡ min wanted size }
-{
-    if wanted < size {
-        return wanted;
-    }
-    size
+    ratios.copy_within(SHIFT..ROOM, 0);
 }
 
 // How many ratios strict reading takes from the front of the body, at most `count`, and how many bytes they use. They stand in the array, if it has
@@ -55,40 +31,27 @@ pub(crate) fn read_through(body: &[u8], count: usize, ratios: &mut [u64]) -> Too
     ensures { (result ≡ took_of (strict_taken count body.now))
         × (count ≤ length ratios.old → ratios.new ≡ over (strict_taken count body.now).ratios ratios.old) }
 {
-    let mut planes = [0; CELLS];
+    let mut planes = BytePlanes {
+        cells: [0; CELLS],
+        done: 0,
+    };
     let mut again = [0; SLOTS];
     let mut before: usize = 0;
     let mut from: usize = 0;
     let mut begun: usize = 0;
-    let mut ready: usize = 0;
     loop {
-        let to = end_of(count - before, ratios.len());
-        let r = read_stretch(
-            body,
-            from,
-            begun,
-            ready,
-            to,
-            &mut planes,
-            &mut again,
-            ratios,
-        );
-        if r.count < to {
-            return Took {
-                count: before + r.count,
-                used: r.at,
-            };
-        }
-        if count - before <= to {
+        let to = (count - before).min(ratios.len());
+        let r = read_stretch(body, from, begun, to, &mut planes, &mut again, ratios);
+        if r.count < to || count - before <= to {
             return Took {
                 count: before + r.count,
                 used: r.at,
             };
         }
         slide(ratios);
+        planes.done = planes.done.saturating_sub(SHIFT);
         before += SHIFT;
         from = SLOTS;
         begun = r.at;
-        ready = slid(r.done);
     }
 }

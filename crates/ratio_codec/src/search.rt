@@ -7,43 +7,36 @@ ghost use Rattle.ratio_window.specs.Passed.{Passed};
 
 use ratio_window::{Best, EQUAL_SUM, sum_of};
 
-// The first place from `from` on whose ratio is v, or the window's length.
+// How far the places from `from` on hold no ratio v: the first that holds one, or the window's length, which is past them all.
 pub(crate) fn pass_equal(window: &[u64], from: usize, v: u64) -> usize
     requires { from ≤ length window.now }
     ensures { result ≡ from + find v (drop from (reverse window.now)) }
 {
-    let mut i = from;
-    while i < window.len() {
+    for i in from..window.len() {
         if window[window.len() - 1 - i] == v {
             return i;
         }
-        i += 1;
     }
-    i
+    window.len()
 }
 
-// The first place from `from` on whose ratio may have a sum above s, where `bound` is 256 ^ (7 - s), or the window's length: an xor from
+// How far the ratios from place `from` on have no sum above s, where `bound` is 256 ^ (7 - s): to the first that may have one. An xor from
 // the bound on has at most s leading zero bytes, and one whose lowest byte is not 0 has no trailing one.
 fn pass_over(window: &[u64], from: usize, v: u64, bound: u64) -> usize
     requires { from ≤ length window.now }
     ensures { (from ≤ result) × (result ≤ length window.now)
         × ((s : ℕ) → 256 ^ (7 - s) ≤ bound → Passed v (reverse window.now) s from result) }
 {
-    let mut i = from;
-    while i < window.len() {
+    for i in from..window.len() {
         let x = v ^ window[window.len() - 1 - i];
-        if x < bound {
+        if x < bound || x % 256 == 0 {
             return i;
         }
-        if x % 256 == 0 {
-            return i;
-        }
-        i += 1;
     }
-    i
+    window.len()
 }
 
-// The first place from `from` on whose ratio may have a larger sum, or the window's length. Only an equal ratio has a sum above 7.
+// How far the ratios from place `from` on have no larger sum: to the first that may have one. Only an equal ratio has a sum above 7.
 fn pass(window: &[u64], from: usize, v: u64, sum: usize) -> usize
     requires { (from ≤ length window.now) × (sum ≤ 7) }
     ensures { (from ≤ result) × (result ≤ length window.now) × Passed v (reverse window.now) sum from result }
@@ -62,6 +55,7 @@ pub fn search(window: &[u64], v: u64) -> Best
     let mut place: usize = 0;
     let mut sum: usize = 0;
     let mut i: usize = 0;
+    // Counted by hand: a turn goes on behind the places that it passes over.
     while i < window.len() {
         let u = window[window.len() - 1 - i];
         if u == v {

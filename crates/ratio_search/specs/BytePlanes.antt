@@ -5,9 +5,11 @@
 --   BothDiffer ps v a b t   neither byte a nor byte b of slot t is that of v
 --   Planes ps l from to     the planes ps hold the bytes of the ratios of l from index `from` up to `to`
 --   Kept ps l n             planes of full size, of the last ratios of l before index n, as many as the planes hold
+--   KeptTo p l i            the planes p are so kept of ratios of l, of none from index i on
 use Rattle.std.specs.Prelude.{List, ◌≡◌, ℕ, ◌+◌, ◌-◌, ◌*◌, ◌%◌, ◌≤◌, ◌<◌, length, get_or}
 use Rattle.bits.specs.Digits.{byte_of}
 use Rattle.ratio_format.specs.Windows.{window_size}
+use Rattle.ratio_search.specs.declared.planes.BytePlanes.{BytePlanes}
 
 -- a power of 2, so that a remainder is cheap
 abbrev pub slots : ℕ
@@ -28,3 +30,7 @@ BothDiffer ps v a b t = (get_or ps (a * slots + t) 0 ≡ byte_of v a → ⊥) ×
 -- what a run keeps between its ratios
 abbrev pub Kept : List ℕ → List ℕ → ℕ → Type 0
 Kept ps l n = (length ps ≡ cells) × Planes ps l (n - slots) n
+
+-- and what a reader or a writer knows of them before ratio i
+abbrev pub KeptTo : BytePlanes → List ℕ → ℕ → Type 0
+KeptTo p l i = Kept p.cells l p.done × (p.done ≤ i)

@@ -3,7 +3,7 @@ ghost use Rattle.std.specs.Prelude.{◌≡◌, ℕ, ◌+◌, ◌*◌, ◌%◌, �
 ghost use Rattle.bits.specs.Digits.{byte_of};
 ghost use Rattle.ratio_format.specs.Windows.{window_size, window_of};
 ghost use Rattle.ratio_window.specs.Searched.{Searched};
-ghost use Rattle.ratio_search.specs.BytePlanes.{slots, cells, Kept};
+ghost use Rattle.ratio_search.specs.BytePlanes.{slots, cells, Kept, KeptTo};
 
 use super::search::find_best;
 use bits::byte_of;
@@ -26,9 +26,9 @@ pub struct BytePlanes {
 impl BytePlanes {
     // The best of the window of ratio i for v, newest first, once the planes are those of the ratios before it.
     pub fn find_best(&mut self, ratios: &[u64], i: usize, v: u64) -> Best
-        requires { Kept self.old.cells ratios.now self.old.done × (self.old.done ≤ i) × (0 < i) × (i ≤ length ratios.now) }
+        requires { KeptTo self.old ratios.now i × (0 < i) × (i ≤ length ratios.now) }
         ensures found { Searched v (window_of window_size (take i ratios.now)) result.place result.sum }
-        ensures kept { Kept self.new.cells ratios.now i × (self.new.done ≡ i) }
+        ensures kept { KeptTo self.new ratios.now i }
     {
         self.fill(ratios, i);
         find_best(&self.cells, ratios, i, v)
@@ -36,7 +36,7 @@ impl BytePlanes {
 
     // The planes of the first `done` ratios become those of the first `to`.
     fn fill(&mut self, ratios: &[u64], to: usize)
-        requires { Kept self.old.cells ratios.now self.old.done × (self.old.done ≤ to) × (to ≤ length ratios.now) }
+        requires { KeptTo self.old ratios.now to × (to ≤ length ratios.now) }
         ensures { Kept self.new.cells ratios.now to × (self.new.done ≡ to) }
     {
         for k in self.done.max(to.saturating_sub(SLOTS))..to {

@@ -66,6 +66,7 @@ pub(crate) fn find_best(planes: &[u8; CELLS], ratios: &[u64], i: usize, v: u64) 
     let mut trail: usize = 0;
     let mut sum: usize = 1;
     let mut q = i;
+    // Counted by hand: a turn goes on behind the ratios that it passes over.
     while from < q {
         let x = v ^ ratios[q - 1];
         if x == 0 {

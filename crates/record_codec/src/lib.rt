@@ -5,6 +5,6 @@ mod mover;
 mod reader;
 mod writer;
 
-pub use mover::{to_old, to_wide};
+pub use mover::move_to;
 pub use reader::{check, check_number, fetch, read_open};
 pub use writer::write;

@@ -1,30 +1,17 @@
 // Reading: the parts of a record in their order. A check needs no output; a fetch and open reading leave the points in two.
-ghost use Rattle.std.specs.Prelude.{◌≡◌};
-ghost use Rattle.record_format.specs.Checking.{refused_check, checked, check_number};
-ghost use Rattle.record_format.specs.Fetching.{refusal_answer, lacks_room, read_with, read_open, fetched};
-ghost use Rattle.record_parts.specs.Fields.{ratios_by, FrontFound, RoomToRead};
-ghost use Rattle.record_codec.specs.Answers.{FoundPast, Answered};
+ghost use Rattle.std.specs.Prelude.{◌≡◌, ◌≢◌, ◌++◌, IfErr};
+ghost use Rattle.record_format.specs.Answers.{check_answer, fetch_answer, read_answer};
+ghost use Rattle.record_format.specs.Reading.{positions_tests, ratios_tests};
+ghost use Rattle.record_format.specs.Checking.{checked, check_number};
+ghost use Rattle.record_format.specs.Fetching.{lacks_room, read_with, read_open, fetched};
+ghost use Rattle.record_parts.specs.Fields.{Judged, ratios_by, FrontFound, RoomToRead};
+ghost use Rattle.record_codec.specs.Answers.{RecordFound, Answered, Reads};
 
-use record_format::{CheckAnswer, FetchAnswer, ReadAnswer};
-use record_parts::coding::{Reading, form_tag};
+use record_format::Description;
+use record_parts::coding::Reading;
 use record_parts::front::{Front, read_front};
 use record_parts::points::read_points;
-use refusals::Refusal;
-
-// The answer of a refusal: zeros beside its number and place.
-fn refused_check(refusal: Refusal) -> CheckAnswer
-    ensures { result ≡ refused_check refusal }
-{
-    CheckAnswer {
-        number: refusal.number,
-        place: refusal.place,
-        rate: 0,
-        side: 0,
-        count: 0,
-        form: 0,
-        size: 0,
-    }
-}
+use refusals::{Cause, Refusal};
 
 // What is found past a front that is not refused. The points are put at the front of each output that has room for them; read strictly they need none.
 fn read_past(
@@ -33,9 +20,11 @@ fn read_past(
     front: Front,
     positions: &mut [u64],
     ratios: &mut [u64],
-) -> CheckAnswer
+) -> Result<Description, Refusal>
     requires { FrontFound input.now front × RoomToRead reading front.count ratios.old }
-    ensures { FoundPast (ratios_by reading) input.now positions.old ratios.old result positions.new ratios.new }
+    ensures { Judged (positions_tests input.now ++ ratios_tests (ratios_by reading) input.now)
+        (RecordFound (ratios_by reading) input.now positions.old ratios.old positions.new ratios.new)
+        result }
 {
     let count = front.count;
     let points = read_points(
@@ -46,43 +35,23 @@ fn read_past(
         front.end,
         positions,
         ratios,
-    );
-    let points_refused = points.refusal;
-    let points_number = points_refused.number;
-    if points_number != 0 {
-        return refused_check(points_refused);
-    }
-    let form = points.form;
-    CheckAnswer {
-        number: 0,
-        place: 0,
+    )?;
+    Ok(Description {
         rate: front.rate,
         side: front.side,
         count: count as u32,
-        form: form_tag(form) as u32,
-        size: points.end as u64,
-    }
+        form: points.form,
+        size: points.end,
+    })
 }
 
 // Checks the record at the front of the input, with no output: its rate, side, count, form and size, or the refusal. An expected rate of 0 expects none.
-pub fn check(expected: u32, input: &[u8]) -> CheckAnswer
-    ensures { result ≡ checked expected input.now }
+pub fn check(expected: u32, input: &[u8]) -> Result<Description, Refusal>
+    ensures answer { check_answer result ≡ checked expected input.now }
+    ensures numbered { IfErr result (λ refusal. refusal.number ≢ 0) }
 {
-    let front = read_front(expected, input);
-    let refusal = front.refusal;
-    let number = refusal.number;
-    if number != 0 {
-        return refused_check(refusal);
-    }
-    let mut no_positions: [u64; 0] = [0; 0];
-    let mut no_ratios: [u64; 0] = [0; 0];
-    read_past(
-        Reading::Strict,
-        input,
-        front,
-        &mut no_positions,
-        &mut no_ratios,
-    )
+    let front = read_front(expected, input)?;
+    read_past(Reading::Strict, input, front, &mut [], &mut [])
 }
 
 // A refusal's number is multiplied by this.
@@ -92,21 +61,10 @@ const PLACE_BASE: u32 = 65536;
 pub fn check_number(expected: u32, input: &[u8]) -> u32
     ensures { result ≡ check_number (checked expected input.now) }
 {
-    let answer = check(expected, input);
-    let number = answer.number;
-    if number == 0 {
-        return answer.size as u32;
+    match check(expected, input) {
+        Ok(found) => found.size as u32,
+        Err(refusal) => PLACE_BASE * refusal.number + refusal.place,
     }
-    PLACE_BASE * number + answer.place
-}
-
-// A refused reading: both outputs are 0 from end to end.
-fn refuse_read(refusal: Refusal, positions: &mut [u64], ratios: &mut [u64]) -> CheckAnswer
-    ensures { Answered (refusal_answer refusal positions.old ratios.old) result positions.new ratios.new }
-{
-    positions.fill(0);
-    ratios.fill(0);
-    refused_check(refusal)
 }
 
 // Whether an output has room for fewer than count numbers.
@@ -117,80 +75,73 @@ fn lacks(positions: usize, ratios: usize, count: usize) -> bool
 }
 
 // A record read into the outputs, its ratios strictly or by the open rule: front, room, points.
+fn read_into(
+    reading: Reading,
+    expected: u32,
+    input: &[u8],
+    positions: &mut [u64],
+    ratios: &mut [u64],
+) -> Result<Description, Refusal>
+    ensures { Reads (read_with (ratios_by reading) expected input.now positions.old ratios.old)
+        positions.old ratios.old result positions.new ratios.new }
+{
+    let front = read_front(expected, input)?;
+    if lacks(positions.len(), ratios.len(), front.count) {
+        return Err(Cause::NoRoomForPoints.at(front.place));
+    }
+    read_past(reading, input, front, positions, ratios)
+}
+
+// The same, with both outputs 0 from end to end on a refusal.
 fn read_record(
     reading: Reading,
     expected: u32,
     input: &[u8],
     positions: &mut [u64],
     ratios: &mut [u64],
-) -> CheckAnswer
-    ensures { Answered (read_with (ratios_by reading) expected input.now positions.old ratios.old) result positions.new ratios.new }
+) -> Result<Description, Refusal>
+    ensures answer { Answered (read_with (ratios_by reading) expected input.now positions.old ratios.old) (check_answer result) positions.new ratios.new }
+    ensures numbered { IfErr result (λ refusal. refusal.number ≢ 0) }
 {
-    let front = read_front(expected, input);
-    let front_refused = front.refusal;
-    let front_number = front_refused.number;
-    if front_number != 0 {
-        return refuse_read(front_refused, positions, ratios);
+    match read_into(reading, expected, input, positions, ratios) {
+        Ok(found) => Ok(found),
+        Err(refusal) => {
+            positions.fill(0);
+            ratios.fill(0);
+            Err(refusal)
+        }
     }
-    if lacks(positions.len(), ratios.len(), front.count) {
-        return refuse_read(
-            Refusal {
-                number: 16,
-                place: front.place as u32,
-            },
-            positions,
-            ratios,
-        );
-    }
-    let answer = read_past(reading, input, front, positions, ratios);
-    let number = answer.number;
-    if number != 0 {
-        return refuse_read(
-            Refusal {
-                number,
-                place: answer.place,
-            },
-            positions,
-            ratios,
-        );
-    }
-    answer
 }
 
 // Fetches the points of the record at the front of the input into the outputs: their count, or the refusal. The ratios' field must be the coding of its
 // ratios. Nobody need have called check.
-pub fn fetch(expected: u32, input: &[u8], positions: &mut [u64], ratios: &mut [u64]) -> FetchAnswer
-    ensures { (result ≡ (fetched expected input.now positions.old ratios.old).answer)
-        × (positions.new ≡ (fetched expected input.now positions.old ratios.old).positions)
+pub fn fetch(
+    expected: u32,
+    input: &[u8],
+    positions: &mut [u64],
+    ratios: &mut [u64],
+) -> Result<u32, Refusal>
+    ensures answer { fetch_answer result ≡ (fetched expected input.now positions.old ratios.old).answer }
+    ensures points { (positions.new ≡ (fetched expected input.now positions.old ratios.old).positions)
         × (ratios.new ≡ (fetched expected input.now positions.old ratios.old).ratios) }
+    ensures numbered { IfErr result (λ refusal. refusal.number ≢ 0) }
 {
-    let answer = read_record(Reading::Strict, expected, input, positions, ratios);
-    FetchAnswer {
-        number: answer.number,
-        place: answer.place,
-        count: answer.count,
-    }
+    let found = read_record(Reading::Strict, expected, input, positions, ratios)?;
+    Ok(found.count)
 }
 
-// Open reading of a record: the ratios' field is read by the open rule, all else as in a fetch.
+// Reads the record at the front of the input as a fetch does, but its ratios by the open rule: what is found of it, with the bytes used as its size, or
+// the refusal.
 pub fn read_open(
     expected: u32,
     input: &[u8],
     positions: &mut [u64],
     ratios: &mut [u64],
-) -> ReadAnswer
-    ensures { (result ≡ (read_open expected input.now positions.old ratios.old).answer)
-        × (positions.new ≡ (read_open expected input.now positions.old ratios.old).positions)
+) -> Result<Description, Refusal>
+    ensures answer { read_answer result ≡ (read_open expected input.now positions.old ratios.old).answer }
+    ensures points { (positions.new ≡ (read_open expected input.now positions.old ratios.old).positions)
         × (ratios.new ≡ (read_open expected input.now positions.old ratios.old).ratios) }
+    ensures numbered { IfErr result (λ refusal. refusal.number ≢ 0) }
 {
-    let answer = read_record(Reading::Open, expected, input, positions, ratios);
-    ReadAnswer {
-        number: answer.number,
-        place: answer.place,
-        rate: answer.rate,
-        side: answer.side,
-        count: answer.count,
-        form: answer.form,
-        used: answer.size,
-    }
+    read_record(Reading::Open, expected, input, positions, ratios)
 }

@@ -5,6 +5,7 @@ pub mod Reading
 pub mod Checking
 pub mod Fetching
 pub mod Moves
+pub mod Answers
 pub mod Claims
 pub mod WritingClaims
 pub mod CheckClaims

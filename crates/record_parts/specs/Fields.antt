@@ -2,32 +2,36 @@
 --   longest_field       the most bytes that a field can take
 --   farthest n          the farthest offset that n fields can end at
 --   max_place           offsets up to here are returned as places, in 32 bits
---   length_asked l      the length that a field must state, or nothing; length_good: whether a length is that one
---   PartRead ..         a field of a record, read at the offset p by these tests: their refusal, or the offset past it
---   FieldRead ..        the same, with the start of its body
---   NumberRead ..       the same of a field that holds a number, with the number
---   SideRead s f        the same of the side's field, which may be missing: then the side is 0, and the count's stands in its place
---   no_front g          a front with the refusal g, and zeros
+--   length_asked l      the length that a field must state, if one is asked for, as the tests have it
+--   length_good n l     whether a field states the length that is asked for, if one is
+--   RefusedBy ts g      g is the refusal of the first of the tests ts that applies, and its number is not 0
+--   Judged ts P r       no test of ts applies, and of what r found P holds; or r is the refusal of the first that applies
+--   PartFound s p e     past the field at the offset p stands the offset e
+--   FieldFound ..       the same, with the start of its body
+--   NumberFound ..      the same of a field that holds a number, with the number
+--   SideFound s f       the same of the side's field, which may be missing: then the side is 0, and the count's stands in its place
 --   CountFound s c q p  of the bytes s: the count c, the place q of its field, and the offset p past it
 --   FrontFound s f      the front f of the bytes s: these, rate and side
---   FrontRead e s f     the same, or its refusal
+--   FieldRead .. FrontRead  these, judged by their tests
 --   tag_of, coded_by    of a coding: its field's tag, and the body of numbers
 --   Codable c ns        the numbers ns can be coded so
 --   ratios_by r         the ratios of a body, strictly or by the open rule
 --   FoundInto ..        whether there is a list of c numbers, and where the output has room for them they stand at its front
 --   RoomToRead ..       the output has the room that the reading needs: strictly none, by the open rule for the count c
 --   RatiosDue ..        the ratios' field stands at the offset p, and the count is c
---   CodedRead ..        a field of coded numbers, which the reading k takes: its refusal, or the offset past it, and where the output has room for the
---                       count c its numbers stand at its front
---   PointsRead ..       positions and ratios: their refusal, or where they stand, and each at the front of its output, where that has room
-use Rattle.std.specs.Prelude.{◌≡◌, Bool, true, false, not, List, ◌++◌, ℕ, ◌+◌, ◌*◌, ◌^◌, ◌≤◌, ◌<◌, eqb, length}
+--   CodedFound ..       a field of coded numbers, which the reading k takes: the offset past it, and where the output has room for the count c its
+--                       numbers stand at its front; CodedRead: that, or its refusal
+--   PointsFound ..      positions and ratios: where they stand, and each at the front of its output, where that has room; PointsRead: that, or their
+--                       refusal
+use Rattle.std.specs.Prelude.{◌≡◌, Bool, true, false, not, List, ◌++◌, ℕ, ◌+◌, ◌*◌, ◌^◌, ◌≤◌, ◌<◌, eqb, length, Result, Ok, Err}
+use Rattle.std.specs.Prelude.{Option as Asked, Some, None}
 use Rattle.std.proofs.Math.Option.{Option, none, some}
 use Rattle.lists.specs.Optional.{missing, list_of}
 use Rattle.bits.specs.Digits.{number_of}
 use Rattle.limits.specs.Points.{max_points}
 use Rattle.outputs.specs.Outputs.{over}
 use Rattle.refusals.specs.declared.Refusal.{Refusal}
-use Rattle.refusals.specs.Tests.{Test, first_of}
+use Rattle.refusals.specs.Tests.{Test, first_of, no_refusal}
 use Rattle.position_format.specs.Positions.{coded_positions}
 use Rattle.position_codec.specs.Codes.{CodablePositions}
 use Rattle.position_format.specs.Tables.{table_of}
@@ -37,12 +41,9 @@ use Rattle.record_format.specs.Runs.{positions_tag, ratios_tag, side_size}
 use Rattle.record_format.specs.Reading.{side_at, count_at, positions_at, ratios_at, end_at, rate_in, side_in, count_in, form_in, side_tests, front_tests, positions_tests, ratios_tests}
 use Rattle.record_format.specs.Checking.{run_by}
 use Rattle.record_parts.specs.declared.field.FieldBody.{FieldBody}
-use Rattle.record_parts.specs.declared.field.Length.{Length}
-use Rattle.record_parts.specs.declared.field.Length.TheVariants.{Any, Exactly}
 use Rattle.record_parts.specs.declared.front.Number.{Number}
 use Rattle.record_parts.specs.declared.front.Front.{Front}
 use Rattle.record_parts.specs.declared.coding.Coding.{Coding}
-use Rattle.record_parts.specs.declared.coding.Part.{Part}
 use Rattle.record_parts.specs.declared.coding.Reading.{Reading}
 use Rattle.record_parts.specs.declared.coding.Reading.TheVariants.{Strict, Open}
 use Rattle.record_parts.specs.declared.points.Points.{Points}
@@ -62,46 +63,50 @@ max_place = 2 ^ 31
 
 -- ---- reading a field
 
--- any length, or one
-abbrev pub length_asked : Length → Option ℕ
-length_asked Any = none
-length_asked (Exactly n) = some n
+-- as the tests have it
+abbrev pub length_asked : Asked ℕ → Option ℕ
+length_asked None = none
+length_asked (Some n) = some n
 
 -- whether a stated length is the one that is asked for, if one is
 abbrev pub length_good : Option ℕ → ℕ → Bool
 length_good none n = true
 length_good (some m) n = eqb n m
 
--- a refusal, or where the next field stands
-pub record PartRead (tests : List Test) (s : List ℕ) (p : ℕ) (f : Refusal) (end : ℕ) : Type 0 where
-  pub refuses : f ≡ first_of tests
-  pub next : f.number ≡ 0 → end ≡ next_at s p
-  pub inside : f.number ≡ 0 → next_at s p ≤ length s
-  pub near : f.number ≡ 0 → next_at s p ≤ p + longest_field
+-- a refusal, and the first test's
+pub record RefusedBy (tests : List Test) (g : Refusal) : Type 0 where
+  pub first : g ≡ first_of tests
+  pub numbered : g.number ≡ 0 → ⊥
+
+-- nothing is refused, and P holds of what was found; or it is refused
+abbrev pub Judged : {T : Type 0} → List Test → (T → Type 0) → Result T Refusal → Type 0
+Judged tests P (Ok x) = (first_of tests ≡ no_refusal) × P x
+Judged tests P (Err g) = RefusedBy tests g
+
+-- where the next field stands
+pub record PartFound (s : List ℕ) (p end : ℕ) : Type 0 where
+  pub next : end ≡ next_at s p
+  pub inside : next_at s p ≤ length s
+  pub near : next_at s p ≤ p + longest_field
 
 -- one field, with the start of its body
-pub record FieldRead (tests : List Test) (s : List ℕ) (p : ℕ) (f : FieldBody) : Type 0 where
-  pub part : PartRead tests s p f.refusal f.to
-  pub from : f.refusal.number ≡ 0 → f.from ≡ p + head_size
+pub record FieldFound (s : List ℕ) (p : ℕ) (f : FieldBody) : Type 0 where
+  pub part : PartFound s p f.to
+  pub from : f.from ≡ p + head_size
 
 -- with the number that it holds in n bytes
-pub record NumberRead (n : ℕ) (tests : List Test) (s : List ℕ) (p : ℕ) (f : Number) : Type 0 where
-  pub part : PartRead tests s p f.refusal f.end
-  pub value : f.refusal.number ≡ 0 → f.value ≡ number_of 256 (body_at s p)
+pub record NumberFound (n : ℕ) (s : List ℕ) (p : ℕ) (f : Number) : Type 0 where
+  pub part : PartFound s p f.end
+  pub value : f.value ≡ number_of 256 (body_at s p)
   pub small : f.value < 256 ^ n
 
 -- the side, and where the count's field stands
-pub record SideRead (s : List ℕ) (f : Number) : Type 0 where
-  pub refuses : f.refusal ≡ first_of (side_tests s)
-  pub value : f.refusal.number ≡ 0 → f.value ≡ side_in s
+pub record SideFound (s : List ℕ) (f : Number) : Type 0 where
+  pub value : f.value ≡ side_in s
   pub small : f.value < 256 ^ side_size
-  pub next : f.refusal.number ≡ 0 → f.end ≡ count_at s
-  pub inside : f.refusal.number ≡ 0 → count_at s ≤ length s
-  pub near : f.refusal.number ≡ 0 → count_at s ≤ side_at s + longest_field
-
--- of a refused front nothing is left but the refusal
-abbrev pub no_front : Refusal → Front
-no_front g = record { refusal = g; rate = 0; side = 0; count = 0; place = 0; end = 0 }
+  pub next : f.end ≡ count_at s
+  pub inside : count_at s ≤ length s
+  pub near : count_at s ≤ side_at s + longest_field
 
 -- the count, where its field stands, and where the positions' does
 pub record CountFound (s : List ℕ) (c q p : ℕ) : Type 0 where
@@ -118,10 +123,18 @@ pub record FrontFound (s : List ℕ) (f : Front) : Type 0 where
   pub side : f.side ≡ side_in s
   pub count : CountFound s f.count f.place f.end
 
--- or their refusal
-pub record FrontRead (e : ℕ) (s : List ℕ) (f : Front) : Type 0 where
-  pub refuses : f.refusal ≡ first_of (front_tests e s)
-  pub found : f.refusal.number ≡ 0 → FrontFound s f
+-- each of them, or its refusal
+abbrev pub FieldRead : List Test → List ℕ → ℕ → Result FieldBody Refusal → Type 0
+FieldRead tests s p = Judged tests (FieldFound s p)
+
+abbrev pub NumberRead : ℕ → List Test → List ℕ → ℕ → Result Number Refusal → Type 0
+NumberRead n tests s p = Judged tests (NumberFound n s p)
+
+abbrev pub SideRead : List ℕ → Result Number Refusal → Type 0
+SideRead s = Judged (side_tests s) (SideFound s)
+
+abbrev pub FrontRead : ℕ → List ℕ → Result Front Refusal → Type 0
+FrontRead e s = Judged (front_tests e s) (FrontFound s)
 
 -- ---- fields of coded numbers
 
@@ -162,19 +175,26 @@ pub record RatiosDue (s : List ℕ) (p c : ℕ) : Type 0 where
   pub counted : c ≡ count_in s
   pub few : c ≤ max_points
 
--- what reading it leaves in the output o, which is now q
-pub record CodedRead (tests : List Test) (k : List ℕ → Option (List ℕ)) (c : ℕ) (s : List ℕ) (p : ℕ) (f : Part) (o q : List ℕ) : Type 0 where
-  pub part : PartRead tests s p f.refusal f.end
-  pub filled : f.refusal.number ≡ 0 → c ≤ length o → q ≡ over (list_of (k (body_at s p))) o
+-- numbers that the reading k takes from a field's body, and what they leave in the output o, which is now q
+pub record CodedFound (k : List ℕ → Option (List ℕ)) (c : ℕ) (s : List ℕ) (p : ℕ) (o q : List ℕ) (end : ℕ) : Type 0 where
+  pub part : PartFound s p end
+  pub filled : c ≤ length o → q ≡ over (list_of (k (body_at s p))) o
 
--- positions and ratios past a front, the ratios by the reading k: their refusal, or where they stand, and each at the front of its output, ts and vs,
--- which are now ps and qs
-pub record PointsRead (k : ℕ → List ℕ → Option (List ℕ)) (s ts vs : List ℕ) (f : Points) (ps qs : List ℕ) : Type 0 where
-  pub refuses : f.refusal ≡ first_of (positions_tests s ++ ratios_tests k s)
-  pub form : f.refusal.number ≡ 0 → f.form ≡ form_in s
-  pub from : f.refusal.number ≡ 0 → f.from ≡ ratios_at s
-  pub next : f.refusal.number ≡ 0 → f.end ≡ end_at s
-  pub inside : f.refusal.number ≡ 0 → end_at s ≤ length s
-  pub near : f.refusal.number ≡ 0 → end_at s ≤ farthest 5
-  pub positions : f.refusal.number ≡ 0 → count_in s ≤ length ts → ps ≡ over (run_by k s).positions ts
-  pub ratios : f.refusal.number ≡ 0 → count_in s ≤ length vs → qs ≡ over (run_by k s).ratios vs
+-- or their refusal
+abbrev pub CodedRead : List Test → (List ℕ → Option (List ℕ)) → ℕ → List ℕ → ℕ → Result ℕ Refusal → List ℕ → List ℕ → Type 0
+CodedRead tests k c s p r o q = Judged tests (CodedFound k c s p o q) r
+
+-- positions and ratios past a front, the ratios by the reading k: where they stand, and each at the front of its output, ts and vs, which are now ps
+-- and qs
+pub record PointsFound (k : ℕ → List ℕ → Option (List ℕ)) (s ts vs ps qs : List ℕ) (f : Points) : Type 0 where
+  pub form : f.form ≡ form_in s
+  pub from : f.from ≡ ratios_at s
+  pub next : f.end ≡ end_at s
+  pub inside : end_at s ≤ length s
+  pub near : end_at s ≤ farthest 5
+  pub positions : count_in s ≤ length ts → ps ≡ over (run_by k s).positions ts
+  pub ratios : count_in s ≤ length vs → qs ≡ over (run_by k s).ratios vs
+
+-- or their refusal
+abbrev pub PointsRead : (ℕ → List ℕ → Option (List ℕ)) → List ℕ → List ℕ → List ℕ → Result Points Refusal → List ℕ → List ℕ → Type 0
+PointsRead k s ts vs r ps qs = Judged (positions_tests s ++ ratios_tests k s) (PointsFound k s ts vs ps qs) r

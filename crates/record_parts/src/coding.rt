@@ -11,11 +11,11 @@ ghost use Rattle.record_format.specs.Runs.{positions_tag, form_of};
 ghost use Rattle.record_format.specs.Reading.{form_in, positions_tests, ratios_tests};
 ghost use Rattle.record_parts.specs.Fields.{CountFound, ratios_by, tag_of, coded_by, Codable, FoundInto, RoomToRead, RatiosDue, CodedRead};
 
-use super::field::{Length, has_tag, is_head_whole, read_field};
+use super::field::{has_tag, is_head_whole, read_field};
 use limits::{MAX_POINTS, MAX_WIDE_POINTS};
 use position_format::Form;
-use record_format::{OLD_TAG, RATIOS_TAG, WIDE_TAG};
-use refusals::Refusal;
+use record_format::{OLD_TAG, RATIOS_TAG, WIDE_TAG, form_tag};
+use refusals::{Cause, Refusal};
 
 // How the numbers of a body are coded.
 #[derive(Clone, Copy)]
@@ -29,23 +29,6 @@ pub enum Coding {
 pub enum Reading {
     Strict,
     Open,
-}
-
-// A part of a record: its refusal, or the offset past it.
-#[derive(Clone, Copy)]
-pub struct Part {
-    pub refusal: Refusal,
-    pub end: usize,
-}
-
-// The tag of positions in a form.
-pub fn form_tag(form: Form) -> u8
-    ensures { result ≡ positions_tag form }
-{
-    match form {
-        Form::Old => OLD_TAG,
-        Form::Wide => WIDE_TAG,
-    }
 }
 
 // The largest number of points of a run in a form.
@@ -149,7 +132,8 @@ fn has_many(form: Form, input: &[u8], at: usize, count: usize) -> bool
 }
 
 // The positions' field, in the form that its tag names, at its offset: its tests, and its positions at the front of the output, if it has room for
-// them. The count's field stands at `place`; a run in the form may have fewer points than the count: 15 there, before the body is looked at.
+// them. It answers the offset past the field. The count's field stands at `place`; a run in the form may have fewer points than the count: 15 there,
+// before the body is looked at.
 pub fn read_positions(
     form: Form,
     input: &[u8],
@@ -157,68 +141,35 @@ pub fn read_positions(
     place: usize,
     at: usize,
     out: &mut [u64],
-) -> Part
+) -> Result<usize, Refusal>
     requires { (form ≡ form_in input.now) × CountFound input.now count place at }
     ensures { CodedRead (positions_tests input.now) (read_positions (table_of form) count) count input.now at result out.old out.new }
 {
     if has_many(form, input, at, count) {
-        return Part {
-            refusal: Refusal {
-                number: 15,
-                place: place as u32,
-            },
-            end: 0,
-        };
+        return Err(Cause::BadCount.at(place));
     }
-    let tags = [OLD_TAG, WIDE_TAG];
-    let field = read_field(input, at, &tags, Length::Any);
-    let refusal = field.refusal;
-    let number = refusal.number;
-    if number != 0 {
-        return Part { refusal, end: 0 };
+    let field = read_field(input, at, &[OLD_TAG, WIDE_TAG], None)?;
+    if !get_positions(form, &input[field.from..field.to], count, out) {
+        return Err(Cause::BadPositions.at(at));
     }
-    let from = field.from;
-    let to = field.to;
-    if !get_positions(form, &input[from..to], count, out) {
-        return Part {
-            refusal: Refusal {
-                number: 17,
-                place: at as u32,
-            },
-            end: 0,
-        };
-    }
-    Part { refusal, end: to }
+    Ok(field.to)
 }
 
-// The ratios' field, strictly or by the open rule, at its offset: its tests, and its ratios at the front of the output, if it has room for them.
+// The ratios' field, strictly or by the open rule, at its offset: its tests, and its ratios at the front of the output, if it has room for them. It
+// answers the offset past the field.
 pub(crate) fn read_ratios(
     reading: Reading,
     input: &[u8],
     count: usize,
     at: usize,
     out: &mut [u64],
-) -> Part
+) -> Result<usize, Refusal>
     requires { RatiosDue input.now at count × RoomToRead reading count out.old }
     ensures { CodedRead (ratios_tests (ratios_by reading) input.now) (ratios_by reading count) count input.now at result out.old out.new }
 {
-    let tags = [RATIOS_TAG];
-    let field = read_field(input, at, &tags, Length::Any);
-    let refusal = field.refusal;
-    let number = refusal.number;
-    if number != 0 {
-        return Part { refusal, end: 0 };
+    let field = read_field(input, at, &[RATIOS_TAG], None)?;
+    if !get_ratios(reading, &input[field.from..field.to], count, out) {
+        return Err(Cause::BadRatios.at(at));
     }
-    let from = field.from;
-    let to = field.to;
-    if !get_ratios(reading, &input[from..to], count, out) {
-        return Part {
-            refusal: Refusal {
-                number: 18,
-                place: at as u32,
-            },
-            end: 0,
-        };
-    }
-    Part { refusal, end: to }
+    Ok(field.to)
 }

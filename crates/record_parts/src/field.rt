@@ -1,45 +1,22 @@
 // A field of a record: where its body stands, or the refusal of one that is not whole or not of its kind.
 // Document 01, "The record": a tag byte, a two-byte length, then the body.
 ghost use Rattle.std.specs.Prelude.{◌≡◌, ◌+◌, ◌≤◌, ◌<◌, leb, eqb, length};
-ghost use Rattle.lists.specs.Lists.{member};
 ghost use Rattle.record_format.specs.Fields.{head_size, tag_at, field_tests};
 ghost use Rattle.record_parts.specs.Fields.{max_place, length_asked, length_good, FieldRead};
 
 use record_format::HEAD_SIZE;
-use refusals::Refusal;
+use refusals::{Cause, Refusal};
 
 // The head of a field: its tag, and then the length of its body.
 pub(crate) const TAG_SIZE: usize = 1;
 
 pub(crate) const LENGTH_SIZE: usize = HEAD_SIZE - TAG_SIZE;
 
-// The length that a field must state.
-#[derive(Clone, Copy)]
-pub enum Length {
-    Any,
-    Exactly(usize),
-}
-
-// A field: its refusal, or where its body starts and ends.
+// A field: where its body starts and ends.
 #[derive(Clone, Copy)]
 pub struct FieldBody {
-    pub refusal: Refusal,
     pub from: usize,
     pub to: usize,
-}
-
-// Whether a tag is one of some.
-fn is_among(tags: &[u8], tag: u8) -> bool
-    ensures { result ≡ member tag tags.now }
-{
-    let mut i = 0;
-    while i < tags.len() {
-        if tag == tags[i] {
-            return true;
-        }
-        i += 1;
-    }
-    false
 }
 
 // Whether the head of the field at an offset is whole.
@@ -58,56 +35,39 @@ pub(crate) fn has_tag(input: &[u8], at: usize, tag: u8) -> bool
     at < input.len() && input[at] == tag
 }
 
-// Whether a stated length is the one that is asked for.
-fn is_length(asked: Length, n: usize) -> bool
+// Whether a stated length is the one that is asked for, if one is.
+fn is_length(asked: Option<usize>, n: usize) -> bool
     ensures { result ≡ length_good (length_asked asked) n }
 {
     match asked {
-        Length::Any => true,
-        Length::Exactly(m) => n == m,
-    }
-}
-
-// No field: the refusal with this number, at its offset.
-fn no_field(number: u32, at: usize) -> FieldBody
-    requires { at ≤ max_place }
-    ensures { result ≡ record { refusal = record { number = number; place = at }; from = 0; to = 0 } }
-{
-    FieldBody {
-        refusal: Refusal {
-            number,
-            place: at as u32,
-        },
-        from: 0,
-        to: 0,
+        Some(m) => n == m,
+        None => true,
     }
 }
 
 // The field at an offset: whole head, a tag of those that are good, the length that is asked for, whole body.
-pub(crate) fn read_field(input: &[u8], at: usize, tags: &[u8], asked: Length) -> FieldBody
+pub(crate) fn read_field(
+    input: &[u8],
+    at: usize,
+    tags: &[u8],
+    asked: Option<usize>,
+) -> Result<FieldBody, Refusal>
     requires { (at ≤ length input.now) × (at ≤ max_place) }
     ensures { FieldRead (field_tests input.now tags.now (length_asked asked) at) input.now at result }
 {
     if input.len() - at < HEAD_SIZE {
-        return no_field(10, at);
+        return Err(Cause::CutShort.at(at));
     }
-    if !is_among(tags, input[at]) {
-        return no_field(11, at);
+    if !tags.contains(&input[at]) {
+        return Err(Cause::OtherTag.at(at));
     }
     let n = bits::get_bytes(input, at + TAG_SIZE, LENGTH_SIZE) as usize;
     if !is_length(asked, n) {
-        return no_field(12, at);
+        return Err(Cause::OtherLength.at(at));
     }
     let from = at + HEAD_SIZE;
     if input.len() - from < n {
-        return no_field(10, at);
+        return Err(Cause::CutShort.at(at));
     }
-    FieldBody {
-        refusal: Refusal {
-            number: 0,
-            place: 0,
-        },
-        from,
-        to: from + n,
-    }
+    Ok(FieldBody { from, to: from + n })
 }

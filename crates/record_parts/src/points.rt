@@ -1,30 +1,16 @@
 // The points of a record: the fields of the positions and of the ratios, past its front.
-ghost use Rattle.std.specs.Prelude.{◌≡◌};
 ghost use Rattle.record_parts.specs.Fields.{ratios_by, CountFound, RoomToRead, PointsRead};
 
 use super::coding::{Reading, form_at, read_positions, read_ratios};
 use position_format::Form;
 use refusals::Refusal;
 
-// Positions and ratios: their refusal, or the form of the positions, the offset of the ratios' field, and the offset past it.
+// Positions and ratios: the form of the positions, the offset of the ratios' field, and the offset past it.
 #[derive(Clone, Copy)]
 pub struct Points {
-    pub refusal: Refusal,
     pub form: Form,
     pub from: usize,
     pub end: usize,
-}
-
-// No points: a refusal of the positions or of the ratios.
-fn no_points(refusal: Refusal) -> Points
-    ensures { result.refusal ≡ refusal }
-{
-    Points {
-        refusal,
-        form: Form::Old,
-        from: 0,
-        end: 0,
-    }
 }
 
 // The points past a count, whose field stands at `place` and ends at `at`, the ratios strictly or by the open rule. They are put at the front of each
@@ -38,27 +24,12 @@ pub fn read_points(
     at: usize,
     positions: &mut [u64],
     ratios: &mut [u64],
-) -> Points
+) -> Result<Points, Refusal>
     requires { CountFound input.now count place at × RoomToRead reading count ratios.old }
     ensures { PointsRead (ratios_by reading) input.now positions.old ratios.old result positions.new ratios.new }
 {
     let form = form_at(input, at);
-    let points = read_positions(form, input, count, place, at, positions);
-    let positions_refused = points.refusal;
-    let positions_number = positions_refused.number;
-    if positions_number != 0 {
-        return no_points(positions_refused);
-    }
-    let values = read_ratios(reading, input, count, points.end, ratios);
-    let ratios_refused = values.refusal;
-    let ratios_number = ratios_refused.number;
-    if ratios_number != 0 {
-        return no_points(ratios_refused);
-    }
-    Points {
-        refusal: ratios_refused,
-        form,
-        from: points.end,
-        end: values.end,
-    }
+    let from = read_positions(form, input, count, place, at, positions)?;
+    let end = read_ratios(reading, input, count, from, ratios)?;
+    Ok(Points { form, from, end })
 }

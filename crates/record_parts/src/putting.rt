@@ -4,7 +4,7 @@ ghost use Rattle.std.specs.Prelude.{false, [], ◌∷◌, ◌≡◌, ◌≤◌, 
 ghost use Rattle.lists.specs.Optional.{missing, list_of};
 ghost use Rattle.bits.specs.Digits.{bytes_of};
 ghost use Rattle.limits.specs.Points.{max_points};
-ghost use Rattle.outputs.specs.Outputs.{over, Placed, Left, Next};
+ghost use Rattle.outputs.specs.Outputs.{over, Placed};
 ghost use Rattle.position_format.specs.Positions.{read_positions};
 ghost use Rattle.position_format.specs.Tables.{table_of};
 ghost use Rattle.position_codec.specs.Codes.{CodablePositions};
@@ -13,12 +13,14 @@ ghost use Rattle.record_format.specs.Runs.{side_fields, positions_field, front_f
 ghost use Rattle.record_parts.specs.Fields.{tag_of, coded_by, Codable};
 ghost use Rattle.record_parts.specs.Leads.{lead_fields, RecodedAs, RecodedNowhere};
 
-use super::coding::{Coding, form_tag, put_body, tag_of};
+use super::coding::{Coding, put_body, tag_of};
 use super::field::{LENGTH_SIZE, TAG_SIZE};
 use outputs::both_wrote;
 use position_codec::Recoded;
 use position_format::Form;
-use record_format::{COUNT_SIZE, COUNT_TAG, HEAD_SIZE, RATE_SIZE, RATE_TAG, SIDE_SIZE, SIDE_TAG};
+use record_format::{
+    COUNT_SIZE, COUNT_TAG, HEAD_SIZE, RATE_SIZE, RATE_TAG, SIDE_SIZE, SIDE_TAG, form_tag,
+};
 
 // The tag and the length of a field, at the front of the output.
 fn put_head(out: &mut [u8], tag: u8, n: usize)
@@ -51,56 +53,46 @@ pub fn put_coded(coding: Coding, numbers: &[u64], out: &mut [u8]) -> Option<usiz
     if out.len() < HEAD_SIZE {
         return None;
     }
-    let Some(n) = put_body(coding, numbers, &mut out[HEAD_SIZE..]) else {
-        return None;
-    };
+    let n = put_body(coding, numbers, &mut out[HEAD_SIZE..])?;
     put_head(out, tag_of(coding), n);
     Some(n + HEAD_SIZE)
 }
 
-// A field that holds a number, past the bytes of a writer before.
-fn put_number_next(wrote: Option<usize>, out: &mut [u8], tag: u8, n: usize, x: u64) -> Option<usize>
-    requires { Left wrote out.old × (n ≤ 8) }
-    ensures { Next (laid (field_of tag (bytes_of n x) ∷ [])) wrote result out.old out.new }
-{
-    let Some(at) = wrote else {
-        return None;
-    };
-    both_wrote(at, put_number(&mut out[at..], tag, n, x))
-}
-
-// The field of a side: nothing for side 0.
-fn put_side_next(wrote: Option<usize>, side: u32, out: &mut [u8]) -> Option<usize>
-    requires { Left wrote out.old }
-    ensures { Next (laid (side_fields side)) wrote result out.old out.new }
+// The field of a side, at the front of the output: nothing for side 0.
+fn put_side(side: u32, out: &mut [u8]) -> Option<usize>
+    ensures { Placed (laid (side_fields side)) result out.old out.new }
 {
     if side == 0 {
-        return wrote;
+        return Some(0);
     }
-    put_number_next(wrote, out, SIDE_TAG, SIDE_SIZE, side as u64)
+    put_number(out, SIDE_TAG, SIDE_SIZE, side as u64)
 }
 
 // The fields of the rate, of the side and of the count, at the front of the output.
 fn put_front(rate: u32, side: u32, count: usize, out: &mut [u8]) -> Option<usize>
     ensures { Placed (laid (front_fields rate side count)) result out.old out.new }
 {
-    let rate_end = put_number(out, RATE_TAG, RATE_SIZE, rate as u64);
-    let side_end = put_side_next(rate_end, side, out);
-    put_number_next(side_end, out, COUNT_TAG, COUNT_SIZE, count as u64)
+    let rate_end = put_number(out, RATE_TAG, RATE_SIZE, rate as u64)?;
+    let side_size = put_side(side, &mut out[rate_end..])?;
+    let side_end = rate_end + side_size;
+    let count_size = put_number(&mut out[side_end..], COUNT_TAG, COUNT_SIZE, count as u64)?;
+    Some(side_end + count_size)
 }
 
 // The fields of the rate, of the side, of the count and of the positions in a form, at the front of the output: all but the ratios'.
-pub fn put_lead(rate: u32, side: u32, form: Form, positions: &[u64], out: &mut [u8]) -> Option<usize>
+pub fn put_lead(
+    rate: u32,
+    side: u32,
+    form: Form,
+    positions: &[u64],
+    out: &mut [u8],
+) -> Option<usize>
     requires { CodablePositions form positions.now × (length positions.now ≤ max_points) }
     ensures { Placed (laid (lead_fields rate side form positions.now)) result out.old out.new }
 {
-    let Some(front_end) = put_front(rate, side, positions.len(), out) else {
-        return None;
-    };
-    both_wrote(
-        front_end,
-        put_coded(Coding::Positions(form), positions, &mut out[front_end..]),
-    )
+    let front_end = put_front(rate, side, positions.len(), out)?;
+    let field_size = put_coded(Coding::Positions(form), positions, &mut out[front_end..])?;
+    Some(front_end + field_size)
 }
 
 // Positions that are to be recoded where there is no room for what they are a part of: the first whose step the table does not hold is told all the same.

@@ -7,7 +7,8 @@ use native.Mathlib.Numerals.{add-one}
 use native.Mathlib.Omega.{arith}
 use lib.Arith.{digits_lt as join-lt, digits_div}
 use lib.ListN.{length, take, drop, get_or, length-drop}
-use lib.Seq.{take-suc, take-add, length-take-le, get_or-drop}
+use lib.Seq.{take-suc, take-add, length-take-le}
+use Rattle.std.proofs.lemmas.List.{get_or-take}
 use Rattle.bits.specs.Digits.{number_of}
 use Rattle.lists.specs.Below.{Below}
 use Rattle.lists.proofs.Below.{below_take, below_drop}
@@ -17,11 +18,12 @@ use Rattle.bits.proofs.Digits.{pow_bytes, number_append, number_snoc, number_lt}
 pub read_lt : (i : ℕ) {y d : ℕ} → y < 256 ^ i → d < 256 → y * 256 + d < 256 ^ (i + 1)
 read_lt i y< d< = rw (add-one, pow-suc) (join-lt y< d<)
 
-pub read_step : (s : List ℕ) (at i y d : ℕ) → at + i < length s → d ≡ get_or s (at + i) 0
+pub read_step : (s : List ℕ) (at m i y d : ℕ) → i < m → at + m ≤ length s → d ≡ get_or (take (at + m - at) (drop at s)) i 0
     → y ≡ number_of 256 (take i (drop at s)) → y * 256 + d ≡ number_of 256 (take (i + 1) (drop at s))
-read_step s at i y d room ed ey =
+read_step s at m i y d i< room ed ey =
     let h : i < length (drop at s) = simp length-drop (omega arith) in
-    ap₂ (λ (u v : ℕ). u * 256 + v) ey (ed ∙ sym (get_or-drop at s i 0))
+    let w : i < at + m - at = omega arith in
+    ap₂ (λ (u v : ℕ). u * 256 + v) ey (ed ∙ get_or-take (at + m - at) (drop at s) i 0 w)
     ∙ sym (number_snoc 256 (take i (drop at s)) (get_or (drop at s) i 0))
     ∙ ap (number_of 256) (sym (take-suc (drop at s) i 0 h) ∙ ap (λ (m : ℕ). take m (drop at s)) (sym (add-one i)))
 

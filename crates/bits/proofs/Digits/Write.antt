@@ -1,14 +1,13 @@
 -- A number's bytes written into a list from the last to the first: what stands there before, after a turn, and at the end.
-use mathlib.Core.Path.{◌≡◌, sym, ap, ◌∙◌}
+use mathlib.Core.Path.{◌≡◌}
 use mathlib.Core.List.{List, ◌++◌, append_assoc}
 use Prim.Native.Nat.{ℕ, zero, suc, ◌+◌, ◌-◌, ◌/◌, ◌%◌, ◌^◌, ◌≤◌, ◌<◌}
-use native.Mathlib.Nat.{add-suc, add-zero, sub-zero, sub_self, pow-suc, div-one, div-div-eq-div-mul}
+use native.Mathlib.Nat.{add-suc, sub_self, pow-suc, div-one, div-div-eq-div-mul}
 use native.Mathlib.Numerals.{sub-one}
 use native.Mathlib.Omega.{arith}
-use lib.ListN.{length, take, drop, set, length-set, take-append-drop}
+use lib.ListN.{length, take, drop, set, take-append-drop}
 use lib.Seq.{take-suc, length-take-le, set_at}
 use Rattle.bits.specs.Digits.{digits_of, bytes_of}
-use Rattle.outputs.specs.Outputs.{over_at}
 
 -- the list o after the last n - i of the n bytes of x at `at` are written
 abbrev pub written : List ℕ → ℕ → ℕ → ℕ → ℕ → List ℕ
@@ -37,13 +36,7 @@ unfolding digits_of
 write_start o at n x = rw sub_self (take-append-drop (at + n) o)
 
 -- what a turn keeps
-pub write_again : (o p : List ℕ) (at n x i y : ℕ) → 0 < i → i ≤ n → at + n ≤ length o → length p ≡ length o → y ≡ x / 256 ^ (n - i) → p ≡ written o at n x i
-    → (i - 1 ≤ n) × (length (set p (at + (i - 1)) (y % 256)) ≡ length o) × (y / 256 ≡ x / 256 ^ (n - (i - 1))) × (set p (at + (i - 1)) (y % 256) ≡ written o at n x (i - 1))
-write_again o p at n x zero y i⁺ i≤ room len ey ep = absurd (omega arith)
-write_again o p at n x (suc i) y i⁺ i≤ room len ey ep =
-    rw (sub-one, ey, ep)
-    (omega arith, simp length-set (ap length (sym ep) ∙ len), shift-step o at n x i i≤ room, write_step o at n x i i≤ room)
-
--- after the last turn
-pub write_done : (o : List ℕ) (at n x : ℕ) → written o at n x 0 ≡ over_at o at n (bytes_of n x)
-write_done o at n x = rw (add-zero, sub-zero)
+pub write_again : (o p : List ℕ) (at n x i y : ℕ) → 0 < i → i ≤ n → at + n ≤ length o → y ≡ x / 256 ^ (n - i) → p ≡ written o at n x i
+    → (y / 256 ≡ x / 256 ^ (n - (i - 1))) × (set p (at + (i - 1)) (y % 256) ≡ written o at n x (i - 1))
+write_again o p at n x zero y i⁺ i≤ room ey ep = absurd (omega arith)
+write_again o p at n x (suc i) y i⁺ i≤ room ey ep = rw (sub-one, ey, ep) (shift-step o at n x i i≤ room, write_step o at n x i i≤ room)

@@ -16,4 +16,4 @@ returns c =
     let a = c.args in
     let l = drop a.at a.s.now in
     first_bytes l a.n c.get_bytes.result c.requires.0 (omega (arith, c.requires.1, length-drop a.at a.s.now))
-    (below_drop 256 a.at a.s.now (below_of 256 a.s.now (λ i. (c.shared_slice_known-1.given i).fits))) c.get_bytes.ensures.0
+    (below_drop 256 a.at a.s.now (below_of 256 a.s.now (λ i. (c.type_inv.s i).fits))) c.get_bytes.ensures.0

@@ -1,8 +1,9 @@
 -- Laws of a step found at the front of bits, for any table that passes the test of a table and whose prefixes are short: by the row that the
 -- first bits lead to.
+use Rattle.std.specs.Prelude.{Option, Some, None}
 use mathlib.Core.Bool.{true, false}
 use mathlib.Core.List.{List}
-use mathlib.Core.Path.{◌≡◌, refl, sym, ap, ap₂, ◌∙◌}
+use mathlib.Core.Path.{◌≡◌, sym, ap, ap₂, ◌∙◌}
 use Prim.Native.Nat.{ℕ, ◌+◌, ◌-◌, ◌/◌, ◌%◌, ◌^◌, ◌≤◌, ◌<◌}
 use native.Mathlib.Omega.{arith}
 use lib.IntN.{ℤ, pos}
@@ -15,20 +16,21 @@ use Rattle.bits.specs.Digits.{bits_of, number_of}
 use Rattle.bits.specs.Packing.{bits, ahead}
 use Rattle.bits.proofs.Packing.Ahead.{take-ahead, ahead-first, ahead_field}
 use Rattle.position_format.specs.declared.Form.{Form}
+use Rattle.position_format.specs.declared.Form.TheVariants.{Wide}
 use Rattle.position_format.specs.Rows.{Row, wide_rows, holds, in_table, reading, code, code_length, no_row, row_of}
 use Rattle.position_format.specs.Tables.{table_of}
 use Rattle.position_format.proofs.Rows.{good_table, good_full, reading-held}
-use Rattle.position_format.proofs.Rows.Ranges.{widening, row_before, row_first}
+use Rattle.position_format.proofs.Rows.Ranges.{row_before, row_first}
 use Rattle.position_format.proofs.Rows.Codes.{in_table-row, row-in_table, length-code, lengths, code_within}
-use Rattle.position_format.proofs.Tables.{short_prefixes, prefix_short}
-use Rattle.position_format.proofs.Tables.WideRows.{same_range, form_row, form_row-first}
+use Rattle.position_format.proofs.Tables.{form_sound, short_prefixes, prefix_short}
+use Rattle.position_format.proofs.Tables.WideRows.{wide_count, same_range, form_row, form_row-first}
 use Rattle.position_format.proofs.Rows.Decoding.{code-begins, prefix_one, front-step, front_table, front-code}
-use Rattle.position_codec.specs.declared.table.GotStep.{GotStep}
-use Rattle.position_codec.specs.declared.table.GotStep.TheVariants.{Step, Nothing}
+use Rattle.position_codec.specs.declared.row.TableRow.{TableRow}
+use Rattle.position_codec.specs.Codes.{row_at}
 use Rattle.position_codec.specs.Found.{Leads, ReadBy, StepFound}
 
 -- no bits are no code
-pub found_none : (lo hi : ℕ) (rs : List Row) → lengths lo hi rs ≡ true → 0 < lo → (ds : List ℕ) → length ds ≡ 0 → StepFound rs ds Nothing
+pub found_none : (lo hi : ℕ) (rs : List Row) → lengths lo hi rs ≡ true → 0 < lo → (ds : List ℕ) → length ds ≡ 0 → StepFound rs ds None
 found_none lo hi rs within nonzero ds h z e = begins_short (code rs z) ds (omega (arith, (code_within lo hi rs within z e).0))
 
 -- the row that q bits lead to, by the first q of the word w that begins with the bits ds, with 0 bits past their end
@@ -51,24 +53,28 @@ field_body r body at n k x en ek ex =
     ex ∙ ap₂ (λ (m j : ℕ). number_of 2 (take m (drop (at + j) (bits body)))) ek p
     ∙ ap (λ (l : List ℕ). number_of 2 (take r.width l)) (sym (drop-drop (length r.prefix) at (bits body)))
 
--- ---- the step that row i reads in its bits x, by the row before it
+-- ---- the step that a row reads in its bits x, by the row before it
 
-module _ (rs : List Row) (good : good_table rs ≡ true) (wide : widening rs ≡ true) (i : ℕ) (nonzero : 0 < i) (i< : i < length rs)
-    (x : ℕ) (x< : x < 2 ^ (get_or rs i no_row).width) (n : ℕ) where
-  pub read_early : holds (get_or rs (i - 1) no_row) (reading (get_or rs i no_row) x) ≡ true → ReadBy rs i n x Nothing
-  read_early e = row_before rs good wide (reading (get_or rs i no_row) x) i nonzero i< e
+module _ (r : TableRow) (nonzero : 0 < r.index) (x : ℕ) (x< : x < 2 ^ (row_at r).width) where
+  in_wide : r.index < length wide_rows
+  in_wide = omega (arith, r.known, wide_count)
 
-  pub read_first : holds (get_or rs (i - 1) no_row) (reading (get_or rs i no_row) x) ≡ false → (z : ℤ) → z ≡ reading (get_or rs i no_row) x → ReadBy rs i n x (Step z n)
-  read_first e z is =
-      let r = get_or rs i no_row in
-      (is, ap (row_of rs) is ∙ row_first rs good wide (reading r x) i nonzero i< e (reading-held r (good_full no_row rs good i i<) x x<), refl)
+  pub read_early : holds (get_or wide_rows (r.index - 1) no_row) (reading (row_at r) x) ≡ true → ReadBy wide_rows r.index x None
+  read_early e = row_before wide_rows (form_sound Wide).good (form_sound Wide).widens (reading (row_at r) x) r.index nonzero in_wide e
+
+  pub read_first : holds (get_or wide_rows (r.index - 1) no_row) (reading (row_at r) x) ≡ false → (z : ℤ) → z ≡ reading (row_at r) x → ReadBy wide_rows r.index x (Some z)
+  read_first e z is = (
+    is,
+    ap (row_of wide_rows) is
+        ∙ row_first wide_rows (form_sound Wide).good (form_sound Wide).widens (reading (row_at r) x) r.index nonzero in_wide e
+        (reading-held (row_at r) (good_full no_row wide_rows (form_sound Wide).good r.index in_wide) x x<),
+  )
 
 -- ---- the same by the table of a form, of which the wide table has every row
 
-pub read_form : (f : Form) (i : ℕ) → i < length (table_of f) → (n x : ℕ) (g : GotStep) → ReadBy wide_rows i n x g → ReadBy (table_of f) i n x g
-read_form f i h n x (Step z m) e =
-    (e.0 ∙ sym (ap (λ (r : Row). reading r x) (same_range f i h)), form_row-first f z i h e.1, e.2)
-read_form f i h n x Nothing e =
+pub read_form : (f : Form) (i : ℕ) → i < length (table_of f) → (x : ℕ) (g : Option ℤ) → ReadBy wide_rows i x g → ReadBy (table_of f) i x g
+read_form f i h x (Some z) e = (e.0 ∙ sym (ap (λ (r : Row). reading r x) (same_range f i h)), form_row-first f z i h e.1)
+read_form f i h x None e =
     λ is.
     let same : reading (get_or (table_of f) i no_row) x ≡ reading (get_or wide_rows i no_row) x = ap (λ (r : Row). reading r x) (same_range f i h) in
     let z = reading (get_or (table_of f) i no_row) x in
@@ -106,7 +112,7 @@ module _ (rs : List Row) (good : good_table rs ≡ true) (q : ℕ) (short : shor
   size_by z e is = length-code no_row z rs e ∙ ap (λ (j : ℕ). code_length (get_or rs j no_row)) is ∙ sym lead.len
 
   -- so there is none where there are fewer bits than its codes have
-  pub found_few : length ds < n → StepFound rs ds Nothing
+  pub found_few : length ds < n → StepFound rs ds None
   found_few l z e =
       not_so (begins (code rs z) ds) (λ b.
       let t = begins_rest (code rs z) ds b in
@@ -124,14 +130,14 @@ module _ (rs : List Row) (good : good_table rs ≡ true) (q : ℕ) (short : shor
     step_is = ap (reading here) (sym ex)
 
     -- a code stands there only if that row is the first that holds what it reads
-    other_row : (row_of rs (reading here x) ≡ i → ⊥) → StepFound rs ds Nothing
+    other_row : (row_of rs (reading here x) ≡ i → ⊥) → StepFound rs ds None
     other_row f y e =
         not_so (begins (code rs y) ds) (λ b.
         let t = begins_rest (code rs y) ds b in
         f (ap (row_of rs) (sym step_is ∙ front-step no_row rs good i lead.row ds front y e t.0 t.1) ∙ by_row y e b))
 
     -- and then it is the code of that step
-    this_row : row_of rs (reading here x) ≡ i → StepFound rs ds (Step (reading here x) n)
+    this_row : row_of rs (reading here x) ≡ i → StepFound rs ds (Some (reading here x, n))
     this_row is =
         let z = reading here x in
         let fits : code_length here ≤ length ds = omega (arith, lead.len) in
@@ -143,14 +149,14 @@ module _ (rs : List Row) (good : good_table rs ≡ true) (q : ℕ) (short : shor
         (held, take_begins (code rs z) ds (ap (λ (m : ℕ). take m ds) s ∙ sym c), sym s)
 
     -- by what the row reads
-    pub found_by : (g : GotStep) → ReadBy rs i n x g → StepFound rs ds g
-    found_by (Step z m) e =
-        let f = this_row (ap (row_of rs) (sym e.0) ∙ e.1) in
-        rw (e.0, e.2) f
-    found_by Nothing e = other_row e
+    pub found_none_by : ReadBy rs i x None → StepFound rs ds None
+    found_none_by e = other_row e
+
+    pub found_by : (z : ℤ) → ReadBy rs i x (Some z) → StepFound rs ds (Some (z, n))
+    found_by z e = rw e.0 (this_row (ap (row_of rs) (sym e.0) ∙ e.1))
 
   -- a row with no bits after its prefix, which reads 0 and is the first that holds it
-  pub found-zero : here.width ≡ 0 → reading here 0 ≡ pos 0 → row_of rs (pos 0) ≡ i → n ≤ length ds → StepFound rs ds (Step (pos 0) n)
+  pub found-zero : here.width ≡ 0 → reading here 0 ≡ pos 0 → row_of rs (pos 0) ≡ i → n ≤ length ds → StepFound rs ds (Some (pos 0, n))
   unfolding number_of
   found-zero empty reads first enough =
-      found_by enough 0 (ap (λ (k : ℕ). number_of 2 (take k (drop (length here.prefix) ds))) (sym empty)) (Step (pos 0) n) (sym reads, first, refl)
+      found_by enough 0 (ap (λ (k : ℕ). number_of 2 (take k (drop (length here.prefix) ds))) (sym empty)) (pos 0) (sym reads, first)

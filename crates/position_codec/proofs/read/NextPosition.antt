@@ -16,6 +16,7 @@ use Rattle.limits.specs.Points.{max_position}
 use Rattle.integers.proofs.Integers.{diff_pos, diff_neg, le_diff, abs_neg, abs_diff, abs_add}
 use Rattle.position_format.specs.Steps.{step_of}
 use Rattle.position_format.proofs.Rows.Signs.{at_least}
+use Rattle.position_codec.proofs.Between.{contains_lem, between}
 use Rattle.position_format.proofs.Positions.After.{step_of_lem, of_step}
 use Rattle.integers.proofs.Machine.{abs_fits, diff_abs, diff_back}
 
@@ -80,22 +81,28 @@ module _ (a b : ℕ) (a< : a < 2 ^ 62) (b< : b < 2 ^ 62) where
   neg_abs = omega (arith, abs_add (pos 0) (neg_ℤ centre), abs_neg centre, centre_abs)
 
   -- the room on either side
-  pub low_fits : SFits w64 (pos 0 -ℤ to_z w64 (of_z w64 sum))
+  low_fits : SFits w64 (pos 0 -ℤ to_z w64 (of_z w64 sum))
   low_fits = rw sum_back (abs_fits (pos 0 -ℤ centre) (omega (arith, neg_abs)))
 
-  pub high_fits : SFits w64 (pos max_position -ℤ to_z w64 (of_z w64 sum))
+  high_fits : SFits w64 (pos max_position -ℤ to_z w64 (of_z w64 sum))
   high_fits = rw sum_back (abs_fits (pos max_position -ℤ centre) (omega (arith, above_abs)))
 
   -- ---- the test
 
-  module _ (z : ℤ) (fz : SFits w64 z) (t : Bool)
-      (et : t ≡ both (le_z (to_z w64 (of_z w64 (pos 0 -ℤ to_z w64 (of_z w64 sum)))) (to_z w64 (of_z w64 z))) (le_z (to_z w64 (of_z w64 z)) (to_z w64 (of_z w64 (pos max_position -ℤ to_z w64 (of_z w64 sum)))))) where
+  low_is : to_z w64 (of_z w64 (pos 0 -ℤ to_z w64 (of_z w64 sum))) ≡ pos 0 -ℤ centre
+  low_is = to_z-of_z w64 _ low_fits ∙ ap (λ (y : ℤ). pos 0 -ℤ y) sum_back
+
+  high_is : to_z w64 (of_z w64 (pos max_position -ℤ to_z w64 (of_z w64 sum))) ≡ pos max_position -ℤ centre
+  high_is = to_z-of_z w64 _ high_fits ∙ ap (λ (y : ℤ). pos max_position -ℤ y) sum_back
+
+  module _ (z : ℤ) (fz : SFits w64 z) (s e : ℤ) (x t : Bool)
+      (es : s ≡ to_z w64 (of_z w64 (pos 0 -ℤ to_z w64 (of_z w64 sum))))
+      (ee : e ≡ to_z w64 (of_z w64 (pos max_position -ℤ to_z w64 (of_z w64 sum))))
+      (ex : x ≡ false)
+      (et : t ≡ contains_lem s e x (to_z w64 (of_z w64 z))) where
     tested : t ≡ both (le_z (pos 0) (centre +ℤ z)) (le_z (centre +ℤ z) (pos max_position))
     tested =
-        let l : to_z w64 (of_z w64 (pos 0 -ℤ to_z w64 (of_z w64 sum))) ≡ pos 0 -ℤ centre = to_z-of_z w64 _ low_fits ∙ ap (λ (y : ℤ). pos 0 -ℤ y) sum_back in
-        let h : to_z w64 (of_z w64 (pos max_position -ℤ to_z w64 (of_z w64 sum))) ≡ pos max_position -ℤ centre = to_z-of_z w64 _ high_fits ∙ ap (λ (y : ℤ). pos max_position -ℤ y) sum_back in
-        et ∙ ap₂ (λ (x y : ℤ). both (le_z x (to_z w64 (of_z w64 z))) (le_z (to_z w64 (of_z w64 z)) y)) l h
-        ∙ ap (λ (y : ℤ). both (le_z (pos 0 -ℤ centre) y) (le_z y (pos max_position -ℤ centre))) (to_z-of_z w64 z fz)
+        between (pos 0 -ℤ centre) (pos max_position -ℤ centre) (to_z w64 (of_z w64 z)) s e x t (es ∙ low_is) (ee ∙ high_is) ex et ∙ ap (λ (y : ℤ). both (le_z (pos 0 -ℤ centre) y) (le_z y (pos max_position -ℤ centre))) (to_z-of_z w64 z fz)
         ∙ around (pos max_position) centre z
 
     regroup : pos b +ℤ ((pos b -ℤ pos a) +ℤ z) ≡ centre +ℤ z
@@ -103,15 +110,15 @@ module _ (a b : ℕ) (a< : a < 2 ^ 62) (b< : b < 2 ^ 62) where
 
     -- there is no such position in range
     pub position-none : t ≡ false → (v : ℕ) → v ≤ max_position → step_of a b v ≡ z → ⊥
-    position-none e v h s = outside max_position (centre +ℤ z) (sym tested ∙ e) v h (sym regroup ∙ of_step a b v z s)
+    position-none off v h is = outside max_position (centre +ℤ z) (sym tested ∙ off) v h (sym regroup ∙ of_step a b v z is)
 
     -- or it is their sum
-    module _ (e : t ≡ true) where
+    module _ (on : t ≡ true) where
       abbrev next : ℕ
       next = nat_abs (centre +ℤ z)
 
       place : (centre +ℤ z ≡ pos next) × (next ≤ max_position)
-      place = inside max_position (centre +ℤ z) (sym tested ∙ e)
+      place = inside max_position (centre +ℤ z) (sym tested ∙ on)
 
       abbrev total : ℤ
       total = to_z w64 (of_z w64 sum) +ℤ to_z w64 (of_z w64 z)

@@ -2,20 +2,22 @@
 -- bits after the prefix.
 use mathlib.Core.Bool.{Bool, true, false}
 use mathlib.Core.List.{List, ◌++◌, append_assoc}
-use mathlib.Core.Path.{◌≡◌, refl, sym, ap, ap₂, ◌∙◌}
+use mathlib.Core.Path.{◌≡◌, refl, sym, ap, ap₂, ◌∙◌, subst}
 use Prim.Native.Nat.{ℕ, zero, suc, ◌+◌, ◌-◌, ◌*◌, ◌/◌, ◌%◌, ◌^◌, ◌≤◌, ◌<◌}
+use native.Mathlib.Nat.{mod-lt}
 use native.Mathlib.Omega.{arith}
 use borrow.Author.Tests.{ltb-true, ltb-false, lt-ltb}
 use lib.Dec.{ltb}
 use lib.IntN.{ℤ}
 use lib.ListN.{length, get_or, take, drop, replicate, length-append, length-take, length-drop}
-use lib.Pow.{shl-shr}
+use lib.Pow.{pow_pos, shl-shr}
 use lib.Seq.{take_at, drop_at, drop-drop, length-take-le, take-add, take-append-le, drop-append-le}
 use Rattle.lists.proofs.Below.{below_take}
 use Rattle.lists.proofs.Compare.{not_so, begins_rest}
 use Rattle.bits.specs.Digits.{digits_of, bits_of, number_of}
 use Rattle.bits.specs.Packing.{bits, ahead}
 use Rattle.bits.proofs.Digits.{two⁺, length_digits, digits_number, digits_append, drop_digits, digits_of_mod}
+use Rattle.bits.proofs.Digits.Word.{two_lt, two_fits, two-bits}
 use Rattle.bits.proofs.Packing.{length_left, below_left}
 use Rattle.bits.proofs.Packing.Ahead.{ahead_many, word_first, ahead_field, ahead-first}
 use Rattle.position_format.specs.declared.Form.{Form}
@@ -23,10 +25,12 @@ use Rattle.position_format.specs.declared.Form.TheVariants.{Old, Wide}
 use Rattle.position_format.specs.Rows.{Row, rows, wide_rows, in_table, residue, code, code_in, code_length, no_row, row_of}
 use Rattle.position_format.specs.Tables.{table_of}
 use Rattle.position_format.proofs.Rows.Codes.{in_table-row, row-in_table, code_row, code_within}
-use Rattle.position_format.proofs.Tables.{most_bits, form_sound}
+use Rattle.position_format.proofs.Tables.{most_bits, form_sound, prefix_short}
 use Rattle.position_format.proofs.Tables.WideRows.{rows_count, wide_count, same_range, form_row, form_row-first}
 use Rattle.position_codec.specs.Found.{Ahead, Leads}
-use Rattle.position_codec.specs.Recoding.{CodeStands, Led, Fore, Shared}
+use Rattle.position_codec.specs.declared.table.Lead.{Lead}
+use Rattle.position_codec.specs.Codes.{row_at, PrefixIs}
+use Rattle.position_codec.specs.Recoding.{CodeStands, Led, Fore, Shared, SharedCode, ThreeShared}
 use Rattle.position_codec.proofs.Found.StepFound.{by_row, size_by}
 
 -- bits of a body by their number
@@ -88,8 +92,10 @@ fore_shift body at w k n fits few room alike =
 -- ---- the code that stands there
 
 -- the row that five bits lead to
-pub lead_told : (f : Form) (body : List ℕ) (at i n : ℕ) → let ds = drop at (bits body) in Leads (table_of f) (ahead 5 ds) i n → Led (table_of f) ds (record { row = i; len = n })
-lead_told f body at i n l z s =
+lead_told : (f : Form) (body : List ℕ) (at : ℕ) (lead : Lead) → let ds = drop at (bits body) in Leads (table_of f) (ahead 5 ds) lead.row.index lead.len → Led (table_of f) ds lead
+lead_told f body at lead l z s =
+    let i = lead.row.index in
+    let n = lead.len in
     let ds = drop at (bits body) in
     let t = form_sound f in
     let is : row_of (table_of f) z ≡ i = by_row (table_of f) t.good 5 t.short ds (below_left body at) i n l z s.held s.front in
@@ -134,6 +140,15 @@ short_wide (suc (suc (suc (suc i)))) h = absurd (omega arith)
 pub short_row : (f : Form) (i : ℕ) → i < 4 → (1 ≤ code_length (get_or (table_of f) i no_row)) × (code_length (get_or (table_of f) i no_row) ≤ 16)
 short_row f i h = rw (four_rows f i h) (short_wide i h)
 
+-- what five bits at the top of a word tell of a code there
+pub lead_read : (f : Form) (w : ℕ) (lead : Lead) → Leads (table_of f) (bits_of 5 (w / 2 ^ 59)) lead.row.index lead.len
+    → (lead.row.index < 4 → (0 < lead.len) × (lead.len ≤ 16))
+    × ((body : List ℕ) (at k : ℕ) → 5 ≤ k → k ≤ 64 → Fore k body at w → Led (table_of f) (drop at (bits body)) lead)
+lead_read f w lead l = (
+  λ h. let r = short_row f lead.row.index h in (omega (arith, l.len, r.0), omega (arith, l.len, r.1)),
+  λ body at k five fits e. lead_told f body at lead (rw (ahead-first w k fits (drop at (bits body)) e 5 five) at l),
+)
+
 form_more : (f : Form) → 5 ≤ length (table_of f)
 form_more Old = omega (arith, rows_count)
 form_more Wide = omega (arith, wide_count)
@@ -157,7 +172,7 @@ row-test f g z held = go (ltb (row_of (table_of f) z) (length (table_of g))) ref
         omega (arith, same, form_row g z h, in_table-row (table_of g) z h, ltb-false (row_of (table_of f) z) (length (table_of g)) e)))
 
 -- the code by one of the first four rows is the same in both
-pub shared_row : (f g : Form) (z : ℤ) → in_table (table_of f) z ≡ true → row_of (table_of f) z < 4 → Shared f g z
+shared_row : (f g : Form) (z : ℤ) → in_table (table_of f) z ≡ true → row_of (table_of f) z < 4 → Shared f g z
 shared_row f g z held h =
     let i = row_of (table_of f) z in
     let in_g : in_table (table_of g) z ≡ true = sym (row-test f g z held) ∙ lt-ltb i (length (table_of g)) (omega (arith, form_more g)) in
@@ -170,6 +185,58 @@ shared_row f g z held h =
           ∙ ap (λ (r : Row). code_in r z) (four_rows g i h ∙ sym (four_rows f i h))
           ∙ sym (code_row no_row z (table_of f) held);
     }
+
+-- so whatever code of these stands at the top of a word, every form has it
+pub shared_code : (f : Form) (w : ℕ) (lead : Lead) → lead.row.index < 4
+    → ((body : List ℕ) (at k : ℕ) → 5 ≤ k → k ≤ 64 → Fore k body at w → Led (table_of f) (drop at (bits body)) lead) → SharedCode f w lead.len
+shared_code f w lead four led body at k five fits e z s =
+    let l = led body at k five fits e z s in
+    (l.1, λ g. shared_row f g z s.held (omega (arith, l.0, four)))
+
+-- three such codes, each in the word without those before it
+pub three_shared : (f : Form) (w n m k : ℕ) → n ≤ 16 → m ≤ 16 → SharedCode f w n → SharedCode f (w * 2 ^ n % 2 ^ 64) m → SharedCode f (w * 2 ^ n % 2 ^ 64 * 2 ^ m % 2 ^ 64) k
+    → (body : List ℕ) (at : ℕ) → Ahead body at w → ThreeShared f body at (n + m + k)
+three_shared f w n m k n≤ m≤ one two three body at alike g x y z st =
+    let rs = table_of f in
+    let lx = one body at 57 (omega arith) (omega arith) alike x st.first in
+    let room = code-room f body at x st.first in
+    let v = w * 2 ^ n % 2 ^ 64 in
+    let fore = fore_shift body at w 57 n (omega arith) (omega arith) (omega (arith, lx.0, room.1)) alike in
+    let here : at + length (code rs x) ≡ at + n = omega (arith, lx.0) in
+    let second : CodeStands rs (drop (at + n) (bits body)) y = subst (λ (j : ℕ). CodeStands rs (drop j (bits body)) y) here st.second in
+    let ly = two body (at + n) (57 - n) (omega arith) (omega arith) fore y second in
+    let room2 = code-room f body (at + n) y second in
+    let fore2 = fore_shift body (at + n) v (57 - n) m (omega arith) (omega arith) (omega (arith, ly.0, room2.1)) fore in
+    let there : at + length (code rs x) + length (code rs y) ≡ at + n + m = omega (arith, lx.0, ly.0) in
+    let third : CodeStands rs (drop (at + n + m) (bits body)) z = subst (λ (j : ℕ). CodeStands rs (drop j (bits body)) z) there st.third in
+    let lz = three body (at + n + m) (57 - n - m) (omega arith) (omega arith) fore2 z third in
+    (omega (arith, lx.0, ly.0, lz.0), lx.1 g, ly.1 g, lz.1 g)
+
+-- ---- a code's prefix and the bits after it, as one field
+
+module _ (f : Form) (l : Lead) (body : List ℕ) (at w : ℕ) (inside : l.row.index < length (table_of f)) (narrow : (row_at l.row).width ≤ l.len)
+    (room : at + l.len ≤ 8 * length body) (alike : Ahead body at w) (size prefix : ℕ) (p : PrefixIs (get_or (table_of f) l.row.index no_row) prefix size)
+    (near : l.len ≤ 57) (k rest : ℕ) (ek : k ≡ (row_at l.row).width) (er : rest ≡ w / 2 ^ (64 - l.len) % 2 ^ k) where
+  pub one_field : size + k ≤ 64
+  one_field =
+      omega (arith, ap length p.bits, length_digits 2 size prefix, prefix_short 5 (table_of f) (form_sound f).short l.row.index inside)
+
+  rest_fits : rest < 2 ^ k
+  rest_fits = rw er (mod-lt (w / 2 ^ (64 - l.len)) (pow_pos k))
+
+  pub field_fits : prefix * 2 ^ k % 2 ^ 64 + rest < 2 ^ 64
+  field_fits = two_fits size k p.fits rest_fits one_field
+
+  pub field_lt : prefix * 2 ^ k % 2 ^ 64 + rest < 2 ^ (size + k)
+  field_lt = two_lt size k p.fits rest_fits one_field
+
+  pub field_is : bits_of (size + k) (prefix * 2 ^ k % 2 ^ 64 + rest)
+      ≡ (get_or (table_of f) l.row.index no_row).prefix ++ take (row_at l.row).width (drop (at + (l.len - (row_at l.row).width)) (bits body))
+  field_is =
+      two-bits size k p.fits rest_fits one_field
+      ∙ ap₂ (λ (d e : List ℕ). d ++ e) (sym p.bits)
+      (ap (bits_of k) er ∙ field_bits body at w l.len k alike near room (omega arith)
+      ∙ ap (λ (j : ℕ). take j (drop (at + (l.len - j)) (bits body))) ek)
 
 module _ (f g : Form) (z : ℤ) (in_f : in_table (table_of f) z ≡ true) (in_g : in_table (table_of g) z ≡ true) where
   -- the row has the same index and the same width in both

@@ -9,8 +9,8 @@ use lib.ListN.{length, take, drop, replicate, length-append}
 use lib.Seq.{take_at, drop_at}
 use Rattle.lists.proofs.Compare.{begins_own}
 use Rattle.bits.specs.Packing.{bits, fill_of}
-use Rattle.bits.specs.Sinks.{Sound, Held, PlacedBits}
-use Rattle.bits.specs.declared.fields.Sink.{Sink}
+use Rattle.bits.specs.Sinks.{Held, PlacedBits}
+use Rattle.bits.specs.declared.laying.Sink.{Sink}
 use Rattle.bits.proofs.Digits.{length_digits}
 use Rattle.bits.proofs.Packing.{length-bits}
 use Rattle.position_format.specs.declared.Form.{Form}
@@ -32,7 +32,6 @@ pub record Recoding (from to : Form) (n : ℕ) (ts o out : List ℕ) (i at : ℕ
   pub place : at ≡ length (position_bits (table_of from) (take i ts))
   pub inside : i ≤ first_outside (table_of to) ts
   pub small : s.at ≤ 16 * (i + 2)
-  pub sound : Sound s
   pub held : Held (position_bits (table_of to) (take i ts)) s
   pub placed : PlacedBits (position_bits (table_of to) (take i ts)) s.at o out
 

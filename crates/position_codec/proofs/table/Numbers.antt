@@ -1,13 +1,13 @@
 -- The numbers in the code are those of the tables' rows. The checker computes this: ranges and widths once, of the wide table, which has every
 -- row; prefixes and leads for each table.
 use mathlib.Core.Bool.{Bool, true, false, cond}
-use mathlib.Core.List.{List, [], ◌∷◌, map}
-use mathlib.Core.Path.{◌≡◌, refl, sym, ap, ◌∙◌}
-use Prim.Native.Nat.{ℕ, zero, suc, ◌+◌, ◌-◌, ◌/◌, ◌^◌, ◌≤◌, ◌<◌}
+use mathlib.Core.List.{List, [], ◌∷◌}
+use mathlib.Core.Path.{◌≡◌, refl, ap, ◌∙◌}
+use Prim.Native.Nat.{ℕ, zero, suc, ◌-◌, ◌/◌, ◌^◌, ◌≤◌, ◌<◌}
 use native.Mathlib.Omega.{arith}
 use borrow.Author.Tests.{ltb-true, leb-true, le-ltb, lt-ltb, eq-eqb, ne_eqb, eqb-true, eqb-false}
 use lib.Dec.{ltb, leb, eqb}
-use lib.IntN.{ℤ, pos}
+use lib.IntN.{ℤ, pos, negsuc, nat_abs}
 use lib.ListN.{length, get_or}
 use mir.Syntax.{w64}
 use mir.Val.{to_z, of_z}
@@ -16,13 +16,15 @@ use Rattle.lists.proofs.Compare.{both_true, same_is}
 use Rattle.bits.specs.Digits.{digits_of, bits_of, byte_of}
 use Rattle.position_format.specs.declared.Form.{Form}
 use Rattle.position_format.specs.declared.Form.TheVariants.{Old, Wide}
-use Rattle.position_format.specs.Rows.{Row, row, rows, wide_rows, neg, code_length, no_row}
+use Rattle.position_format.specs.Rows.{Row, rows, wide_rows, code_length, no_row}
 use Rattle.position_format.specs.Tables.{table_of}
-use Rattle.position_format.proofs.Rows.Extended.{ranged, ranged_at}
+use Rattle.position_format.proofs.Rows.{good_full, full_is}
 use Rattle.position_format.proofs.Tables.{form_sound, FitsWord, row_words}
-use Rattle.position_format.proofs.Tables.WideRows.{wide_count}
+use Rattle.position_format.proofs.Tables.WideRows.{rows_count, wide_count}
+use Rattle.position_codec.specs.declared.row.Range.{Range}
 use Rattle.position_codec.specs.Codes.{PrefixIs}
 use Rattle.position_codec.specs.Found.{Leads}
+use Rattle.position_codec.proofs.table.Residues.{Fitted}
 
 -- a test of every number below a bound
 abbrev all_below : ℕ → (ℕ → Bool) → Bool
@@ -41,46 +43,54 @@ all_at (suc n) q e i h =
 
 -- ---- the range and the width of each row, as the code has them
 
-abbrev lows : List ℤ
-lows = pos 0 ∷ neg 63 ∷ neg 255 ∷ neg 2047 ∷ neg 2147483647 ∷ neg 9223372036854775808 ∷ []
+abbrev pub ranges : List Range
+ranges =
+    record { low = pos 0; high = pos 0 }
+    ∷ record { low = negsuc 62; high = pos 64 }
+    ∷ record { low = negsuc 254; high = pos 256 }
+    ∷ record { low = negsuc 2046; high = pos 2048 }
+    ∷ record { low = negsuc 2147483646; high = pos 2147483648 }
+    ∷ record { low = negsuc 9223372036854775807; high = pos 9223372036854775807 }
+    ∷ []
 
-abbrev highs : List ℤ
-highs = pos 0 ∷ pos 64 ∷ pos 256 ∷ pos 2048 ∷ pos 2147483648 ∷ pos 9223372036854775807 ∷ []
+-- the range of a row, how many bits follow its prefix, and that its ends fit 64 bits
+pub record Ranged (i : ℕ) (r : Range) (width : ℕ) : Type 0 where
+  pub low : r.low ≡ (get_or wide_rows i no_row).low
+  pub high : r.high ≡ (get_or wide_rows i no_row).high
+  pub wide : width ≡ (get_or wide_rows i no_row).width
+  pub low_back : to_z w64 (of_z w64 (get_or wide_rows i no_row).low) ≡ (get_or wide_rows i no_row).low
+  pub high_back : to_z w64 (of_z w64 (get_or wide_rows i no_row).high) ≡ (get_or wide_rows i no_row).high
 
-abbrev pub low_of : ℕ → ℤ
-low_of i = to_z w64 (of_z w64 (get_or lows i (pos 0)))
-
-abbrev pub high_of : ℕ → ℤ
-high_of i = to_z w64 (of_z w64 (get_or highs i (pos 0)))
-
-abbrev pub width_of : ℕ → ℕ
-width_of i = byte_of 70506385049344 i
-
--- a row of these, and n rows from the one of index i on
-abbrev range_from : ℕ → Row
-range_from i = row [] (width_of i) (low_of i) (high_of i)
-
-abbrev ranges_from : ℕ → ℕ → List Row
-ranges_from i zero = []
-ranges_from i (suc n) = range_from i ∷ ranges_from (suc i) n
-
-from_at : (i n j : ℕ) → j < n → get_or (ranges_from i n) j no_row ≡ range_from (i + j)
-from_at i zero j h = absurd (omega arith)
-from_at i (suc n) zero h = let e : i ≡ i + 0 = omega arith in ap range_from e
-from_at i (suc n) (suc j) h = let e : suc i + j ≡ i + suc j = omega arith in from_at (suc i) n j (omega arith) ∙ ap range_from e
-
-ranges_are : map ranged wide_rows ≡ ranges_from 0 6
+pub ranged : (i : ℕ) → i < 6 → Ranged i (get_or ranges i record { low = pos 0; high = pos 0 }) (byte_of 70506385049344 i)
 unfolding wide_rows rows
-ranges_are = refl
-
-pub row_at : (i : ℕ) → i < 6 → ranged (get_or wide_rows i no_row) ≡ range_from i
-row_at i h =
-    let e : 0 + i ≡ i = omega arith in
-    sym (ranged_at wide_rows i) ∙ ap (λ (rs : List Row). get_or rs i no_row) ranges_are ∙ from_at 0 6 i h ∙ ap range_from e
+ranged zero h = record { low = refl; high = refl; wide = refl; low_back = refl; high_back = refl }
+ranged (suc zero) h = record { low = refl; high = refl; wide = refl; low_back = refl; high_back = refl }
+ranged (suc (suc zero)) h = record { low = refl; high = refl; wide = refl; low_back = refl; high_back = refl }
+ranged (suc (suc (suc zero))) h = record { low = refl; high = refl; wide = refl; low_back = refl; high_back = refl }
+ranged (suc (suc (suc (suc zero)))) h = record { low = refl; high = refl; wide = refl; low_back = refl; high_back = refl }
+ranged (suc (suc (suc (suc (suc zero))))) h = record { low = refl; high = refl; wide = refl; low_back = refl; high_back = refl }
+ranged (suc (suc (suc (suc (suc (suc i)))))) h = absurd (omega arith)
 
 -- they fit a word
 pub row_fits : (i : ℕ) → i < 6 → FitsWord (get_or wide_rows i no_row)
 row_fits i h = row_words wide_rows (form_sound Wide).words i (omega (arith, wide_count))
+
+-- its top is a number, and every number that its bits can be is in reach
+pub fitted : (i : ℕ) → i < 6 → Fitted (get_or wide_rows i no_row) (nat_abs (get_or wide_rows i no_row).high)
+fitted i h =
+    let full_row = good_full no_row wide_rows (form_sound Wide).good i (omega (arith, h, wide_count)) in
+    let w = row_fits i h in
+    record {
+      full = full_row;
+      width = w.narrow;
+      high = (full_is (get_or wide_rows i no_row) full_row).high;
+      high_fits = w.high_fits;
+      low_fits = w.low_fits;
+    }
+
+-- the top as the code reads it
+pub top_at : (i : ℕ) → i < 6 → (y : ℤ) → y ≡ (get_or wide_rows i no_row).high → to_z w64 (of_z w64 y) ≡ pos (nat_abs (get_or wide_rows i no_row).high)
+top_at i h y e = ap (λ (z : ℤ). to_z w64 (of_z w64 z)) e ∙ (ranged i h).high_back ∙ (fitted i h).high
 
 -- ---- the prefixes, and the row that five bits lead to, of each table
 
@@ -174,6 +184,10 @@ module _ (j : ℕ) (h : j < 32) (l : 16 ≤ j) where
 
   pub last_leads : j ≡ 31 → Leads wide_rows (bits_of 5 j) 5 69 × (◌<◌ 0 5)
   last_leads e = rw (eq-eqb j 31 e) at (lead_more Wide j h l)
+
+  -- each is a row of the wide table
+  pub lead_small : byte_of lead_rows (j / 2 - 8) < 6
+  lead_small = omega (arith, old_leads.0.row, rows_count)
 
   pub wide_leads : (j ≡ 31 → ⊥) → Leads wide_rows (bits_of 5 j) (byte_of lead_rows (j / 2 - 8)) (byte_of (lead_lengths Wide) (j / 2 - 8)) × (0 < byte_of lead_rows (j / 2 - 8))
   wide_leads d = rw (ne_eqb j 31 d) at (lead_more Wide j h l)

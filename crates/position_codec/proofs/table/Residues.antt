@@ -1,27 +1,24 @@
 -- An integer of 64 bits in two's complement: its bits as the machine has them, those of it that a narrower field has, and the integer that the
 -- bits of a row stand for.
 use mathlib.Core.Path.{◌≡◌, refl, sym, ap, ap₂, ◌∙◌}
-use mathlib.Core.Bool.{Bool, true, false, cond}
+use mathlib.Core.Bool.{Bool, true, cond}
 use Prim.Native.Nat.{ℕ, zero, suc, ◌+◌, ◌-◌, ◌*◌, ◌/◌, ◌%◌, ◌≤◌, ◌<◌, ◌^◌}
 use native.Mathlib.Nat.{div-add-mod', mod-lt, mod-eq_of_lt, mul-sub, mul_comm, suc-mul, mul-le-mul_right, div-lt_iff_lt-mul, pow-zero}
 use native.Mathlib.Omega.{arith}
-use borrow.Author.Tests.{ltb-true, le-leb, lt-leb}
+use borrow.Author.Tests.{le-leb, lt-leb}
 use lib.Arith.{digits_mod}
 use lib.Dec.{leb}
 use lib.IntN.{ℤ, pos, negsuc, nat_abs, ◌-ℤ◌}
 use lib.Pow.{pow_pos, pow-add, mod-mod-pow, ones_split, ones_lt, high}
-use lib.Signed.{mag, lt_z, le_z}
+use lib.Signed.{le_z}
 use mir.Syntax.{w64}
 use mir.Val.{to_z, of_z, SFits}
 use mir.ValLaws.{to_z-of_z, to_z_pos}
-use Rattle.integers.proofs.Integers.{diff_pos, diff_neg}
+use Rattle.integers.proofs.Integers.{diff_neg}
 use Rattle.position_format.specs.Rows.{Row, residue, reading}
 use Rattle.position_format.proofs.Rows.{full, full_is}
 
--- ---- -1 less an integer
-
-less_neg : (n : ℕ) → negsuc 0 -ℤ negsuc n ≡ pos n
-less_neg n = let e : suc n - 1 ≡ n = omega arith in diff_pos (suc n) 1 (omega arith) ∙ ap pos e
+-- ---- -1 less a number
 
 less_pos : (n : ℕ) → negsuc 0 -ℤ pos n ≡ negsuc n
 less_pos zero = refl
@@ -29,47 +26,9 @@ less_pos (suc n) = let e : suc (0 + n) ≡ suc n = omega arith in ap negsuc e
 
 -- ---- the bits of an integer of 64 bits
 
-module _ (z : ℤ) (f : SFits w64 z) where
-  as_is : to_z w64 (of_z w64 z) ≡ z
-  as_is = to_z-of_z w64 z f
-
-  -- below zero
-  module _ (t : lt_z (to_z w64 (of_z w64 z)) (pos 0) ≡ true) where
-    turned : negsuc 0 -ℤ to_z w64 (of_z w64 z) ≡ pos (mag z)
-    turned = ap (λ (y : ℤ). negsuc 0 -ℤ y) as_is ∙ go z (rw as_is at t)
-      where
-        go : (y : ℤ) → lt_z y (pos 0) ≡ true → negsuc 0 -ℤ y ≡ pos (mag y)
-        go (pos n) e = absurd (omega (arith, ltb-true n 0 e))
-        go (negsuc n) e = less_neg n
-
-    pub turned_fits : SFits w64 (negsuc 0 -ℤ to_z w64 (of_z w64 z))
-    turned_fits = rw turned (record { sfits = f.sfits })
-
-    pub turned_back : to_z w64 (of_z w64 (negsuc 0 -ℤ to_z w64 (of_z w64 z))) ≡ pos (mag z)
-    turned_back = to_z-of_z w64 _ turned_fits ∙ turned
-
-    pub twos_neg : 2 ^ 64 - 1 - mag z ≡ residue 64 z
-    twos_neg = go z f.sfits (rw as_is at t)
-      where
-        go : (y : ℤ) → mag y < 2 ^ 63 → lt_z y (pos 0) ≡ true → 2 ^ 64 - 1 - mag y ≡ residue 64 y
-        go (pos n) h e = absurd (omega (arith, ltb-true n 0 e))
-        go (negsuc n) h e = let r : n % 2 ^ 64 ≡ n = mod-eq_of_lt (omega arith) in omega arith
-
-  -- not below zero
-  module _ (t : lt_z (to_z w64 (of_z w64 z)) (pos 0) ≡ false) where
-    pub not_neg : to_z w64 (of_z w64 z) ≡ pos (mag z)
-    not_neg = as_is ∙ go z (rw as_is at t)
-      where
-        go : (y : ℤ) → lt_z y (pos 0) ≡ false → y ≡ pos (mag y)
-        go (pos n) e = refl
-        go (negsuc n) e = cc
-
-    pub twos_pos : mag z ≡ residue 64 z
-    twos_pos = go z f.sfits (rw as_is at t)
-      where
-        go : (y : ℤ) → mag y < 2 ^ 63 → lt_z y (pos 0) ≡ false → mag y ≡ residue 64 y
-        go (pos n) h e = sym (mod-eq_of_lt (omega arith))
-        go (negsuc n) h e = absurd (let u : ◌≡◌ {A = ℕ} 0 1 = cc in omega arith)
+pub twos : (z : ℤ) → SFits w64 z → of_z w64 z ≡ residue 64 z
+twos (pos n) f = sym (mod-eq_of_lt (omega (arith, f.sfits)))
+twos (negsuc n) f = let r : n % 2 ^ 64 ≡ n = mod-eq_of_lt (omega (arith, f.sfits)) in ap (λ (m : ℕ). 2 ^ 64 - suc m) (sym r)
 
 -- ---- the lower bits of it
 

@@ -9,8 +9,8 @@ use Rattle.ratio_codec.proofs.write.Chosen.{window_fit}
 use Rattle.ratio_bodies.proofs.put_nth.Goals as goal
 
 pub put_ratio_form-requires : goal.put_ratio_form-requires
-put_ratio_form-requires c = window_fit c.args.ratios.now c.args.i (get_or c.args.ratios.now c.args.i 0) c.choose_nth-f.result (omega arith) c.choose_nth-f.ensures
+put_ratio_form-requires c = window_fit c.args.ratios.now c.args.i (get_or c.args.ratios.now c.args.i 0) c.choose_nth-f.result (omega arith) c.choose_nth-f.ensures.form
 
-pub returns : goal.returns
+pub returns-clause-placed : goal.returns-clause-placed
 unfolding coded
-returns c = subst (λ (x : RatioForm). Placed (written (get_or c.args.ratios.now c.args.i 0) x) c.put_ratio_form.result c.args.out.now c.put_ratio_form.new.out) c.choose_nth-f.ensures c.put_ratio_form.ensures
+returns-clause-placed c = subst (λ (x : RatioForm). Placed (written (get_or c.args.ratios.now c.args.i 0) x) c.put_ratio_form.result c.args.out.now c.put_ratio_form.new.out) c.choose_nth-f.ensures.form c.put_ratio_form.ensures

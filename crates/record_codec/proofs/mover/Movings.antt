@@ -1,16 +1,18 @@
 -- Laws of a record as it is moved: the whole answer, by how its points, their number, their steps in the form moved to and the room turn out.
-use mathlib.Core.Path.{◌≡◌, refl, sym, ap, ap₂, ◌∙◌, subst}
-use mathlib.Core.Bool.{true, false}
+use mathlib.Core.Path.{◌≡◌, sym, ap, ap₂, ◌∙◌, subst}
+use mathlib.Core.Bool.{Bool, true, false}
 use mathlib.Core.List.{List, ◌++◌}
 use mathlib.Core.Option.{Option}
 use Prim.Native.Nat.{ℕ, ◌+◌, ◌-◌, ◌≤◌, ◌<◌}
 use native.Mathlib.Omega.{arith}
 use borrow.Author.Tests.{lt-ltb, le-ltb}
-use lib.ListN.{length, take, drop, replicate}
+use lib.Dec.{leb, eqb}
+use Rattle.lists.specs.Compare.{both}
+use lib.ListN.{length, take, drop}
 use Rattle.lists.specs.Below.{Below}
 use Rattle.lists.specs.Optional.{missing, list_of}
 use Rattle.limits.specs.Points.{max_points, first_high}
-use Rattle.std.specs.Prelude.{Option, Some, None}
+use Rattle.std.specs.Prelude.{Option as Wrote, Some, None, Result, Ok, Err}
 use Rattle.outputs.specs.Outputs.{Placed}
 use Rattle.refusals.specs.declared.Refusal.{Refusal}
 use Rattle.refusals.specs.Tests.{refusal, first_of}
@@ -26,56 +28,54 @@ use Rattle.position_codec.specs.declared.recode.Recoded.{Recoded}
 use Rattle.position_codec.specs.declared.recode.Recoded.TheVariants.{Outside, Put}
 use Rattle.position_codec.proofs.Codes.{codable_inside}
 use Rattle.ratio_format.specs.Bodies.{strict_ratios}
-use Rattle.record_format.specs.Fields.{head_size, length_at, body_at, next_at, laid}
-use Rattle.record_format.specs.Runs.{record_of}
-use Rattle.record_format.specs.Reading.{positions_at, rate_in, side_in, count_in, form_in, positions_in, front_tests, record_tests}
+use Rattle.record_format.specs.Fields.{head_size, tag_at, length_at, body_at, next_at, laid}
+use Rattle.record_format.specs.Runs.{positions_tag, record_of}
+use Rattle.record_format.specs.Reading.{positions_at, rate_in, side_in, count_in, form_in, positions_in, front_tests, positions_tests, ratios_tests, record_tests}
 use Rattle.record_format.specs.Checking.{run_in}
 use Rattle.record_format.specs.Moves.{Move, in_form, source_tests, target_tests, refused_move, move_of}
-use Rattle.record_format.specs.declared.MoveAnswer.{MoveAnswer}
+use Rattle.std.specs.Result.{IsErrAnd}
+use Rattle.record_format.specs.declared.Moved.{Moved}
+use Rattle.record_format.specs.Answers.{move_answer}
 use Rattle.record_format.proofs.Reading.Sound.{record_clear}
 use Rattle.record_format.proofs.Writing.{fitting_few, valid_steps}
 use Rattle.record_format.proofs.Moves.{head_of, source_front, source_form, source_points, source_check, source_refused, target_refused, room-refused, move_done, moved-laid, SourceSound, source_sound}
 use Rattle.record_parts.specs.declared.front.Front.{Front}
 use Rattle.record_parts.specs.declared.points.Points.{Points}
-use Rattle.record_parts.specs.Fields.{no_front, FrontFound, FrontRead, PointsRead}
+use Rattle.record_parts.specs.Fields.{RefusedBy, FrontFound, FrontRead, PointsRead}
+use Rattle.record_parts.proofs.Fields.{refused_at, refused_as}
 use Rattle.record_parts.specs.Leads.{lead_fields, RecodedAs}
 use Rattle.record_parts.proofs.putting.Recodings.{recoded_put, recoded_outside}
 use Rattle.outputs.proofs.Outputs.Writers.{short_of, wrote_all}
-use Rattle.record_codec.specs.Answers.{Moved}
-use Rattle.record_codec.specs.Movable.{NotThere, Movable, Opened, ended_move}
+use Rattle.record_codec.specs.Answers.{Moves}
+use Rattle.record_codec.specs.Movable.{NotThere, Movable, Opened}
 
--- a move that is known to be another
-pub moved_as : {m n : Move} {r : MoveAnswer} {p : List ℕ} → n ≡ m → Moved n r p → Moved m r p
-moved_as {m} {n} {r} {p} e h = subst (λ (x : Move). Moved x r p) e h
+-- ---- refusals
 
--- zeros, by the length alone
-pub refused_as : (g : Refusal) (o p : List ℕ) → length p ≡ length o → refused_move g p ≡ refused_move g o
-refused_as g o p e = ap (λ (n : ℕ). record { answer = record { number = g.number; place = g.place; length = 0; used = 0 }; output = replicate n 0 }) e
+module _ (f : Form) (s o p : List ℕ) where
+  -- by the tests of the record that is to be moved
+  pub moves_err : (r : Result Moved Refusal) {g : Refusal} → IsErrAnd r (λ y. y ≡ g) → RefusedBy (source_tests f s) g → Moves (move_of f s o) o r p
+  moves_err (Ok d) h k = absurd h
+  moves_err (Err y) {g} h k = subst (λ (x : Refusal). Moves (move_of f s o) o (Err x) p) (sym h) (source_refused f s o g k.first k.numbered, k.numbered)
+
+  -- with a number that is known
+  pub moves_at : {g : Refusal} (x q : ℕ) → g ≡ refusal x q → (x ≡ 0 → ⊥) → refused_move (refusal x q) o ≡ move_of f s o → Moves (move_of f s o) o (Err g) p
+  moves_at x q e d h = subst (λ (x : Refusal). Moves (move_of f s o) o (Err x) p) (sym e) (h, d)
 
 -- ---- the front
 
-opened_refused : (f : Form) (s : List ℕ) (g : Refusal) → (g.number ≡ 0 → ⊥) → g ≡ first_of (source_tests f s) → (r : Front) → r ≡ no_front g → Opened f s r
-opened_refused f s g d e r q =
-    subst (Opened f s) (sym q) (record { refused = λ _ o. source_refused f s o g e d; movable = λ z. absurd (d z) })
+module _ (f : Form) (s : List ℕ) where
+  pub opened_err : (r : Result Front Refusal) {g : Refusal} → IsErrAnd r (λ y. y ≡ g) → RefusedBy (front_tests 0 s) g → Opened f s r
+  opened_err (Ok h) e k = absurd e
+  opened_err (Err y) e k =
+      subst (RefusedBy (source_tests f s)) (sym e)
+      (record { first = k.first ∙ sym (source_front f s (λ z. k.numbered (ap (λ (x : Refusal). x.number) k.first ∙ z))); numbered = k.numbered })
 
-module _ (f : Form) (s : List ℕ) (g : Front) (h : FrontRead 0 s g) where
-  pub opened_front : (g.refusal.number ≡ 0 → ⊥) → (r : Front) → r ≡ no_front g.refusal → Opened f s r
-  opened_front d = opened_refused f s g.refusal d (h.refuses ∙ sym (source_front f s (λ z. d (ap (λ (x : Refusal). x.number) h.refuses ∙ z))))
-
-  module _ (good : g.refusal.number ≡ 0) where
-    front_clear : (first_of (front_tests 0 s)).number ≡ 0
-    front_clear = sym (ap (λ (x : Refusal). x.number) h.refuses) ∙ good
-
-    -- the form moved to
-    pub opened_form : head_of f s ≡ true → (r : Front) → r ≡ no_front (refusal 11 g.end) → Opened f s r
-    opened_form e = opened_refused f s (refusal 11 g.end) (λ z. omega arith) (ap (refusal 11) (h.found good).count.next ∙ sym (source_form f s front_clear e))
-
-    -- and any other
-    pub opened_good : head_of f s ≡ false → Opened f s g
-    opened_good e = record {
-      refused = λ d. absurd (d good);
-      movable = λ _. record { elsewhere = (front_clear, e); found = h.found good };
-    }
+  -- the form moved to
+  pub opened_form : (h : Front) → FrontRead 0 s (Ok h) → {b : Bool} → b ≡ both (leb (h.end + head_size) (length s)) (eqb (tag_at s h.end) (positions_tag f)) → b ≡ true
+      → {g : Refusal} → g ≡ refusal 11 h.end → RefusedBy (source_tests f s) g
+  opened_form h i is e q =
+      let head : head_of f s ≡ true = sym (ap (λ (p : ℕ). both (leb (p + head_size) (length s)) (eqb (tag_at s p) (positions_tag f))) i.1.count.next) ∙ sym is ∙ e in
+      refused_at 11 h.end q (λ z. omega arith) (ap (refusal 11) i.1.count.next ∙ sym (source_form f s (ap (λ (x : Refusal). x.number) i.0) head))
 
 -- ---- the tests of positions in the form moved to
 
@@ -98,30 +98,28 @@ target_good Wide ts few low = ap (λ (g : Refusal). g.number) (first_of_skip _ _
 -- ---- the points
 
 -- points past a front, in bytes that are to be moved to the form f, whatever outputs they were read with
-pub record PointsFound (f : Form) (s : List ℕ) (h : Front) (g : Points) : Type 0 where
+pub record PointsPast (f : Form) (s : List ℕ) (h : Front) (g : Points) : Type 0 where
   pub bytes : Below 256 s
   pub movable : Movable f s h
   pub ts : List ℕ
   pub vs : List ℕ
   pub ps : List ℕ
   pub qs : List ℕ
-  pub read : PointsRead strict_ratios s ts vs g ps qs
+  pub read : PointsRead strict_ratios s ts vs (Ok g) ps qs
 
-pub points_found : {f : Form} {s ts vs ps qs : List ℕ} {h : Front} {g : Points} → Below 256 s → Movable f s h → PointsRead strict_ratios s ts vs g ps qs → PointsFound f s h g
-points_found {f} {s} {ts} {vs} {ps} {qs} b m r = record { bytes = b; movable = m; ts = ts; vs = vs; ps = ps; qs = qs; read = r }
+pub points_past : {f : Form} {s : List ℕ} {h : Front} {g : Points} → Below 256 s → Movable f s h → (ts vs ps qs : List ℕ) → PointsRead strict_ratios s ts vs (Ok g) ps qs → PointsPast f s h g
+points_past b m ts vs ps qs r = record { bytes = b; movable = m; ts = ts; vs = vs; ps = ps; qs = qs; read = r }
 
-module _ {f : Form} {s : List ℕ} {h : Front} {g : Points} (i : PointsFound f s h g) where
+-- or their refusal
+pub points_stop : {f : Form} {s : List ℕ} {h : Front} → Movable f s h → {g : Refusal} → RefusedBy (positions_tests s ++ ratios_tests strict_ratios s) g → RefusedBy (source_tests f s) g
+points_stop {f} {s} m k = refused_as (source_points f s m.elsewhere.0 m.elsewhere.1) k
+
+module _ {f : Form} {s : List ℕ} {h : Front} {g : Points} (i : PointsPast f s h g) where
   elsewhere : NotThere f s
   elsewhere = i.movable.elsewhere
 
   front : FrontFound s h
   front = i.movable.found
-
-  source_is : g.refusal ≡ first_of (source_tests f s)
-  source_is = i.read.refuses ∙ sym (source_points f s elsewhere.0 elsewhere.1)
-
-  pub points_stop : (g.refusal.number ≡ 0 → ⊥) → (o : List ℕ) → refused_move g.refusal o ≡ move_of f s o
-  points_stop d o = source_refused f s o g.refusal source_is d
 
   -- the body of the positions' field, and the positions in it
   abbrev body : List ℕ
@@ -134,97 +132,96 @@ module _ {f : Form} {s : List ℕ} {h : Front} {g : Points} (i : PointsFound f s
   abbrev field : List ℕ
   field = take (g.end - g.from) (drop g.from s)
 
-  module _ (good : g.refusal.number ≡ 0) where
-    clear : (first_of (source_tests f s)).number ≡ 0
-    clear = sym (ap (λ (x : Refusal). x.number) source_is) ∙ good
+  clear : (first_of (source_tests f s)).number ≡ 0
+  clear = ap (λ (x : Refusal). x.number) (source_points f s elsewhere.0 elsewhere.1 ∙ i.read.0)
 
-    sound : SourceSound s
-    sound = source_sound f s i.bytes elsewhere.1 clear
+  sound : SourceSound s
+  sound = source_sound f s i.bytes elsewhere.1 clear
 
-    -- where they stand
-    body_size : g.from ≡ h.end + head_size + length_at s (positions_at s)
-    unfolding next_at
-    body_size = i.read.from good ∙ ap (λ (p : ℕ). p + head_size + length_at s (positions_at s)) (sym front.count.next)
+  -- where they stand
+  body_size : g.from ≡ h.end + head_size + length_at s (positions_at s)
+  unfolding next_at
+  body_size = i.read.1.from ∙ ap (λ (p : ℕ). p + head_size + length_at s (positions_at s)) (sym front.count.next)
 
-    pub body_order : h.end + head_size ≤ g.from
-    body_order = omega (arith, body_size)
+  pub body_order : h.end + head_size ≤ g.from
+  body_order = omega (arith, body_size)
 
-    pub field_order : (g.from ≤ g.end) × (g.end ≤ length s)
-    field_order = (omega (arith, i.read.from good, i.read.next good, sound.order), omega (arith, i.read.next good, i.read.inside good))
+  pub field_order : (g.from ≤ g.end) × (g.end ≤ length s)
+  field_order = (omega (arith, i.read.1.from, i.read.1.next, sound.order), omega (arith, i.read.1.next, i.read.1.inside))
 
-    body_is : body ≡ body_at s (positions_at s)
-    unfolding body_at
-    body_is =
-        let size : g.from - (h.end + head_size) ≡ length_at s (positions_at s) = omega (arith, body_size) in
-        ap₂ (λ (n p : ℕ). take n (drop (p + head_size) s)) size front.count.next
+  body_is : body ≡ body_at s (positions_at s)
+  unfolding body_at
+  body_is =
+      let size : g.from - (h.end + head_size) ≡ length_at s (positions_at s) = omega (arith, body_size) in
+      ap₂ (λ (n p : ℕ). take n (drop (p + head_size) s)) size front.count.next
 
-    points-are : points ≡ positions_in s
-    points-are =
-        ap₂ (λ (x : Form) (n : ℕ). read_positions (table_of x) n body) (i.read.form good) front.count.counted
-        ∙ ap (λ (l : List ℕ). read_positions (table_of (form_in s)) (count_in s) l) body_is
+  points-are : points ≡ positions_in s
+  points-are =
+      ap₂ (λ (x : Form) (n : ℕ). read_positions (table_of x) n body) (i.read.1.form) front.count.counted
+      ∙ ap (λ (l : List ℕ). read_positions (table_of (form_in s)) (count_in s) l) body_is
 
-    run_are : list_of points ≡ (run_in s).positions
-    run_are = ap list_of points-are
+  run_are : list_of points ≡ (run_in s).positions
+  run_are = ap list_of points-are
 
-    -- the positions are there, and not too many
-    pub body-sound : (missing points ≡ false) × (h.count ≤ max_points)
-    body-sound =
-        let checked : (first_of (record_tests strict_ratios 0 s)).number ≡ 0 = sym (ap (λ (x : Refusal). x.number) (source_check f s (λ _. elsewhere.1))) ∙ clear in
-        (ap missing (points-are ∙ (record_clear strict_ratios 0 s checked).points.1), omega (arith, front.count.counted, front.count.few))
+  -- the positions are there, and not too many
+  pub body-sound : (missing points ≡ false) × (h.count ≤ max_points)
+  body-sound =
+      let checked : (first_of (record_tests strict_ratios 0 s)).number ≡ 0 = sym (ap (λ (x : Refusal). x.number) (source_check f s (λ _. elsewhere.1))) ∙ clear in
+      (ap missing (points-are ∙ (record_clear strict_ratios 0 s checked).points.1), omega (arith, front.count.counted, front.count.few))
 
-    many_is : h.count ≡ length (run_in s).positions
-    many_is = front.count.counted ∙ sound.many
+  many_is : h.count ≡ length (run_in s).positions
+  many_is = front.count.counted ∙ sound.many
 
-    low : length (run_in s).positions ≤ first_high (run_in s).positions
-    low = omega (arith, (valid_parts (table_of (run_in s).form) (run_in s).positions sound.fits.valid).0)
+  low : length (run_in s).positions ≤ first_high (run_in s).positions
+  low = omega (arith, (valid_parts (table_of (run_in s).form) (run_in s).positions sound.fits.valid).0)
 
-    pub many_stop : points_of f < h.count → (o : List ℕ) → refused_move (refusal 3 0) o ≡ move_of f s o
-    many_stop many o =
-        target_refused f s o clear (refusal 3 0) (target_many f (run_in s).positions (fitting_few (run_in s) sound.fits) (omega (arith, many_is))) (λ z. omega arith)
+  pub many_stop : points_of f < h.count → (o : List ℕ) → refused_move (refusal 3 0) o ≡ move_of f s o
+  many_stop many o =
+      target_refused f s o clear (refusal 3 0) (target_many f (run_in s).positions (fitting_few (run_in s) sound.fits) (omega (arith, many_is))) (λ z. omega arith)
 
-    -- what the writer of the record says
-    module _ (o p : List ℕ) (r : Recoded) (put : RecodedAs f (list_of points) (laid (lead_fields h.rate h.side f (list_of points)) ++ field) r o p) where
-      abbrev moved : List ℕ
-      moved = record_of (in_form f (run_in s))
+  -- what the writer of the record says
+  module _ (o p : List ℕ) (r : Recoded) (put : RecodedAs f (list_of points) (laid (lead_fields h.rate h.side f (list_of points)) ++ field) r o p) where
+    abbrev moved : List ℕ
+    moved = record_of (in_form f (run_in s))
 
-      bytes_are : laid (lead_fields h.rate h.side f (list_of points)) ++ field ≡ moved
-      bytes_are =
-          ap₂ (λ (x y : List ℕ). x ++ y)
-          (ap₂ (λ (x y : ℕ). laid (lead_fields x y f (list_of points))) front.rate front.side ∙ ap (λ (l : List ℕ). laid (lead_fields (rate_in s) (side_in s) f l)) run_are)
-          (ap₂ (λ (a b : ℕ). take (b - a) (drop a s)) (i.read.from good) (i.read.next good) ∙ sound.ratios)
-          ∙ sym (moved-laid f (run_in s))
+    bytes_are : laid (lead_fields h.rate h.side f (list_of points)) ++ field ≡ moved
+    bytes_are =
+        ap₂ (λ (x y : List ℕ). x ++ y)
+        (ap₂ (λ (x y : ℕ). laid (lead_fields x y f (list_of points))) front.rate front.side ∙ ap (λ (l : List ℕ). laid (lead_fields (rate_in s) (side_in s) f l)) run_are)
+        (ap₂ (λ (a b : ℕ). take (b - a) (drop a s)) (i.read.1.from) (i.read.1.next) ∙ sound.ratios)
+        ∙ sym (moved-laid f (run_in s))
 
-      put_record : RecodedAs f (run_in s).positions moved r o p
-      put_record = subst (λ (l : List ℕ). RecodedAs f (run_in s).positions l r o p) bytes_are (subst (λ (l : List ℕ). RecodedAs f l (laid (lead_fields h.rate h.side f (list_of points)) ++ field) r o p) run_are put)
+    put_record : RecodedAs f (run_in s).positions moved r o p
+    put_record = subst (λ (l : List ℕ). RecodedAs f (run_in s).positions l r o p) bytes_are (subst (λ (l : List ℕ). RecodedAs f l (laid (lead_fields h.rate h.side f (list_of points)) ++ field) r o p) run_are put)
 
-      -- a step outside
-      module _ (k : ℕ) (e : r ≡ Outside k) where
-        outside_is : (k ≡ first_outside (table_of f) (run_in s).positions) × (k < length (run_in s).positions)
-        outside_is = recoded_outside f (run_in s).positions moved o p r put_record e moved o p
+    -- a step outside
+    module _ (k : ℕ) (e : r ≡ Outside k) where
+      outside_is : (k ≡ first_outside (table_of f) (run_in s).positions) × (k < length (run_in s).positions)
+      outside_is = recoded_outside f (run_in s).positions moved o p r put_record e moved o p
 
-        pub outside_low : k ≤ max_points
-        outside_low = omega (arith, outside_is.1, fitting_few (run_in s) sound.fits)
+      pub outside_low : k ≤ max_points
+      outside_low = omega (arith, outside_is.1, fitting_few (run_in s) sound.fits)
 
-        pub outside_stop : refused_move (refusal 5 k) o ≡ move_of f s o
-        outside_stop =
-            target_refused f s o clear (refusal 5 k)
-            (ap (refusal 5) outside_is.0 ∙ target_outside f (run_in s).positions low (omega (arith, outside_is.0, outside_is.1))) (λ z. omega arith)
+      pub outside_stop : refused_move (refusal 5 k) o ≡ move_of f s o
+      outside_stop =
+          target_refused f s o clear (refusal 5 k)
+          (ap (refusal 5) outside_is.0 ∙ target_outside f (run_in s).positions low (omega (arith, outside_is.0, outside_is.1))) (λ z. omega arith)
 
-      -- or none: the record, or no room for it
-      module _ (few : h.count ≤ points_of f) (w : (Option ℕ)) (e : r ≡ Put w) where
-        wrote : CodablePositions f (run_in s).positions × Placed moved w o p
-        wrote = recoded_put f (run_in s).positions moved o p r put_record e
+    -- or none: the record, or no room for it
+    module _ (few : h.count ≤ points_of f) (w : Wrote ℕ) (e : r ≡ Put w) where
+      wrote : CodablePositions f (run_in s).positions × Placed moved w o p
+      wrote = recoded_put f (run_in s).positions moved o p r put_record e
 
-        target_clear : (first_of (target_tests f (run_in s).positions)).number ≡ 0
-        target_clear = target_good f (run_in s).positions (omega (arith, many_is)) wrote.0
+      target_clear : (first_of (target_tests f (run_in s).positions)).number ≡ 0
+      target_clear = target_good f (run_in s).positions (omega (arith, many_is)) wrote.0
 
-        pub move_ends : length p ≡ length o → ended_move w g.end p ≡ move_of f s o
-        move_ends same = go w refl
-          where
-            go : (v : (Option ℕ)) → w ≡ v → ended_move v g.end p ≡ move_of f s o
-            go (Some n) is =
-                let a = wrote_all moved o p w wrote.1 n is in
-                ap₂ (λ (x : MoveAnswer) (l : List ℕ). record { answer = x; output = l })
-                (ap₂ (λ (x y : ℕ). record { number = 0; place = 0; length = x; used = y }) a.0 (i.read.next good)) a.2
-                ∙ move_done f s o clear target_clear a.1
-            go None is = refused_as (refusal 6 0) o p same ∙ room-refused f s o clear target_clear (short_of moved o p w wrote.1 is)
+      pub move_short : w ≡ None → refused_move (refusal 6 0) o ≡ move_of f s o
+      move_short is = room-refused f s o clear target_clear (short_of moved o p w wrote.1 is)
+
+      pub move_ends : (n : ℕ) → w ≡ Some n → Moves (move_of f s o) o (Ok (record { length = n; used = g.end })) p
+      move_ends n is =
+          let a = wrote_all moved o p w wrote.1 n is in
+          let done = move_done f s o clear target_clear a.1 in (
+            ap₂ (λ (x y : ℕ). move_answer (Ok (record { length = x; used = y }))) a.0 i.read.1.next ∙ ap (λ (m : Move). m.answer) done,
+            a.2 ∙ ap (λ (m : Move). m.output) done,
+          )

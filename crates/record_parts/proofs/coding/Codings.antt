@@ -21,12 +21,14 @@ use Rattle.position_format.specs.Positions.{read_positions}
 use Rattle.position_format.specs.Tables.{table_of, points_of}
 use Rattle.ratio_format.specs.Bodies.{Taken, whole_taken}
 use Rattle.record_format.specs.Fields.{head_size, tag_at, length_at, body_at, next_at, head_tests, field_tests}
-use Rattle.record_format.specs.Runs.{positions_tags}
-use Rattle.record_format.specs.Reading.{count_at, positions_at, count_in, form_in, positions_tests}
+use Rattle.record_format.specs.Runs.{positions_tags, ratios_tag}
+use Rattle.record_format.specs.Reading.{count_at, positions_at, count_in, form_in, positions_tests, ratios_tests}
 use Rattle.record_format.proofs.Reading.{positions_few, positions_many, many_tag}
 use Rattle.record_parts.specs.declared.field.FieldBody.{FieldBody}
-use Rattle.record_parts.specs.Fields.{PartRead, FieldRead, FoundInto, CodedRead}
-use Rattle.record_parts.proofs.Fields.{part_refused, part_first, part_then, part_both, field_numbered}
+use Rattle.std.specs.Prelude.{Ok}
+use Rattle.record_parts.specs.declared.coding.Reading.{Reading}
+use Rattle.record_parts.specs.Fields.{RefusedBy, FieldFound, FieldRead, FoundInto, CodedRead, ratios_by, RatiosDue}
+use Rattle.record_parts.proofs.Fields.{refused_first, refused_as, refused_at, past_clear}
 
 -- ---- a list that was read into an output, or not
 
@@ -56,73 +58,57 @@ into-some x c b o q f e = not-true (missing x) (sym f.0 ∙ e)
 
 -- ---- fields
 
+-- a field's body, as it is lent
+module _ (s : List ℕ) (p : ℕ) (f : FieldBody) (h : FieldFound s p f) where
+  pub body_order : f.from ≤ f.to
+  unfolding next_at
+  body_order = omega (arith, h.from, h.part.next)
+
+  body_lent : take (f.to - f.from) (drop f.from s) ≡ body_at s p
+  unfolding body_at next_at
+  body_lent =
+      let e : f.to - f.from ≡ length_at s p = omega (arith, h.from, h.part.next) in
+      ap₂ (λ (n m : ℕ). take n (drop m s)) e h.from
+
 -- the tests of the field at p, whose body the reading k takes, or else the number x
 abbrev pub coded_tests : List ℕ → List ℕ → (List ℕ → Option (List ℕ)) → ℕ → ℕ → List Test
 coded_tests s tags k x p = field_tests s tags none p ++ (test (missing (k (body_at s p))) x p ∷ [])
 
--- a part by tests that give the same refusal
-part_as : (us ts : List Test) (s : List ℕ) (p : ℕ) (f : Refusal) (e : ℕ) → first_of us ≡ first_of ts → PartRead ts s p f e → PartRead us s p f e
-part_as us ts s p f e same h = record { refuses = h.refuses ∙ sym same; next = h.next; inside = h.inside; near = h.near }
-
--- the field at the offset p that is read, where the tests us give the same refusal as its own
-pub record CodedField (us : List Test) (tags : List ℕ) (k : List ℕ → Option (List ℕ)) (x : ℕ) (s : List ℕ) (p : ℕ) (f : FieldBody) : Type 0 where
+-- the field at the offset p, where the tests us give the same refusal as its own
+pub record CodedField (us : List Test) (tags : List ℕ) (k : List ℕ → Option (List ℕ)) (x : ℕ) (s : List ℕ) (p : ℕ) : Type 0 where
   pub numbered : x ≡ 0 → ⊥
   pub same : first_of us ≡ first_of (coded_tests s tags k x p)
-  pub read : FieldRead (field_tests s tags none p) s p f
 
 -- by its tests and its body
-module _ {us : List Test} {tags : List ℕ} {k : List ℕ → Option (List ℕ)} {x : ℕ} {s : List ℕ} {p : ℕ} {f : FieldBody} (h : CodedField us tags k x s p f) where
+module _ {us : List Test} {tags : List ℕ} {k : List ℕ → Option (List ℕ)} {x : ℕ} {s : List ℕ} {p : ℕ} (h : CodedField us tags k x s p) where
   abbrev fs : List Test
   fs = field_tests s tags none p
 
   abbrev ts : List Test
   ts = test (missing (k (body_at s p))) x p ∷ []
 
-  pub coded-refused : (c : ℕ) (o q : List ℕ) → (f.refusal.number ≡ 0 → ⊥) → CodedRead us k c s p (record { refusal = f.refusal; end = 0 }) o q
-  coded-refused c o q d = record {
-    part = part_refused us s p f.refusal 0 d ((part_first fs ts s p f.refusal f.to (field_numbered s tags none p) h.read.part d).refuses ∙ sym h.same);
-    filled = λ z. absurd (d z);
-  }
+  pub coded-refused : {g : Refusal} → RefusedBy fs g → RefusedBy us g
+  coded-refused r = refused_as h.same (refused_first ts r)
 
-  module _ (clear : f.refusal.number ≡ 0) where
-    pub body_order : f.from ≤ f.to
-    unfolding next_at
-    body_order = omega (arith, h.read.from clear, h.read.part.next clear)
-
-    pub body_inside : f.to ≤ length s
-    body_inside = omega (arith, h.read.part.next clear, h.read.part.inside clear)
-
-    body_lent : take (f.to - f.from) (drop f.from s) ≡ body_at s p
-    unfolding body_at next_at
-    body_lent =
-        let e : f.to - f.from ≡ length_at s p = omega (arith, h.read.from clear, h.read.part.next clear) in
-        ap₂ (λ (n m : ℕ). take n (drop m s)) e (h.read.from clear)
+  module _ (f : FieldBody) (i : FieldRead fs s p (Ok f)) where
+    past_field : first_of us ≡ first_of ts
+    past_field = h.same ∙ past_clear fs ts refl i.0
 
     module _ (c : ℕ) (b : Bool) (o q : List ℕ) (got : FoundInto (k (take (f.to - f.from) (drop f.from s))) c b o q) where
       got_body : FoundInto (k (body_at s p)) c b o q
-      got_body = subst (λ (l : List ℕ). FoundInto (k l) c b o q) body_lent got
+      got_body = subst (λ (l : List ℕ). FoundInto (k l) c b o q) (body_lent s p f i.1) got
 
-      pub coded_none : b ≡ false → CodedRead us k c s p (record { refusal = refusal x p; end = 0 }) o q
-      coded_none e =
-          let g = sym (first_of_here _ _ (into-none (k (body_at s p)) c b o q got_body e)) in
-          record {
-            part = part_as us (fs ++ ts) s p (refusal x p) 0 h.same
-                (part_then fs ts s p f.refusal f.to (field_numbered s tags none p) h.read.part clear (refusal x p) 0 g h.numbered);
-            filled = λ z. absurd (h.numbered z);
-          }
+      pub coded_none : b ≡ false → {g : Refusal} → g ≡ refusal x p → RefusedBy us g
+      coded_none e q' = refused_at x p q' h.numbered (sym (past_field ∙ first_of_here _ _ (into-none (k (body_at s p)) c b o q got_body e)))
 
-      pub coded-found : b ≡ true → CodedRead us k c s p (record { refusal = f.refusal; end = f.to }) o q
+      pub coded-found : b ≡ true → CodedRead us k c s p (Ok f.to) o q
       coded-found e =
           let g = into-some (k (body_at s p)) c b o q got_body e in
-          record {
-            part = part_as us (fs ++ ts) s p f.refusal f.to h.same
-                (part_both fs ts s p f.refusal f.to (field_numbered s tags none p) h.read.part clear (first_of_skip _ _ g ∙ first_of_end));
-            filled = λ _. got_body.1 g;
-          }
+          (past_field ∙ first_of_skip _ _ g ∙ first_of_end, record { part = i.1.part; filled = got_body.1 g })
 
 -- a cut head decides, whatever tests follow
-head_cut : (s tags : List ℕ) (p : ℕ) (us ts : List Test) → ltb (length s) (p + head_size) ≡ true → first_of (head_tests s tags p ++ us) ≡ first_of (head_tests s tags p ++ ts)
-head_cut s tags p us ts cut = first_of_here _ _ cut ∙ sym (first_of_here _ _ cut)
+head_cut : (s tags : List ℕ) (p : ℕ) (xs ys : List Test) → ltb (length s) (p + head_size) ≡ true → first_of (head_tests s tags p ++ xs) ≡ first_of (head_tests s tags p ++ ys)
+head_cut s tags p xs ys cut = first_of_here _ _ cut ∙ sym (first_of_here _ _ cut)
 
 -- ---- the positions' field, by whether its head is whole and its form has fewer points than the count
 
@@ -142,7 +128,7 @@ module _ (s : List ℕ) (form : Form) (count at : ℕ) (is : form ≡ form_in s)
       ∙ positions_many s [] (leb-true _ _ p.0) (many_tag (tag_at s (positions_at s)) (count_in s) (omega arith) (ltb-true _ _ p.1)) p.1
 
   -- and else its tests are those of any field of coded numbers
-  pub many_passed : t ≡ false → first_of (positions_tests s) ≡ first_of (coded_tests s positions_tags (read_positions (table_of form) count) 17 at)
+  many_passed : t ≡ false → first_of (positions_tests s) ≡ first_of (coded_tests s positions_tags (read_positions (table_of form) count) 17 at)
   many_passed e =
       go (leb (positions_at s + head_size) (length s)) refl
       ∙ ap₂ (λ (p c : ℕ). first_of (coded_tests s positions_tags (read_positions (table_of (form_in s)) c) 17 p)) (sym here) (sym counted)
@@ -154,3 +140,14 @@ module _ (s : List ℕ) (form : Form) (count at : ℕ) (is : form ≡ form_in s)
       go false q =
           let cut : ltb (length s) (positions_at s + head_size) ≡ true = lt-ltb (length s) (positions_at s + head_size) (leb-false (positions_at s + head_size) (length s) q) in
           head_cut s positions_tags (positions_at s) _ _ cut
+
+  pub positions_coded : t ≡ false → CodedField (positions_tests s) positions_tags (read_positions (table_of form) count) 17 s at
+  positions_coded e = record { numbered = λ z. omega arith; same = many_passed e }
+
+-- ---- the ratios' field
+
+pub ratios_coded : (r : Reading) (s : List ℕ) (p c : ℕ) → RatiosDue s p c → CodedField (ratios_tests (ratios_by r) s) (ratios_tag ∷ []) (ratios_by r c) 18 s p
+ratios_coded r s p c h = record {
+  numbered = λ z. omega arith;
+  same = ap₂ (λ (m q : ℕ). first_of (coded_tests s (ratios_tag ∷ []) (ratios_by r m) 18 q)) (sym h.counted) (sym h.here);
+}

@@ -10,7 +10,7 @@ use borrow.Rule.Slice.PartMut.{put_mid}
 use Rattle.lists.specs.Optional.{missing, list_of}
 use Rattle.bits.specs.Digits.{bytes_of}
 use Rattle.outputs.specs.Outputs.{over, Placed}
-use Rattle.std.specs.Prelude.{Option, Some, None}
+use Rattle.std.specs.Prelude.{Option as Wrote, Some, None}
 use Rattle.position_format.specs.declared.Form.{Form}
 use Rattle.position_format.specs.Tables.{table_of}
 use Rattle.position_format.specs.Positions.{coded_positions, read_positions}
@@ -21,8 +21,8 @@ use Rattle.position_codec.specs.declared.recode.Recoded.{Recoded}
 use Rattle.position_codec.specs.declared.recode.Recoded.TheVariants.{Outside, Put}
 use Rattle.record_format.specs.Fields.{length_size, head_size, laid}
 use Rattle.record_format.specs.Runs.{positions_tag, positions_field}
-use Rattle.record_parts.specs.Leads.{RecodedAs, RecodedNowhere}
-use Rattle.record_parts.proofs.putting.Writings.{field_none, field_fits, field_done}
+use Rattle.record_parts.specs.Leads.{RecodedAs}
+use Rattle.record_parts.proofs.putting.Writings.{field_none, field_done}
 
 -- as many are read as are asked for
 pub length-read : (f : Form) (n : ℕ) (body : List ℕ) → missing (read_positions (table_of f) n body) ≡ false
@@ -41,7 +41,7 @@ module _ (f : Form) (ts : List ℕ) where
 
   module _ (bs o p : List ℕ) (r : Recoded) (h : RecodedAs f ts bs r o p) where
     -- what was put
-    pub recoded_put : {w : (Option ℕ)} → r ≡ Put w → CodablePositions f ts × Placed bs w o p
+    pub recoded_put : {w : Wrote ℕ} → r ≡ Put w → CodablePositions f ts × Placed bs w o p
     recoded_put {w} e = subst (λ (x : Recoded). RecodedAs f ts bs x o p) e h
 
     -- a step outside the table is told of any bytes, and of any output
@@ -52,7 +52,7 @@ module _ (f : Form) (ts : List ℕ) where
     outside_as e cs q l = subst (λ (x : Recoded). RecodedAs f ts cs x q l) (sym e) (recoded_outside e cs q l)
 
   -- the body past a head, and then the head
-  module _ (o q : List ℕ) (r : Recoded) (w : (Option ℕ)) (e : r ≡ Put w) (h : head_size ≤ length o)
+  module _ (o q : List ℕ) (r : Recoded) (w : Wrote ℕ) (e : r ≡ Put w) (h : head_size ≤ length o)
       (put : RecodedInto f ts r (take (length o - head_size) (drop head_size o)) q) where
     abbrev body : List ℕ
     body = coded_positions (table_of f) ts
@@ -64,17 +64,6 @@ module _ (f : Form) (ts : List ℕ) where
     recoded_none short = (body_put.0, field_none (positions_tag f) body o q w h body_put.1 short)
 
     module _ (n : ℕ) (done : w ≡ Some n) where
-      pub recoded_fits : n + head_size ≤ length o
-      recoded_fits = field_fits (positions_tag f) body o q w h body_put.1 n done
-
       pub recoded_done : (l : List ℕ) (t : ℕ) → t ≡ positions_tag f → l ≡ over (t ∷ bytes_of length_size n) (put_mid head_size (length o - head_size) o q)
           → RecodedAs f ts (laid (positions_field f ts ∷ [])) (Put (Some (n + head_size))) o l
       recoded_done l t tagged g = (body_put.0, field_done (positions_tag f) body o q w h body_put.1 n done l t tagged g)
-
-  -- no output has room
-  module _ (o p : List ℕ) (r : Recoded) (h : RecodedInto f ts r o p) where
-    pub nowhere_outside : {i : ℕ} → r ≡ Outside i → RecodedNowhere f ts (Outside i)
-    nowhere_outside e bs q l short = recoded_outside _ o p r (recoded_body r o p h) e bs q l
-
-    pub nowhere_put : {w : (Option ℕ)} → r ≡ Put w → RecodedNowhere f ts (Put None)
-    nowhere_put e bs q l short = ((recoded_put _ o p r (recoded_body r o p h) e).0, short)

@@ -1,19 +1,19 @@
 -- Laws of a record as it is written: a head, a field, and fields after others, put at the front of an output.
 use mathlib.Core.Path.{◌≡◌, refl, sym, ap, ap₂, ◌∙◌, subst}
-use mathlib.Core.List.{List, [], ◌∷◌, ◌++◌, append_assoc, append-nil}
+use mathlib.Core.List.{List, [], ◌∷◌, ◌++◌, append_assoc}
 use Prim.Native.Nat.{ℕ, zero, suc, ◌+◌, ◌-◌, ◌≤◌, ◌<◌}
 use native.Mathlib.Omega.{arith}
-use lib.ListN.{length, take, drop, length-drop}
+use lib.ListN.{length, take, drop, length-append, length-drop}
 use lib.Seq.{take_at, drop_at, drop-drop, length-take-le}
 use borrow.Rule.Slice.PartMut.{put_mid}
 use Rattle.bits.specs.Digits.{bytes_of}
-use Rattle.outputs.specs.Outputs.{over, over_at, Placed, both_wrote, Next}
+use Rattle.outputs.specs.Outputs.{over, over_at, Placed, both_wrote}
 use Rattle.bits.proofs.Digits.{length_digits}
 use Rattle.outputs.proofs.Outputs.Parts.{rest_is, put_rest}
-use Rattle.outputs.proofs.Outputs.Writers.{rest_left, next_short, both_fit, next_placed}
+use Rattle.outputs.proofs.Outputs.Writers.{next_placed}
 use Rattle.std.specs.Prelude.{Option, Some, None}
 use Rattle.record_format.specs.Fields.{Field, field_of, length_size, head_size, field_bytes, laid}
-use Rattle.record_format.specs.Runs.{side_tag, side_size, side_fields}
+use Rattle.record_format.specs.Runs.{side_fields}
 use Rattle.record_format.proofs.Fields.{length_field, length-laid, laid-append, laid_one}
 
 -- ---- a head, and a field of a number
@@ -46,7 +46,7 @@ module _ (o p q : List ℕ) (tag n x : ℕ) (h : p ≡ over (tag ∷ bytes_of le
       ∙ sym (append_assoc (tag ∷ bytes_of length_size (length (bytes_of n x))) (bytes_of n x) (drop (length (field_bytes (field_of tag (bytes_of n x)))) o))
 
 -- one field, laid
-one-laid : (f : Field) (o p : List ℕ) (w : (Option ℕ)) → Placed (field_bytes f) w o p → Placed (laid (f ∷ [])) w o p
+one-laid : (f : Field) (o p : List ℕ) (w : Option ℕ) → Placed (field_bytes f) w o p → Placed (laid (f ∷ [])) w o p
 one-laid f o p w put = subst (λ (l : List ℕ). Placed l w o p) (sym (laid_one f)) put
 
 -- how much room a field of a number takes
@@ -61,18 +61,18 @@ number_done o q tag n x h e =
 -- ---- one part after another
 
 -- a body put past the head, by what its writer answers, and then the head
-module _ (tag : ℕ) (body o q : List ℕ) (w : (Option ℕ)) (h : head_size ≤ length o) (put : Placed body w (take (length o - head_size) (drop head_size o)) q) where
+module _ (tag : ℕ) (body o q : List ℕ) (w : Option ℕ) (h : head_size ≤ length o) (put : Placed body w (take (length o - head_size) (drop head_size o)) q) where
   past_head : Placed body w (drop head_size o) q
   past_head = subst (λ (l : List ℕ). Placed body w l q) (rest_is head_size o) put
 
   pub field_none : w ≡ None → length o < length (laid (field_of tag body ∷ []))
   field_none e =
-      let g : Placed body None (drop head_size o) q = subst (λ (x : (Option ℕ)). Placed body x (drop head_size o) q) e past_head in
+      let g : Placed body None (drop head_size o) q = subst (λ (x : Option ℕ). Placed body x (drop head_size o) q) e past_head in
       omega (arith, length-drop head_size o, length-laid (field_of tag body ∷ []))
 
   module _ (n : ℕ) (e : w ≡ Some n) where
     body_done : Placed body (Some n) (drop head_size o) q
-    body_done = subst (λ (x : (Option ℕ)). Placed body x (drop head_size o) q) e past_head
+    body_done = subst (λ (x : Option ℕ). Placed body x (drop head_size o) q) e past_head
 
     pub field_fits : n + head_size ≤ length o
     field_fits = omega (arith, body_done.0, body_done.1, length-drop head_size o)
@@ -95,41 +95,26 @@ module _ (tag : ℕ) (body o q : List ℕ) (w : (Option ℕ)) (h : head_size ≤
 
 -- ---- fields, and then more fields in the rest
 
-pub fields_next : (fs gs all : List Field) → all ≡ fs ++ gs → (w v : (Option ℕ)) (o p q : List ℕ) → Next (laid gs) w v p q → Placed (laid fs) w o p → Placed (laid all) v o q
-fields_next fs gs all is w v o p q next put = subst (λ (l : List ℕ). Placed l v o q) (sym (ap laid is ∙ laid-append fs gs)) (next (laid fs) o put)
+-- no room for the first
+pub first_short : (fs gs : List Field) {all : List Field} → all ≡ fs ++ gs → (o : List ℕ) → length o < length (laid fs) → length o < length (laid all)
+first_short fs gs both o short = omega (arith, short, ap (λ (l : List Field). length (laid l)) both, ap length (laid-append fs gs), length-append (laid fs) (laid gs))
 
--- a writer put the fields fs into o, which is now p, and said w; gs are to come in the rest, and then all are there
-pub record FirstLaid (fs gs all : List Field) (w : (Option ℕ)) (o p : List ℕ) : Type 0 where
+-- a writer put the fields fs into o, which is now p, and they took n bytes; gs are to come in the rest, and then all are there
+pub record FirstLaid (fs gs all : List Field) (n : ℕ) (o p : List ℕ) : Type 0 where
   pub both : all ≡ fs ++ gs
-  pub put : Placed (laid fs) w o p
+  pub put : Placed (laid fs) (Some n) o p
 
-module _ {fs gs all : List Field} {w : (Option ℕ)} {o p : List ℕ} (h : FirstLaid fs gs all w o p) where
-  -- no room for the first
-  pub first-laid_short : w ≡ None → length o < length (laid all)
-  first-laid_short e = subst (λ (l : List ℕ). length o < length l) (sym (ap laid h.both ∙ laid-append fs gs)) (next_short (laid gs) p w e (laid fs) o h.put)
-
-  -- they took n bytes
-  module _ {n : ℕ} (e : w ≡ Some n) where
-    pub first-laid_inside : n ≤ length p
-    first-laid_inside = rest_left (laid fs) o p w h.put n e
-
-    -- and another said v of the others, in the rest, which is now q
-    module _ (v : (Option ℕ)) (q : List ℕ) (next : Placed (laid gs) v (take (length p - n) (drop n p)) q) where
-      pub first-laid_fits : (m : ℕ) → v ≡ Some m → n + m ≤ length o
-      first-laid_fits = both_fit (laid gs) p w n e q v next (laid fs) o h.put
-
-      pub first-laid_done : (r : (Option ℕ)) → r ≡ both_wrote n v → Placed (laid all) r o (put_mid n (length p - n) p q)
-      first-laid_done r is = fields_next fs gs all h.both w r o p _ (next_placed (laid gs) p w n e q v next r is) h.put
+-- another said v of the others, in the rest, which is now q
+module _ {fs gs all : List Field} {n : ℕ} {o p : List ℕ} (h : FirstLaid fs gs all n o p) (q : List ℕ) where
+  pub first-laid_then : (v : Option ℕ) → Placed (laid gs) v (take (length p - n) (drop n p)) q → Placed (laid all) (both_wrote n v) o (put_mid n (length p - n) p q)
+  first-laid_then v next =
+      subst (λ (l : List ℕ). Placed l (both_wrote n v) o (put_mid n (length p - n) p q)) (sym (ap laid h.both ∙ laid-append fs gs))
+      (next_placed (laid gs) p (Some n) n refl q v next (both_wrote n v) refl (laid fs) o h.put)
 
 -- ---- the side's field, if there is one
 
 -- no side takes no byte
-pub side_none : (n : ℕ) → n ≡ 0 → (w : (Option ℕ)) (p : List ℕ) → Next (laid (side_fields n)) w w p p
+pub side_none : (n : ℕ) → n ≡ 0 → (o : List ℕ) → Placed (laid (side_fields n)) (Some 0) o o
 unfolding laid
-side_none zero e w p xs o put = subst (λ (l : List ℕ). Placed l w o p) (sym (append-nil xs)) put
-side_none (suc n) e w p xs o put = absurd (omega arith)
-
--- any other is one field
-pub side_one : (n : ℕ) → (n ≡ 0 → ⊥) → side_fields n ≡ field_of side_tag (bytes_of side_size n) ∷ []
-side_one zero d = absurd (d refl)
-side_one (suc n) d = refl
+side_none zero e o = (refl, omega arith, refl)
+side_none (suc n) e o = absurd (omega arith)

@@ -13,7 +13,7 @@ returns-then-b-s c =
     let s = c.args.s.now in
     let at = c.args.at in
     let e : 8 * (at / 8) + at % 8 ≡ at = omega arith in
-    moved_front s (below_of 256 s (λ i. (c.shared_slice_known-1.given i).fits)) (at / 8) (at % 8) c.get_bytes.result c.if-b-s.true (omega arith) c.get_bytes.ensures.0 57 (omega arith)
+    moved_front s (below_of 256 s (λ i. (c.type_inv.s i).fits)) (at / 8) (at % 8) c.get_bytes.result c.if-b-s.true (omega arith) c.get_bytes.ensures.0 57 (omega arith)
     ∙ ap (λ (m : ℕ). ahead 57 (drop m (bits s))) e
 
 pub returns : goal.returns
@@ -22,5 +22,5 @@ returns c =
     let at = c.args.at in
     let last = length s - 8 in
     let e : 8 * last + (at - 8 * last) ≡ at = omega arith in
-    moved_last s (below_of 256 s (λ i. (c.shared_slice_known-1.given i).fits)) last (at - 8 * last) c.get_bytes-2.result (omega arith) (omega arith) c.get_bytes-2.ensures.0 (omega arith) 57 (omega arith)
+    moved_last s (below_of 256 s (λ i. (c.type_inv.s i).fits)) last (at - 8 * last) c.get_bytes-2.result (omega arith) (omega arith) c.get_bytes-2.ensures.0 (omega arith) 57 (omega arith)
     ∙ ap (λ (m : ℕ). ahead 57 (drop m (bits s))) e

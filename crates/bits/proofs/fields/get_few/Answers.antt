@@ -6,4 +6,4 @@ use Rattle.bits.proofs.fields.get_few.Goals as goal
 pub returns : goal.returns
 returns c =
     let a = c.args in
-    field_one a.s.now a.at a.k c.get_bytes-x.result c.requires.0 c.requires.1 (below_of 256 a.s.now (λ i. (c.shared_slice_known-1.given i).fits)) c.get_bytes-x.ensures.0
+    field_one a.s.now a.at a.k c.get_bytes-x.result c.requires.0 c.requires.1 (below_of 256 a.s.now (λ i. (c.type_inv.s i).fits)) c.get_bytes-x.ensures.0

@@ -8,4 +8,4 @@ use Rattle.position_format.proofs.Tables.WideRows.{old-test}
 use Rattle.position_codec.proofs.table.in_table.Goals as goal
 
 pub returns : goal.returns
-returns c = c.in_row.ensures ∙ ap (holds (get_or wide_rows 4 no_row)) (to_z-of_z w64 c.args.z c.ranges.z) ∙ old-test c.args.z
+returns c = c.holds.ensures ∙ ap (holds (get_or wide_rows 4 no_row)) (to_z-of_z w64 c.args.z c.ranges.z) ∙ old-test c.args.z

@@ -26,8 +26,8 @@ step_at-z-requires c = (c.requires.0, c.requires.1.here, codable_range c.args.fo
 pub lay-requires : goal.lay-requires
 lay-requires c =
     let valid : valid_positions (table_of c.args.form) c.args.positions.now ≡ true = codable_valid c.args.form c.args.positions.now c.requires.1.codable in
-    let small : c.args.s.at + 8 ≤ 2 ^ 32 = omega (arith, c.requires.3.size, c.requires.1.many, point_place (table_of c.args.form) c.args.positions.now c.args.i (omega (arith, c.requires.1.here)), bits_few c.args.form c.args.positions.now valid c.requires.1.many) in
-    (omega (arith, small), c.requires.2, omega arith, omega arith)
+    let small : c.args.s.at + 8 ≤ 2 ^ 32 = omega (arith, c.requires.2.size, c.requires.1.many, point_place (table_of c.args.form) c.args.positions.now c.args.i (omega (arith, c.requires.1.here)), bits_few c.args.form c.args.positions.now valid c.requires.1.many) in
+    (omega (arith, small), omega arith, omega arith)
 
 pub returns-then-z-eq0 : goal.returns-then-z-eq0
 returns-then-z-eq0 c =
@@ -35,8 +35,8 @@ returns-then-z-eq0 c =
     let after_it : position_bits (table_of c.args.form) (take (c.args.i + 1) c.args.positions.now) ≡ (position_bits (table_of c.args.form) (take c.args.i c.args.positions.now)) ++ code (table_of c.args.form) (step_here c.args.positions.now c.args.i) = point_step (table_of c.args.form) c.args.positions.now c.args.i c.requires.0 c.requires.1.here in
     let zero : pos 0 ≡ step_here c.args.positions.now c.args.i = sym (ap (to_z w64) c.if-z-eq0.true) ∙ step_is in
     let bits : bits_of 1 0 ≡ code (table_of c.args.form) (step_here c.args.positions.now c.args.i) = (zero_row (most_bits c.args.form) (table_of c.args.form) (form_sound c.args.form)).code ∙ ap (code (table_of c.args.form)) zero in
-    let f = rw (bits, ← after_it) at (c.lay.ensures.2 (position_bits (table_of c.args.form) (take c.args.i c.args.positions.now)) c.requires.3) in
-    (c.lay.ensures.1, f.0, f.1)
+    let f = rw (bits, ← after_it) at (c.lay.ensures.1 (position_bits (table_of c.args.form) (take c.args.i c.args.positions.now)) c.requires.2) in
+    (f.0, f.1)
 
 pub code_of-c-requires : goal.code_of-c-requires
 code_of-c-requires c =
@@ -46,12 +46,12 @@ code_of-c-requires c =
 pub lay_both-requires : goal.lay_both-requires
 lay_both-requires c =
     let valid : valid_positions (table_of c.args.form) c.args.positions.now ≡ true = codable_valid c.args.form c.args.positions.now c.requires.1.codable in
-    let small : c.args.s.at + 8 ≤ 2 ^ 32 = omega (arith, c.requires.3.size, c.requires.1.many, point_place (table_of c.args.form) c.args.positions.now c.args.i (omega (arith, c.requires.1.here)), bits_few c.args.form c.args.positions.now valid c.requires.1.many) in
-    (small, c.requires.2, c.code_of-c.ensures.prefixed, c.code_of-c.ensures.short, c.code_of-c.ensures.prefix, c.code_of-c.ensures.narrow, c.code_of-c.ensures.rest)
+    let small : c.args.s.at + 8 ≤ 2 ^ 32 = omega (arith, c.requires.2.size, c.requires.1.many, point_place (table_of c.args.form) c.args.positions.now c.args.i (omega (arith, c.requires.1.here)), bits_few c.args.form c.args.positions.now valid c.requires.1.many) in
+    (small, c.code_of-c.ensures.prefixed, c.code_of-c.ensures.short, c.code_of-c.ensures.prefix, c.code_of-c.ensures.narrow, c.code_of-c.ensures.rest)
 
 pub returns : goal.returns
 returns c =
     let step_is : to_z w64 (of_z w64 c.step_at-z.result) ≡ step_here c.args.positions.now c.args.i = to_z-of_z w64 c.step_at-z.result (record { sfits = c.step_at-z.type_inv }) ∙ c.step_at-z.ensures in
     let after_it : position_bits (table_of c.args.form) (take (c.args.i + 1) c.args.positions.now) ≡ (position_bits (table_of c.args.form) (take c.args.i c.args.positions.now)) ++ code (table_of c.args.form) (step_here c.args.positions.now c.args.i) = point_step (table_of c.args.form) c.args.positions.now c.args.i c.requires.0 c.requires.1.here in
-    let f = rw (c.code_of-c.ensures.bits, step_is, ← after_it) at (c.lay_both.ensures.2 (position_bits (table_of c.args.form) (take c.args.i c.args.positions.now)) c.requires.3) in
-    (c.lay_both.ensures.1, f.0, f.1)
+    let f = rw (c.code_of-c.ensures.bits, step_is, ← after_it) at (c.lay_both.ensures.1 (position_bits (table_of c.args.form) (take c.args.i c.args.positions.now)) c.requires.2) in
+    (f.0, f.1)

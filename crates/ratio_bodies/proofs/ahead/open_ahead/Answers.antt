@@ -8,6 +8,7 @@ use Rattle.ratio_format.specs.Open.{open_xor}
 use Rattle.ratio_format.specs.Windows.{window_size, window_of}
 use Rattle.ratio_bodies.proofs.ahead.FirstByte.{rest_first, ahead-some, ahead-exception, place_far, place_past, place_reference, place_xor}
 use Rattle.ratio_bodies.proofs.ahead.open_ahead.Goals as goal
+use Rattle.ratio_bodies.proofs.ahead.open_ahead.Goals.{then-i-p-via-then-i-p, then-i-p-via-else-i-p+then-p-eq-SIZE}
 
 pub returns-then-b-eq-EXCEPTION : goal.returns-then-b-eq-EXCEPTION
 returns-then-b-eq-EXCEPTION c =
@@ -19,23 +20,21 @@ returns-then-i-p c =
     let b = get_or c.args.body.now c.args.at 0 in
     let few : c.args.i ≤ length c.args.ratios.now = c.requires.0 in
     let ten : c.args.at + 10 ≤ length c.args.body.now = c.requires.1 in
-    let byte : b < 256 = (c.shared_slice_known-3-1.given c.args.at).fits in
-    place_far c.args.ratios.now c.args.i few (drop c.args.at c.args.body.now) b (rest_first c.args.at c.args.body.now) (ahead-some c.args.at c.args.body.now ten) byte c.if-b-eq-EXCEPTION.false c.if-i-p.true
-
-pub returns-then-p-eq-SIZE : goal.returns-then-p-eq-SIZE
-returns-then-p-eq-SIZE c =
-    let b = get_or c.args.body.now c.args.at 0 in
-    let few : c.args.i ≤ length c.args.ratios.now = c.requires.0 in
-    let ten : c.args.at + 10 ≤ length c.args.body.now = c.requires.1 in
-    let byte : b < 256 = (c.shared_slice_known-3-1.given c.args.at).fits in
-    place_past c.args.ratios.now c.args.i few (drop c.args.at c.args.body.now) b (rest_first c.args.at c.args.body.now) (ahead-some c.args.at c.args.body.now ten) byte c.if-b-eq-EXCEPTION.false c.if-p-eq-SIZE.true
+    let byte : b < 256 = (c.type_inv.body c.args.at).fits in
+    let rest = drop c.args.at c.args.body.now in
+    let first = rest_first c.args.at c.args.body.now in
+    let some = ahead-some c.args.at c.args.body.now ten in
+    elim c.then-i-p.branch [
+      | then-i-p-via-then-i-p w ↦ place_far c.args.ratios.now c.args.i few rest b first some byte c.if-b-eq-EXCEPTION.false w.if-i-p.true
+      | then-i-p-via-else-i-p+then-p-eq-SIZE w ↦ place_past c.args.ratios.now c.args.i few rest b first some byte c.if-b-eq-EXCEPTION.false w.if-p-eq-SIZE.true
+    ]
 
 pub returns-then-b-lt-XOR : goal.returns-then-b-lt-XOR
 returns-then-b-lt-XOR c =
     let b = get_or c.args.body.now c.args.at 0 in
     let few : c.args.i ≤ length c.args.ratios.now = c.requires.0 in
     let ten : c.args.at + 10 ≤ length c.args.body.now = c.requires.1 in
-    let byte : b < 256 = (c.shared_slice_known-3-1.given c.args.at).fits in
+    let byte : b < 256 = (c.type_inv.body c.args.at).fits in
     let u = get_or c.args.ratios.now (c.args.i - 1 - b % xor_byte) 0 in
     place_reference c.args.ratios.now c.args.i few (drop c.args.at c.args.body.now) b (rest_first c.args.at c.args.body.now) (ahead-some c.args.at c.args.body.now ten) byte c.if-b-eq-EXCEPTION.false
     u c.if-i-p.false c.if-p-eq-SIZE.false refl c.if-b-lt-XOR.true
@@ -45,7 +44,7 @@ returns c =
     let b = get_or c.args.body.now c.args.at 0 in
     let few : c.args.i ≤ length c.args.ratios.now = c.requires.0 in
     let ten : c.args.at + 10 ≤ length c.args.body.now = c.requires.1 in
-    let byte : b < 256 = (c.shared_slice_known-3-1.given c.args.at).fits in
+    let byte : b < 256 = (c.type_inv.body c.args.at).fits in
     let u = get_or c.args.ratios.now (c.args.i - 1 - b % xor_byte) 0 in
     place_xor c.args.ratios.now c.args.i few (drop c.args.at c.args.body.now) b (rest_first c.args.at c.args.body.now) (ahead-some c.args.at c.args.body.now ten) byte c.if-b-eq-EXCEPTION.false
     u c.if-i-p.false c.if-p-eq-SIZE.false refl c.if-b-lt-XOR.false c.xor_ahead.result (c.xor_ahead.ensures ∙ ap (open_xor u) (sym (drop-drop 1 c.args.at c.args.body.now)))

@@ -1,12 +1,7 @@
 -- `put_repeats` meets its contract. The invariant: k ratios repeat the one before them, and the first k bytes are 0.
-use Prim.Native.Nat.{◌+◌, ◌-◌, ◌≤◌}
-use lib.ListN.{length}
 use Rattle.outputs.proofs.Outputs.Clear.{Cleared}
 use Rattle.ratio_bodies.proofs.repeats.Repeated.{Repeats}
 use Rattle.ratio_bodies.proofs.repeats.put_repeats.Given as goal
 
 abbrev pub invariant-loop-k : goal.invariant-loop-k
-invariant-loop-k l = (l.from + l.k ≤ length l.ratios) × Repeats l.ratios l.from l.k × Cleared l.initial.out l.out l.k
-
-abbrev pub decreases-loop-k : goal.decreases-loop-k
-decreases-loop-k l = length l.ratios - (l.from + l.k)
+invariant-loop-k l = Repeats l.ratios l.from l.k × Cleared l.initial.out l.out l.k

@@ -29,8 +29,8 @@ slot_of-slot-requires c =
     let n = named_at window c.args.v c.args.at c.args.body.now (named c.if-n-eq1.true) in
     (n.0, (window_inside window_size c.args.ratios.now c.args.i c.requires.0 (get_or c.args.body.now c.args.at 0) n.1).1)
 
-pub returns-then-n-eq1 : goal.returns-then-n-eq1
-returns-then-n-eq1 c =
+pub returns-then-n-eq1-clause-test : goal.returns-then-n-eq1-clause-test
+returns-then-n-eq1-clause-test c =
     let window = window_of window_size (take c.args.i c.args.ratios.now) in
     let rest = drop c.args.at c.args.body.now in
     let named : c.args.n ≡ 1 → Named window c.args.v rest = λ e. named_one window c.args.v rest (c.requires.3 ∙ ap (Ratio c.args.v) e) in
@@ -42,12 +42,12 @@ returns-then-n-eq1 c =
     ∙ sym (named_begins window c.args.v rest n ∙ ap (eqb (find c.args.v window)) (rest_first c.args.at c.args.body.now))
 
 pub has_head-requires : goal.has_head-requires
-has_head-requires c = window_fit c.args.ratios.now c.args.i c.args.v c.choose_nth-f.result c.requires.0 c.choose_nth-f.ensures
+has_head-requires c = window_fit c.args.ratios.now c.args.i c.args.v c.choose_nth-f.result c.requires.0 c.choose_nth-f.ensures.form
 
-pub returns : goal.returns
-returns c =
+pub returns-clause-test : goal.returns-clause-test
+returns-clause-test c =
     let window = window_of window_size (take c.args.i c.args.ratios.now) in
     let rest = drop c.args.at c.args.body.now in
-    c.has_head.ensures ∙ ap₂ (λ (x : RatioForm) (s : List ℕ). begins (ratio_form_head x) s) c.choose_nth-f.ensures (rest_is c.args.at c.args.body.now)
+    c.has_head.ensures ∙ ap₂ (λ (x : RatioForm) (s : List ℕ). begins (ratio_form_head x) s) c.choose_nth-f.ensures.form (rest_is c.args.at c.args.body.now)
     ∙ sym (head_decides c.args.v c.args.n window (window_few window_size (take c.args.i c.args.ratios.now)).0 rest
-    (below_drop 256 c.args.at c.args.body.now (below_of 256 c.args.body.now (λ i. (c.shared_slice_known-2-1.given i).fits))) c.requires.3)
+    (below_drop 256 c.args.at c.args.body.now (below_of 256 c.args.body.now (λ i. (c.type_inv.body i).fits))) c.requires.3)

@@ -1,5 +1,5 @@
 -- `get_references` meets its contract. The invariant: k ratios were read from the offset `at` on, and the marks are those of the window of the next one.
-use Prim.Native.Nat.{◌+◌, ◌-◌}
+use Rattle.std.proofs.Common.{◌+◌}
 use Rattle.ratio_format.specs.Open.{strict_one}
 use Rattle.ratio_bodies.specs.Marks.{Marks}
 use Rattle.ratio_bodies.specs.Taking.{Taking}
@@ -7,6 +7,3 @@ use Rattle.ratio_bodies.proofs.strict.get_references.Given as goal
 
 abbrev pub invariant-loop-k : goal.invariant-loop-k
 invariant-loop-k l = Taking strict_one l.to l.body l.initial.ratios l.i l.at l.ratios (l.at + l.k) (l.i + l.k) × Marks l.again l.ratios (l.i + l.k)
-
-abbrev pub decreases-loop-k : goal.decreases-loop-k
-decreases-loop-k l = l.to - (l.i + l.k)

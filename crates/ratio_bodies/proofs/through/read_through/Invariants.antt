@@ -9,7 +9,7 @@ use Rattle.ratio_bodies.proofs.through.read_through.Given as goal
 
 abbrev pub invariant-loop-planes : goal.invariant-loop-planes
 invariant-loop-planes l = (length l.ratios ≡ length l.initial.ratios) × (l.from ≤ length l.ratios) × Counted l.count l.body (take l.from l.ratios) (l.before + l.from) l.begun
-    × Ready l.planes l.again l.ratios (record { count = l.from; at = l.begun; done = l.ready })
+    × Ready l.planes l.again l.ratios l.from
     × (l.count ≤ length l.initial.ratios → (l.from ≡ 0) × (l.begun ≡ 0) × (l.before ≡ 0) × (l.ratios ≡ l.initial.ratios))
 
 abbrev pub decreases-loop-planes : goal.decreases-loop-planes

@@ -1,5 +1,5 @@
 -- `read_one_open` meets its contract: a law for each outcome.
-use Rattle.std.proofs.Common.{◌≡◌, ap, ◌∙◌, reverse}
+use Rattle.std.proofs.Common.{ap, ◌∙◌, reverse}
 use Rattle.std.proofs.lemmas.List.{length-reverse}
 use Rattle.ratio_format.specs.Open.{open_xor}
 use Rattle.ratio_format.proofs.Open.{open_empty, open_reference, open_far, open_xor_lem, open_away, open_exception, open_cut}

@@ -1,11 +1,10 @@
 -- `read_one_strict` meets its contract: a place is accepted where it is the smallest that holds its ratio, and the head decides of all else.
 use Rattle.std.specs.Prelude.{None}
-use Rattle.std.proofs.Common.{◌≡◌, refl, sym, ap, ap₂, ◌∙◌, ℕ, ◌-◌, ◌≤◌, Bool, arith, reverse, length, get_or, cond, eqb}
+use Rattle.std.proofs.Common.{◌≡◌, refl, sym, ap, ap₂, ◌∙◌, ◌-◌, ◌≤◌, Bool, arith, reverse, length, get_or, eqb}
 use Rattle.std.specs.Bool.{then_some}
 use Rattle.std.proofs.lemmas.List.{length-reverse}
 use Rattle.ratio_format.specs.Windows.{window_size}
 use Rattle.ratio_format.specs.Choice.{find}
-use Rattle.ratio_format.specs.Open.{Ratio}
 use Rattle.ratio_format.proofs.Windows.{reverse-back}
 use Rattle.ratio_format.proofs.Open.{open_empty, strict_nothing}
 use Rattle.ratio_codec.proofs.read.First.{first_is, first_none}

@@ -1,5 +1,5 @@
 -- `read_xor` meets its contract: a law for each outcome.
-use Rattle.std.proofs.Common.{◌≡◌, ap, ◌∙◌, ℕ, ◌+◌, ◌/◌, ◌%◌, arith}
+use Rattle.std.proofs.Common.{ap, ◌∙◌, ℕ, ◌+◌, ◌/◌, ◌%◌, arith}
 use lib.Bits.{bit_xor}
 use Rattle.ratio_format.specs.Open.{Ratio}
 use Rattle.ratio_format.proofs.Zeros.{raised_fits}

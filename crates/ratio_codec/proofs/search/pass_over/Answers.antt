@@ -11,10 +11,6 @@ use Rattle.ratio_codec.proofs.search.pass_over.Goals as goal
 pub loop-i-preserved : goal.loop-i-preserved
 loop-i-preserved c =
     let k = length c.args.window.now - 1 - c.loop-i.i in
-    let known = (c.shared_slice_known-1.given k).fits in (
-      omega arith,
-      omega arith,
-      λ s q.
-          passed_next c.args.v (reverse c.args.window.now) s c.args.from c.loop-i.i (c.loop-i.invariant.2 s q)
-          (rw (reverse-back c.args.window.now c.loop-i.i c.loop-i-test.true) (sum_under c.args.v (get_or c.args.window.now k 0) s c.ranges.v.fits known (omega (arith, c.if-x-bound.false)) c.if-x-eq0.false)),
-    )
+    λ s q.
+    passed_next c.args.v (reverse c.args.window.now) s c.args.from c.loop-i.i (c.loop-i.invariant s q)
+    (rw (reverse-back c.args.window.now c.loop-i.i c.loop-i-test.true) (sum_under c.args.v (get_or c.args.window.now k 0) s c.ranges.v.fits (c.type_inv.window k).fits (omega (arith, c.if-x-bound.false)) c.if-x-eq0.false))

@@ -1,7 +1,6 @@
 -- `suspect` meets its contract. The invariant: where no suspect was found, none of the first j slots is one.
 use mathlib.Core.Path.{◌≡◌}
 use mathlib.Core.Bool.{false}
-use Prim.Native.Nat.{◌-◌, ◌≤◌}
 use Rattle.ratio_search.proofs.pairs.Blocks.{Quiet}
 use Rattle.ratio_search.proofs.pairs.suspect.Given as goal
 

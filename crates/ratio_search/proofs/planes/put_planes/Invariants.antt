@@ -1,5 +1,4 @@
 -- `put_planes` meets its contract. The invariant: the lowest j bytes are put, and all other slots stay.
-use Prim.Native.Nat.{◌-◌}
 use Rattle.ratio_search.proofs.Kept.{InSlot}
 use Rattle.ratio_search.proofs.planes.put_planes.Given as goal
 

@@ -1,5 +1,5 @@
 -- `pass_blocks` meets its contract: the goals that the check leaves.
-use Rattle.std.proofs.Common.{◌≡◌, ◌+◌, ◌-◌, ◌*◌, ◌/◌, ◌%◌, ◌≤◌, ◌<◌, ℕ, min, ap, arith}
+use Rattle.std.proofs.Common.{◌≡◌, ◌+◌, ◌-◌, ◌*◌, ◌/◌, ◌%◌, ◌≤◌, ℕ, min, ap, arith}
 use Rattle.ratio_search.specs.BytePlanes.{slots}
 use Rattle.ratio_search.proofs.pairs.Blocks.{behind_block}
 use Rattle.ratio_search.proofs.search.pass_blocks.Goals as goal

@@ -1,6 +1,6 @@
 -- `check_run` meets its contract: a law of writing answers the test at which it stops.
 use mathlib.Core.Bool.{true}
-use mathlib.Core.Path.{◌≡◌, sym, ◌∙◌, subst}
+use mathlib.Core.Path.{◌≡◌, refl, sym, ◌∙◌, subst}
 use Prim.Native.Nat.{ℕ, ◌≤◌, ◌<◌}
 use native.Mathlib.Omega.{arith}
 use lib.ListN.{length}
@@ -8,45 +8,42 @@ use Rattle.limits.specs.Points.{first_high}
 use Rattle.limits.specs.Rates.{is_rate}
 use Rattle.position_format.specs.Tables.{points_of}
 use Rattle.record_format.specs.Runs.{run}
+use Rattle.record_format.specs.Writing.{outside_tests, run_tests}
 use Rattle.record_format.proofs.Writing.{run_unlisted, run_unpaired, run_many, run_high, run-steps}
+use Rattle.record_parts.proofs.Fields.{refused_at, judged_as}
 use Rattle.record_codec.proofs.writer.check_run.Goals as goal
 
 pub returns-then-not-is_rate : goal.returns-then-not-is_rate
 returns-then-not-is_rate c =
-    let given_run = run c.args.rate c.args.side c.args.form c.args.positions.now c.args.ratios.now in
-    run_unlisted given_run (sym c.is_rate.ensures ∙ c.if-not-is_rate.true)
+    let r = run c.args.rate c.args.side c.args.form c.args.positions.now c.args.ratios.now in
+    refused_at 1 0 c.at.ensures (λ z. omega arith) (run_unlisted r (sym c.is_rate.ensures ∙ c.if-not-is_rate.true))
 
 pub returns-then-ratios-positions : goal.returns-then-ratios-positions
 returns-then-ratios-positions c =
-    let given_run = run c.args.rate c.args.side c.args.form c.args.positions.now c.args.ratios.now in
+    let r = run c.args.rate c.args.side c.args.form c.args.positions.now c.args.ratios.now in
     let listed : is_rate c.args.rate ≡ true = sym c.is_rate.ensures ∙ c.if-not-is_rate.false in
-    run_unpaired given_run listed (omega arith) c.if-ratios-positions.true
+    refused_at 2 0 c.at-then-ratios-positions.ensures (λ z. omega arith) (run_unpaired r listed (omega arith) c.if-ratios-positions.true)
 
 pub returns-then-points_of-positions : goal.returns-then-points_of-positions
 returns-then-points_of-positions c =
-    let given_run = run c.args.rate c.args.side c.args.form c.args.positions.now c.args.ratios.now in
+    let r = run c.args.rate c.args.side c.args.form c.args.positions.now c.args.ratios.now in
     let listed : is_rate c.args.rate ≡ true = sym c.is_rate.ensures ∙ c.if-not-is_rate.false in
-    let paired_run = given_run in
-    let r = paired_run in
-    run_many r listed (omega arith) c.if-ratios-positions.false (subst (λ (m : ℕ). m < length r.positions) c.points_of.ensures c.if-points_of-positions.true)
+    refused_at 3 0 c.at-then-points_of-positions.ensures (λ z. omega arith)
+    (run_many r listed (omega arith) c.if-ratios-positions.false (subst (λ (m : ℕ). m < length r.positions) c.points_of.ensures c.if-points_of-positions.true))
 
-pub returns-then-high-positions : goal.returns-then-high-positions
-returns-then-high-positions c =
-    let given_run = run c.args.rate c.args.side c.args.form c.args.positions.now c.args.ratios.now in
+pub returns-in-Some : goal.returns-in-Some
+returns-in-Some c =
+    let r = run c.args.rate c.args.side c.args.form c.args.positions.now c.args.ratios.now in
     let listed : is_rate c.args.rate ≡ true = sym c.is_rate.ensures ∙ c.if-not-is_rate.false in
-    let paired_run = given_run in
-    let few : let r = paired_run in length r.positions ≤ points_of r.form = let r = paired_run in subst (λ (n : ℕ). length r.positions ≤ n) c.points_of.ensures c.if-points_of-positions.false in
-    let r = paired_run in
-    rw c.first_high-high.ensures
-    (run_high r listed (omega arith) c.if-ratios-positions.false few (subst (λ (n : ℕ). n < length r.positions) c.first_high-high.ensures c.if-high-positions.true))
+    let few : length r.positions ≤ points_of r.form = subst (λ (n : ℕ). length r.positions ≤ n) c.points_of.ensures c.if-points_of-positions.false in
+    refused_at 4 c.in-Some.high c.at-in-Some.ensures (λ z. omega arith)
+    (rw c.in-Some.ensures.0
+    (run_high r listed (omega arith) c.if-ratios-positions.false few (subst (λ (n : ℕ). n < length r.positions) c.in-Some.ensures.0 c.in-Some.ensures.1)))
 
 pub returns : goal.returns
 returns c =
-    let given_run = run c.args.rate c.args.side c.args.form c.args.positions.now c.args.ratios.now in
+    let r = run c.args.rate c.args.side c.args.form c.args.positions.now c.args.ratios.now in
     let listed : is_rate c.args.rate ≡ true = sym c.is_rate.ensures ∙ c.if-not-is_rate.false in
-    let paired_run = given_run in
-    let few : let r = paired_run in length r.positions ≤ points_of r.form = let r = paired_run in subst (λ (n : ℕ). length r.positions ≤ n) c.points_of.ensures c.if-points_of-positions.false in
-    let none_high : let ts = paired_run.positions in length ts ≤ first_high ts = let ts = paired_run.positions in
-    subst (λ (n : ℕ). length ts ≤ n) c.first_high-high.ensures c.if-high-positions.false in
-    let r = paired_run in
-    run-steps r listed (omega arith) c.if-ratios-positions.false few none_high c.check_steps.result c.check_steps.ensures
+    let few : length r.positions ≤ points_of r.form = subst (λ (n : ℕ). length r.positions ≤ n) c.points_of.ensures c.if-points_of-positions.false in
+    let low : length r.positions ≤ first_high r.positions = omega (arith, c.in_default.ensures) in
+    judged_as (run_tests r) (outside_tests r.form r.positions) _ c.check_steps.result (sym (run-steps r listed (omega arith) c.if-ratios-positions.false few low _ refl)) c.check_steps.ensures

@@ -1,13 +1,19 @@
 -- `read_number` meets its contract, by what `read_field` finds.
-use Rattle.record_parts.proofs.Fields.{number_inside}
-use Rattle.record_parts.proofs.front.ReadFront.{number_refused, number_found}
+use Rattle.record_parts.proofs.Fields.{number_inside, number_is}
 use Rattle.record_parts.proofs.front.read_number.Goals as goal
 
-pub returns-then-number-ne0 : goal.returns-then-number-ne0
-returns-then-number-ne0 c = number_refused c.args.input.now c.args.tag c.args.n c.args.at c.read_field-field.result c.read_field-field.ensures c.if-number-ne0.true
-
-pub get_bytes-value-requires : goal.get_bytes-value-requires
-get_bytes-value-requires c = (c.requires.2, number_inside c.args.input.now c.args.tag c.args.n c.args.at c.read_field-field.result c.read_field-field.ensures c.if-number-ne0.false)
+pub get_bytes-requires : goal.get_bytes-requires
+get_bytes-requires c =
+    let h = c.in_ok-field.ensures in
+    (c.requires.2, number_inside c.args.input.now c.args.tag c.args.n c.args.at c.in_ok-field.field h.0 h.1)
 
 pub returns : goal.returns
-returns c = number_found c.args.input.now c.args.tag c.args.n c.args.at c.read_field-field.result c.read_field-field.ensures c.if-number-ne0.false _ c.get_bytes-value.ensures.0 c.get_bytes-value.ensures.1
+returns c =
+    let h = c.in_ok-field.ensures in (
+      h.0,
+      record {
+        part = h.1.part;
+        value = number_is c.args.input.now c.args.tag c.args.n c.args.at c.in_ok-field.field h.0 h.1 _ c.get_bytes.ensures.0;
+        small = c.get_bytes.ensures.1;
+      },
+    )

@@ -126,12 +126,6 @@ module _ (s tags : List ℕ) (n : Option ℕ) (p : ℕ) where
               },
             )
 
--- ---- contents after a field
-
-pub field_numbered : (s tags : List ℕ) (n : Option ℕ) (p : ℕ) → numbered (field_tests s tags n p) ≡ true
-field_numbered s tags none p = refl
-field_numbered s tags (some k) p = refl
-
 -- a field of n bytes that is not refused: its number
 module _ (s : List ℕ) (tag n p : ℕ) (f : FieldBody) (clear : first_of (field_tests s (tag ∷ []) (some n) p) ≡ no_refusal) (h : FieldFound s p f) where
   sized : length_at s p ≡ n

@@ -3,15 +3,15 @@
 --   RecodedAs f ts bs r o p  the bytes bs, in which the positions ts stand in the form f, were put at the front of o, which is now p, or there was no
 --                            room for them; or r is the index of the first point whose step the table of f does not hold. That is told whatever the
 --                            room
---   RecodedNowhere f ts r    the same of any bytes, and of any output that has no room for them
-use Rattle.std.specs.Prelude.{List, [], ◌∷◌, ◌++◌, ◌≡◌, ℕ, ◌<◌, length}
+--   RecodedNowhere f ts e    the same of the error e, of any bytes and any output that has no room for them
+use Rattle.std.specs.Prelude.{Some, None, Result, Ok, Err, List, [], ◌∷◌, ◌++◌, ◌≡◌, ℕ, ◌<◌, length}
 use Rattle.outputs.specs.Outputs.{Placed}
 use Rattle.position_format.specs.declared.Form.{Form}
 use Rattle.position_format.specs.Steps.{first_outside}
 use Rattle.position_format.specs.Tables.{table_of}
 use Rattle.position_codec.specs.Codes.{CodablePositions}
-use Rattle.position_codec.specs.declared.recode.Recoded.{Recoded}
-use Rattle.position_codec.specs.declared.recode.Recoded.TheVariants.{Outside, Put}
+use Rattle.position_codec.specs.declared.recode.RecodeError.{RecodeError}
+use Rattle.position_codec.specs.declared.recode.RecodeError.TheVariants.{Outside, NoRoom}
 use Rattle.record_format.specs.Fields.{Field}
 use Rattle.record_format.specs.Runs.{positions_field, front_fields}
 
@@ -20,10 +20,11 @@ abbrev pub lead_fields : ℕ → ℕ → Form → List ℕ → List Field
 lead_fields rate side form ts = front_fields rate side (length ts) ++ (positions_field form ts ∷ [])
 
 -- a step outside the table wins over missing room, as test 5 does over 6
-abbrev pub RecodedAs : Form → List ℕ → List ℕ → Recoded → List ℕ → List ℕ → Type 0
-RecodedAs f ts bs (Outside i) o p = (i ≡ first_outside (table_of f) ts) × (i < length ts)
-RecodedAs f ts bs (Put w) o p = CodablePositions f ts × Placed bs w o p
+abbrev pub RecodedAs : Form → List ℕ → List ℕ → Result ℕ RecodeError → List ℕ → List ℕ → Type 0
+RecodedAs f ts bs (Ok n) o p = CodablePositions f ts × Placed bs (Some n) o p
+RecodedAs f ts bs (Err NoRoom) o p = CodablePositions f ts × Placed bs None o p
+RecodedAs f ts bs (Err (Outside i)) o p = (i ≡ first_outside (table_of f) ts) × (i < length ts)
 
 -- nothing is written
-abbrev pub RecodedNowhere : Form → List ℕ → Recoded → Type 0
-RecodedNowhere f ts r = (bs o p : List ℕ) → length o < length bs → RecodedAs f ts bs r o p
+abbrev pub RecodedNowhere : Form → List ℕ → RecodeError → Type 0
+RecodedNowhere f ts e = (bs o p : List ℕ) → length o < length bs → RecodedAs f ts bs (Err e) o p

@@ -15,8 +15,7 @@ ghost use Rattle.record_parts.specs.Leads.{lead_fields, RecodedAs, RecodedNowher
 
 use super::coding::{Coding, put_body, tag_of};
 use super::field::{LENGTH_SIZE, TAG_SIZE};
-use outputs::both_wrote;
-use position_codec::Recoded;
+use position_codec::RecodeError;
 use position_format::Form;
 use record_format::{
     COUNT_SIZE, COUNT_TAG, HEAD_SIZE, RATE_SIZE, RATE_TAG, SIDE_SIZE, SIDE_TAG, form_tag,
@@ -95,37 +94,36 @@ pub fn put_lead(
     Some(front_end + field_size)
 }
 
-// Positions that are to be recoded where there is no room for what they are a part of: the first whose step the table does not hold is told all the same.
-fn recode_nowhere(from: Form, to: Form, body: &[u8], count: usize) -> Recoded
+// Why positions are not recoded where there is no room for what they are a part of: the first whose step the table does not hold is told all the same.
+fn recode_nowhere(from: Form, to: Form, body: &[u8], count: usize) -> RecodeError
     requires { (missing (read_positions (table_of from) count body.now) ≡ false) × (count ≤ max_points) }
     ensures { RecodedNowhere to (list_of (read_positions (table_of from) count body.now)) result }
 {
-    let mut none: [u8; 0] = [0; 0];
-    match position_codec::recode_positions(from, to, body, count, &mut none) {
-        Recoded::Outside(i) => Recoded::Outside(i),
-        Recoded::Put(_) => Recoded::Put(None),
+    match position_codec::recode_positions(from, to, body, count, &mut []) {
+        Ok(_) => RecodeError::NoRoom,
+        Err(error) => error,
     }
 }
 
 // The positions of a body in the form `from`, as a field in the form `to`, at the front of the output: the body past the head, and then the head.
-fn put_recoded(from: Form, to: Form, body: &[u8], count: usize, out: &mut [u8]) -> Recoded
+fn put_recoded(
+    from: Form,
+    to: Form,
+    body: &[u8],
+    count: usize,
+    out: &mut [u8],
+) -> Result<usize, RecodeError>
     requires { (missing (read_positions (table_of from) count body.now) ≡ false) × (count ≤ max_points) }
     ensures { RecodedAs to (list_of (read_positions (table_of from) count body.now))
         (laid (positions_field to (list_of (read_positions (table_of from) count body.now)) ∷ []))
         result out.old out.new }
 {
     if out.len() < HEAD_SIZE {
-        return recode_nowhere(from, to, body, count);
+        return Err(recode_nowhere(from, to, body, count));
     }
-    let recoded = position_codec::recode_positions(from, to, body, count, &mut out[HEAD_SIZE..]);
-    let Recoded::Put(wrote) = recoded else {
-        return recoded;
-    };
-    let Some(n) = wrote else {
-        return Recoded::Put(None);
-    };
+    let n = position_codec::recode_positions(from, to, body, count, &mut out[HEAD_SIZE..])?;
     put_head(out, form_tag(to), n);
-    Recoded::Put(Some(n + HEAD_SIZE))
+    Ok(n + HEAD_SIZE)
 }
 
 // The fields of `put_lead`, where the positions are those of a body in the form `from`, and are written in the form `to`.
@@ -137,18 +135,15 @@ pub fn put_recoded_lead(
     body: &[u8],
     count: usize,
     out: &mut [u8],
-) -> Recoded
+) -> Result<usize, RecodeError>
     requires { (missing (read_positions (table_of from) count body.now) ≡ false) × (count ≤ max_points) }
     ensures { RecodedAs to (list_of (read_positions (table_of from) count body.now))
         (laid (lead_fields rate side to (list_of (read_positions (table_of from) count body.now))))
         result out.old out.new }
 {
     let Some(front_end) = put_front(rate, side, count, out) else {
-        return recode_nowhere(from, to, body, count);
+        return Err(recode_nowhere(from, to, body, count));
     };
-    let recoded = put_recoded(from, to, body, count, &mut out[front_end..]);
-    let Recoded::Put(wrote) = recoded else {
-        return recoded;
-    };
-    Recoded::Put(both_wrote(front_end, wrote))
+    let field_size = put_recoded(from, to, body, count, &mut out[front_end..])?;
+    Ok(front_end + field_size)
 }

@@ -7,7 +7,7 @@ use Rattle.position_format.specs.Tables.{table_of}
 use Rattle.record_format.specs.Fields.{laid}
 use Rattle.record_format.specs.Runs.{positions_field}
 use Rattle.record_format.proofs.Fields.{length-laid}
-use Rattle.record_parts.proofs.putting.Recodings.{recoded_none, recoded_done}
+use Rattle.record_parts.proofs.putting.Recodings.{recoded_err, recoded_short, recoded_done}
 use Rattle.record_parts.proofs.putting.put_recoded.Goals as goal
 
 pub returns-then-out-lt-HEAD_SIZE : goal.returns-then-out-lt-HEAD_SIZE
@@ -16,14 +16,13 @@ returns-then-out-lt-HEAD_SIZE c =
     let f = positions_field c.args.to points ∷ [] in
     c.recode_nowhere.ensures (laid f) c.args.out.now c.args.out.now (omega (arith, length-laid f, c.if-out-lt-HEAD_SIZE.true))
 
-pub returns-in_default-wrote : goal.returns-in_default-wrote
-returns-in_default-wrote c =
+pub returns-in_err-n : goal.returns-in_err-n
+returns-in_err-n c =
     let points = list_of (read_positions (table_of c.args.from) c.args.count c.args.body.now) in
-    recoded_none c.args.to points c.args.out.now c.recode_positions-recoded.new.out c.recode_positions-recoded.result _ c.in-Put.is
-    c.if-out-lt-HEAD_SIZE.false c.recode_positions-recoded.ensures c.in_default-wrote.is
+    recoded_err c.args.to points (laid (positions_field c.args.to points ∷ [])) c.args.out.now _ c.from_residual.result _ c.from_residual.ensures.1
+    (recoded_short c.args.to points c.args.out.now c.recode_positions.new.out c.if-out-lt-HEAD_SIZE.false _ _ c.in_err-n.ensures)
 
 pub returns : goal.returns
 returns c =
     let points = list_of (read_positions (table_of c.args.from) c.args.count c.args.body.now) in
-    recoded_done c.args.to points c.args.out.now c.recode_positions-recoded.new.out c.recode_positions-recoded.result _ c.in-Put.is
-    c.if-out-lt-HEAD_SIZE.false c.recode_positions-recoded.ensures _ c.in-Some.is _ _ c.form_tag.ensures c.put_head.ensures
+    recoded_done c.args.to points c.args.out.now c.recode_positions.new.out c.if-out-lt-HEAD_SIZE.false c.in_ok-n.n c.in_ok-n.ensures _ _ c.form_tag.ensures c.put_head.ensures

@@ -1,6 +1,5 @@
 -- What the internal readers say of what they find at the front of bits (document 01, "Positions").
---   InBody body at             a bit offset that is not past the end of a body, which is not too long
---   Ahead body at w            the word w begins with the bits from that offset on, 57 of them, with 0 bits past the end
+--   Ahead body at w            the word w begins with the bits of a body from a bit offset on, 57 of them, with 0 bits past the end
 --   Leads rs ds i n            the bits ds begin with the prefix of the row of index i, whose codes have n bits
 --   ReadBy rs i x r            the step that the row of index i reads in its bits x, if no row before it holds that
 --   StepFound rs ds r          the step whose code the bits ds begin with, and how many bits that has, or that there is none
@@ -8,7 +7,7 @@
 --   PointFound rs i a b ds r   the position that stands at the front of ds at point i, and how many bits it takes, or that there is none
 --   kept o i t                 the output o with the position t at index i, if it has room there
 --   FilledPart l b o p         the list l was put at the front of o, as far as that has room, and o is now p; or there is no such list
-use Rattle.std.specs.Prelude.{Option, None, Some, Bool, true, false, cond, List, ◌≡◌, ℕ, ◌*◌, ◌^◌, ◌≤◌, ◌<◌, ℤ, ltb, length, get_or, set, take, drop}
+use Rattle.std.specs.Prelude.{Option, None, Some, Bool, true, false, cond, List, ◌≡◌, ℕ, ◌≤◌, ◌<◌, ℤ, ltb, length, get_or, set, take, drop}
 use Rattle.std.proofs.Math.Option as maybe
 use Rattle.std.proofs.Math.Option.{none, some}
 use Rattle.lists.specs.Compare.{begins}
@@ -19,11 +18,6 @@ use Rattle.outputs.specs.Outputs.{over}
 use Rattle.position_format.specs.Rows.{Row, in_table, reading, code, code_length, no_row, row_of}
 use Rattle.position_format.specs.Steps.{step_of}
 use Rattle.position_format.specs.Points.{next_bits, Stands}
-
--- an offset in a body
-pub record InBody (body : List ℕ) (at : ℕ) : Type 0 where
-  pub short : length body ≤ 2 ^ 32
-  pub inside : at ≤ 8 * length body
 
 -- bits at the top of a word
 abbrev pub Ahead : List ℕ → ℕ → ℕ → Type 0

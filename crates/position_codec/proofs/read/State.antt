@@ -25,7 +25,7 @@ use Rattle.position_format.proofs.Rows.{good_table}
 use Rattle.position_format.proofs.Tables.{table_good}
 use Rattle.position_format.proofs.Positions.Sizes.{length-coded, bits_few}
 use Rattle.position_format.proofs.Points.Reading.{Read, Last, read_long, last_snoc, read_start, read_inside, read_raw, read_far, read_stop, read_more, read_end, read_bad}
-use Rattle.position_codec.specs.Found.{InBody, kept, FilledPart}
+use Rattle.position_codec.specs.Found.{kept, FilledPart}
 
 -- a body that is too long for any form
 pub body_long : (f : Form) (n : ℕ) (body : List ℕ) → n ≤ max_points → 35327 < length body → read_positions (table_of f) n body ≡ none
@@ -143,11 +143,8 @@ walked_more f n body o out at a b i w h t m x e p ep = record {
   output = ep ∙ ap (λ (q : List ℕ). kept q i t) w.output ∙ kept-over o w.ts i t w.state.many;
 }
 
-pub walked_inside : (f : Form) (n : ℕ) (body o out : List ℕ) (at a b i : ℕ) → Walked (table_of f) n body o out at a b i → length body ≤ 35327 → InBody body at
-walked_inside f n body o out at a b i w h = record {
-  short = omega arith;
-  inside = state_inside (table_of f) (table_good f) n body w.ts at a b i w.state;
-}
+pub walked_inside : (f : Form) (n : ℕ) (body o out : List ℕ) (at a b i : ℕ) → Walked (table_of f) n body o out at a b i → at ≤ 8 * length body
+walked_inside f n body o out at a b i w = state_inside (table_of f) (table_good f) n body w.ts at a b i w.state
 
 -- with room for all
 pub part_filled : (x : Option (List ℕ)) (b : Bool) (o p : List ℕ) → ((l : List ℕ) → x ≡ some l → length l ≤ length o) → FilledPart x b o p → Filled x b o p

@@ -21,7 +21,6 @@ use Rattle.position_format.specs.Tables.{table_of}
 use Rattle.position_format.proofs.Rows.{good_full, full_is}
 use Rattle.position_format.proofs.Tables.{form_sound, FitsWord, row_words}
 use Rattle.position_format.proofs.Tables.WideRows.{rows_count, wide_count}
-use Rattle.position_codec.specs.declared.row.Range.{Range}
 use Rattle.position_codec.specs.Codes.{PrefixIs}
 use Rattle.position_codec.specs.Found.{Leads}
 use Rattle.position_codec.proofs.table.Residues.{Fitted}
@@ -43,32 +42,28 @@ all_at (suc n) q e i h =
 
 -- ---- the range and the width of each row, as the code has them
 
-abbrev pub ranges : List Range
-ranges =
-    record { low = pos 0; high = pos 0 }
-    ∷ record { low = negsuc 62; high = pos 64 }
-    ∷ record { low = negsuc 254; high = pos 256 }
-    ∷ record { low = negsuc 2046; high = pos 2048 }
-    ∷ record { low = negsuc 2147483646; high = pos 2147483648 }
-    ∷ record { low = negsuc 9223372036854775807; high = pos 9223372036854775807 }
-    ∷ []
+abbrev pub lows : List ℤ
+lows = pos 0 ∷ negsuc 62 ∷ negsuc 254 ∷ negsuc 2046 ∷ negsuc 2147483646 ∷ negsuc 9223372036854775807 ∷ []
+
+abbrev pub highs : List ℤ
+highs = pos 0 ∷ pos 64 ∷ pos 256 ∷ pos 2048 ∷ pos 2147483648 ∷ pos 9223372036854775807 ∷ []
 
 -- the range of a row, how many bits follow its prefix, and that its ends fit 64 bits
-pub record Ranged (i : ℕ) (r : Range) (width : ℕ) : Type 0 where
-  pub low : r.low ≡ (get_or wide_rows i no_row).low
-  pub high : r.high ≡ (get_or wide_rows i no_row).high
+pub record Ranged (i : ℕ) (low high : ℤ) (width : ℕ) : Type 0 where
+  pub low_is : low ≡ (get_or wide_rows i no_row).low
+  pub high_is : high ≡ (get_or wide_rows i no_row).high
   pub wide : width ≡ (get_or wide_rows i no_row).width
   pub low_back : to_z w64 (of_z w64 (get_or wide_rows i no_row).low) ≡ (get_or wide_rows i no_row).low
   pub high_back : to_z w64 (of_z w64 (get_or wide_rows i no_row).high) ≡ (get_or wide_rows i no_row).high
 
-pub ranged : (i : ℕ) → i < 6 → Ranged i (get_or ranges i record { low = pos 0; high = pos 0 }) (byte_of 70506385049344 i)
+pub ranged : (i : ℕ) → i < 6 → Ranged i (to_z w64 (of_z w64 (get_or lows i (pos 0)))) (to_z w64 (of_z w64 (get_or highs i (pos 0)))) (byte_of 70506385049344 i)
 unfolding wide_rows rows
-ranged zero h = record { low = refl; high = refl; wide = refl; low_back = refl; high_back = refl }
-ranged (suc zero) h = record { low = refl; high = refl; wide = refl; low_back = refl; high_back = refl }
-ranged (suc (suc zero)) h = record { low = refl; high = refl; wide = refl; low_back = refl; high_back = refl }
-ranged (suc (suc (suc zero))) h = record { low = refl; high = refl; wide = refl; low_back = refl; high_back = refl }
-ranged (suc (suc (suc (suc zero)))) h = record { low = refl; high = refl; wide = refl; low_back = refl; high_back = refl }
-ranged (suc (suc (suc (suc (suc zero))))) h = record { low = refl; high = refl; wide = refl; low_back = refl; high_back = refl }
+ranged zero h = record { low_is = refl; high_is = refl; wide = refl; low_back = refl; high_back = refl }
+ranged (suc zero) h = record { low_is = refl; high_is = refl; wide = refl; low_back = refl; high_back = refl }
+ranged (suc (suc zero)) h = record { low_is = refl; high_is = refl; wide = refl; low_back = refl; high_back = refl }
+ranged (suc (suc (suc zero))) h = record { low_is = refl; high_is = refl; wide = refl; low_back = refl; high_back = refl }
+ranged (suc (suc (suc (suc zero)))) h = record { low_is = refl; high_is = refl; wide = refl; low_back = refl; high_back = refl }
+ranged (suc (suc (suc (suc (suc zero))))) h = record { low_is = refl; high_is = refl; wide = refl; low_back = refl; high_back = refl }
 ranged (suc (suc (suc (suc (suc (suc i)))))) h = absurd (omega arith)
 
 -- they fit a word

@@ -24,14 +24,19 @@ returns-then-body-gt-MAX_BYTES c = off c.args.form c.args.count c.args.body.now 
 pub loop-i-init : goal.loop-i-init
 loop-i-init c = record { ts = []; state = state_start (table_of c.args.form) (table_good c.args.form) c.args.count c.args.body.now; output = part_none (length c.args.out.now) c.args.out.now }
 
-pub get_point-requires : goal.get_point-requires
-get_point-requires c =
+pub invariant_of-place : goal.invariant_of-place
+invariant_of-place c =
+    let a = c.args in
+    let l = c.loop-i in
+    record { short = omega (arith, c.if-body-gt-MAX_BYTES.false); inside = walked_inside a.form a.count a.body.now a.out.now l.out l.at l.a l.b l.i l.invariant }
+
+pub point-requires : goal.point-requires
+point-requires c =
     let a = c.args in
     let l = c.loop-i in
     let w = l.invariant in
     let rs = table_of a.form in
     let g = table_good a.form in (
-      walked_inside a.form a.count a.body.now a.out.now l.out l.at l.a l.b l.i w c.if-body-gt-MAX_BYTES.false,
       state_raw rs g a.count a.body.now w.ts l.at l.a l.b l.i w.state,
       state_far rs g a.count a.body.now w.ts l.at l.a l.b l.i w.state,
       w.state.a_small,
@@ -53,8 +58,8 @@ overflow_add-at c =
     let s = c.in-Some in
     let in_body =
     walked_inside a.form a.count a.body.now a.out.now c.keep.new.out (l.at + s.n) l.b s.t (l.i + 1)
-    (walked_more a.form a.count a.body.now a.out.now l.out l.at l.a l.b l.i l.invariant c.loop-i-test.true s.t s.n s.ensures.0 s.ensures.1 c.keep.new.out c.keep.ensures) c.if-body-gt-MAX_BYTES.false in
-    record { fits = omega (arith, in_body.short, in_body.inside) }
+    (walked_more a.form a.count a.body.now a.out.now l.out l.at l.a l.b l.i l.invariant c.loop-i-test.true s.t s.n s.ensures.0 s.ensures.1 c.keep.new.out c.keep.ensures) in
+    record { fits = omega (arith, in_body, c.if-body-gt-MAX_BYTES.false) }
 
 pub loop-i-preserved : goal.loop-i-preserved
 loop-i-preserved c =
@@ -63,11 +68,11 @@ loop-i-preserved c =
     let s = c.in-Some in
     walked_more a.form a.count a.body.now a.out.now l.out l.at l.a l.b l.i l.invariant c.loop-i-test.true s.t s.n s.ensures.0 s.ensures.1 c.keep.new.out c.keep.ensures
 
-pub is_fill-requires : goal.is_fill-requires
-is_fill-requires c =
+pub invariant_of-end : goal.invariant_of-end
+invariant_of-end c =
     let a = c.args in
     let l = c.loop-i in
-    walked_inside a.form a.count a.body.now a.out.now l.out l.at l.a l.b l.i l.invariant c.if-body-gt-MAX_BYTES.false
+    record { short = omega (arith, c.if-body-gt-MAX_BYTES.false); inside = walked_inside a.form a.count a.body.now a.out.now l.out l.at l.a l.b l.i l.invariant }
 
 pub returns : goal.returns
 returns c =

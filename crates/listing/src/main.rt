@@ -19,8 +19,7 @@ fn put_rate(out: &mut Text<TEXT>, rate: u32)
     ensures text { out.new ≡ out.old ++ rate_line rate }
     ensures most { length (rate_line rate) ≤ 26 }
 {
-    out.put_numbered("rate ", rate as u64);
-    out.put("\n");
+    out.put_line("rate ", rate as u64);
 }
 
 // The line of the side, if there is one.
@@ -30,8 +29,7 @@ fn put_side(out: &mut Text<TEXT>, side: u32)
     ensures most { length (side_line side) ≤ 26 }
 {
     if side != 0 {
-        out.put_numbered("side ", side as u64);
-        out.put("\n");
+        out.put_line("side ", side as u64);
     }
 }
 
@@ -42,8 +40,7 @@ fn put_count(out: &mut Text<TEXT>, count: u64)
     ensures text { out.new ≡ out.old ++ count_line count }
     ensures most { length (count_line count) ≤ 27 }
 {
-    out.put_numbered("count ", count);
-    out.put("\n");
+    out.put_line("count ", count);
 }
 
 // The line of the span.
@@ -135,6 +132,5 @@ fn main(rt: HostRuntime) {
     let n = files::read_full(&mut rt.stdin(), &mut input);
     let mut out = Text::new();
     print(&input[..n], &mut out);
-    let text = out.as_bytes();
-    files::write_front(&mut rt.stdout(), text, text.len());
+    files::write_front(&mut rt.stdout(), out.as_bytes());
 }

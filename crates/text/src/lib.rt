@@ -5,7 +5,7 @@
 #![tactic(auto)]
 
 ghost use Rattle.std.specs.Prelude.{◌≡◌, [], ◌++◌, ◌+◌, ◌≤◌, length};
-ghost use Rattle.text.specs.Lines.{refused_line};
+ghost use Rattle.text.specs.Lines.{newline, refused_line};
 ghost use Rattle.text.specs.Numbers.{decimal, hex16, signed};
 
 use std::marker::Model;
@@ -108,6 +108,16 @@ impl<const N: usize> Text<N> {
         self.put_decimal(n);
     }
 
+    // A line of a word and a number in base 10.
+    pub fn put_line(&mut self, word: &str, n: u64)
+        requires { length self.old + (length word.now + 21) ≤ N }
+        ensures text { self.new ≡ self.old ++ (word.now ++ (decimal n ++ newline)) }
+        ensures most { length (word.now ++ (decimal n ++ newline)) ≤ length word.now + 21 }
+    {
+        self.put_numbered(word, n);
+        self.put("\n");
+    }
+
     // The line of a refusal.
     #[tactic(auto, unfolding(crate::specs::Lines::refused_line))]
     pub fn put_refused(&mut self, number: u32, place: u32)
@@ -116,7 +126,6 @@ impl<const N: usize> Text<N> {
         ensures most { length (refused_line number place) ≤ 53 }
     {
         self.put_numbered("refused ", number as u64);
-        self.put_numbered(" at ", place as u64);
-        self.put("\n");
+        self.put_line(" at ", place as u64);
     }
 }

@@ -3,7 +3,7 @@ use mathlib.Core.List.{List, []}
 use mathlib.Core.Path.{◌≡◌, subst}
 use Prim.Native.Nat.{ℕ, ◌<◌}
 use native.Mathlib.Omega.{arith}
-use lib.ListN.{length}
+use lib.ListN.{length, length-replicate}
 use Rattle.outputs.specs.declared.Wrote.{Wrote}
 use Rattle.outputs.specs.declared.Wrote.TheVariants.{NoRoom}
 use Rattle.outputs.specs.Outputs.{Placed}
@@ -16,4 +16,12 @@ placed_none : (bs o p : List ℕ) {w : Wrote} → w ≡ NoRoom → Placed bs w o
 placed_none bs o p e h = subst (λ (w : Wrote). Placed bs w o p) e h
 
 pub returns-in-NoRoom : goal.returns-in-NoRoom
-returns-in-NoRoom c = absurd (omega (arith, c.body_room-body.ensures, placed_none (coded_ratios c.args.ratios.now) c.body_room-body.result c.put_ratios-wrote.new.out c.in-NoRoom.is c.put_ratios-wrote.ensures, nine_bytes window_size [] c.args.ratios.now, c.requires))
+returns-in-NoRoom c =
+    absurd
+    (omega (
+      arith,
+      length-replicate {A = ℕ} 36864 0,
+      placed_none (coded_ratios c.args.ratios.now) _ _ c.in-NoRoom.is c.put_ratios.ensures,
+      nine_bytes window_size [] c.args.ratios.now,
+      c.requires,
+    ))

@@ -1,5 +1,5 @@
 -- What the program prints, by what reading its inputs left and by the calls' answers.
-use mathlib.Core.List.{List, ◌++◌, append_assoc}
+use mathlib.Core.List.{List, [], ◌++◌, append_assoc}
 use mathlib.Core.Path.{◌≡◌, refl, sym, ap, ap₂, subst, ◌∙◌}
 use Prim.Native.Nat.{ℕ, ◌≤◌, min}
 use borrow.Author.Tests.{eq-eqb, ne_eqb}
@@ -9,7 +9,7 @@ use Rattle.record_format.specs.Runs.{Run}
 use Rattle.record_format.specs.Checking.{run_in, checked}
 use Rattle.record_format.specs.declared.CheckAnswer.{CheckAnswer}
 use Rattle.inputs.specs.Inputs.{input_limit}
-use Rattle.inputs.specs.Readings.{InputRead}
+use Rattle.inputs.specs.Readings.{RunHeld, InputRead}
 use Rattle.inputs.proofs.Inputs.{reads_whole}
 use Rattle.differences.specs.declared.OverallDifferences.{OverallDifferences}
 use Rattle.differences.specs.Overall.{overall_of}
@@ -32,6 +32,14 @@ text_refused c n = rw (ne_eqb c.number 0 n)
 pub text_list : (c : Comparison) → c.number ≡ 0 → comparison_text c ≡ differences_text c.list
 unfolding comparison_text
 text_list c e = rw (eq-eqb c.number 0 e)
+
+-- a text of three parts, put one after the other
+pub joined : {o p q r text : List ℕ} (a b c : List ℕ) → o ≡ [] → p ≡ o ++ a → q ≡ p ++ b → r ≡ q ++ c → a ++ (b ++ c) ≡ text → r ≡ text
+joined a b c none first second third whole =
+    third
+    ∙ ap (λ (l : List ℕ). l ++ c) (second ∙ ap (λ (l : List ℕ). l ++ b) (first ∙ ap (λ (l : List ℕ). l ++ a) none))
+    ∙ append_assoc a b c
+    ∙ whole
 
 -- ---- by the calls' answers
 
@@ -88,17 +96,24 @@ module _ {s t : List ℕ} {a b : CheckAnswer} {ts vs us ws : List ℕ} (x : Inpu
       (text_then h.count _
       ∙ ap (λ (l : List ℕ). line_of h.count ++ l) (text_then h.form _ ∙ ap (λ (l : List ℕ). line_of h.form ++ l) points-are))))
 
-  -- as the outputs hold them
+  -- what can be taken of the outputs
+  clear : h.number ≡ 0 → (a.number ≡ 0) × (b.number ≡ 0)
+  clear ok = overall_clear a b (sym (ap (λ (o : OverallDifferences). o.number) is) ∙ ok)
+
+  pub both_held : h.number ≡ 0 → RunHeld a.count ts vs × RunHeld b.count us ws
+  both_held ok = (x.held (clear ok).0, y.held (clear ok).1)
+
+  -- as the points are held
   pub lines_text : h.number ≡ 0 → (k : ℕ) → k ≡ min a.count b.count
-      → properties_text h ++ (lines_below (take a.count ts) (take a.count vs) (take b.count us) (take b.count ws) k ++ line_of h.more) ≡ printed s t
-  lines_text ok k few =
-      let clear = overall_clear a b (sym (ap (λ (o : OverallDifferences). o.number) is) ∙ ok) in
+      → {ps rs qs ks : List ℕ} → (ps ≡ take a.count ts) × (rs ≡ take a.count vs) → (qs ≡ take b.count us) × (ks ≡ take b.count ws)
+      → properties_text h ++ (lines_below ps rs qs ks k ++ line_of h.more) ≡ printed s t
+  lines_text ok k few first second =
       let r = (reads_whole s x.whole).1 in
       let q = (reads_whole t y.whole).1 in
       rw (
-        x.positions clear.0 ∙ ap (λ (z : Run). z.positions) r,
-        x.ratios clear.0 ∙ ap (λ (z : Run). z.ratios) r,
-        y.positions clear.1 ∙ ap (λ (z : Run). z.positions) q,
-        y.ratios clear.1 ∙ ap (λ (z : Run). z.ratios) q,
+        first.0 ∙ x.positions (clear ok).0 ∙ ap (λ (z : Run). z.positions) r,
+        first.1 ∙ x.ratios (clear ok).0 ∙ ap (λ (z : Run). z.ratios) r,
+        second.0 ∙ y.positions (clear ok).1 ∙ ap (λ (z : Run). z.positions) q,
+        second.1 ∙ y.ratios (clear ok).1 ∙ ap (λ (z : Run). z.ratios) q,
       )
       (run_lines ok k few)

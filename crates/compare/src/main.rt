@@ -2,241 +2,182 @@
 // a line for each difference and nothing for equal records; or the refusal, and which record it was.
 #![tactic(auto)]
 
-ghost use Rattle.std.specs.Prelude.{◌≡◌, ◌+◌, ◌*◌, ◌≤◌, min, length, take};
+ghost use Rattle.std.specs.Prelude.{◌≡◌, ◌+◌, ◌*◌, ◌≤◌, [], ◌++◌, take, length};
 ghost use Rattle.limits.specs.Points.{max_points};
-ghost use Rattle.text.specs.PlacedAt.{PlacedAt};
 ghost use Rattle.inputs.specs.Inputs.{input_limit};
-ghost use Rattle.compare.specs.Lines.{property_word, kind_word, property_line, ratio_line, line_of, refused_in_line};
+ghost use Rattle.inputs.specs.Readings.{RunHeld};
+ghost use Rattle.compare.specs.Lines.{property_word, kind_word, property_line, position_line, ratio_line, line_of, refused_in_line};
 ghost use Rattle.compare.specs.Pieces.{properties_text, lines_at, lines_below};
 ghost use Rattle.compare.specs.Printed.{line_limit, text_limit, printed};
 
 use differences::{Difference, OverallDifferences, Property};
 use inputs::{input_room, numbers_room, read_input};
 use kind::Kind;
+use text::Text;
 
 // Room for every text: 79 bytes for each line, one for each of four properties, two for each of 4,096 points, and one more.
 const TEXT: usize = 647563;
 
-// The output.
-fn output_room() -> [u8; TEXT]
-    ensures { text_limit ≡ length result }
-{
-    [0; TEXT]
+// The points of a run.
+#[derive(Clone, Copy)]
+pub struct Points<'a> {
+    pub positions: &'a [u64],
+    pub ratios: &'a [u64],
 }
 
-// A word of up to 10 bytes: the first `length` of these.
-#[derive(Clone, Copy)]
-pub struct Label {
-    pub bytes: [u8; 10],
-    pub length: usize,
+impl<'a> Points<'a> {
+    // The first n of both.
+    fn first(n: usize, positions: &'a [u64], ratios: &'a [u64]) -> Points<'a>
+        requires { RunHeld n positions.now ratios.now }
+        ensures positions { result.positions.now ≡ take n positions.now }
+        ensures ratios { result.ratios.now ≡ take n ratios.now }
+    {
+        Points {
+            positions: &positions[..n],
+            ratios: &ratios[..n],
+        }
+    }
 }
 
 // The word of a property, and a space.
-fn property_label(property: Property) -> Label
-    ensures { (result.length ≤ 10) × (take result.length result.bytes ≡ property_word property) }
+fn property_word(property: Property) -> &'static str
+    ensures word { result.now ≡ property_word property }
+    ensures most { length (property_word property) ≤ 10 }
 {
     match property {
-        Property::Rate => Label {
-            bytes: *b"rate      ",
-            length: 5,
-        },
-        Property::Side => Label {
-            bytes: *b"side      ",
-            length: 5,
-        },
-        Property::Count => Label {
-            bytes: *b"count     ",
-            length: 6,
-        },
-        Property::Form => Label {
-            bytes: *b"form      ",
-            length: 5,
-        },
+        Property::Rate => "rate ",
+        Property::Side => "side ",
+        Property::Count => "count ",
+        Property::Form => "form ",
     }
 }
 
 // The word of a kind, between two spaces.
-fn kind_label(kind: Kind) -> Label
-    ensures { (result.length ≤ 10) × (take result.length result.bytes ≡ kind_word kind) }
+fn kind_word(kind: Kind) -> &'static str
+    ensures word { result.now ≡ kind_word kind }
+    ensures most { length (kind_word kind) ≤ 10 }
 {
     match kind {
-        Kind::Number(_) => Label {
-            bytes: *b" number   ",
-            length: 8,
-        },
-        Kind::Infinity(_) => Label {
-            bytes: *b" infinity ",
-            length: 10,
-        },
-        Kind::Nan(_) => Label {
-            bytes: *b" nan      ",
-            length: 5,
-        },
+        Kind::Number(_) => " number ",
+        Kind::Infinity(_) => " infinity ",
+        Kind::Nan(_) => " nan ",
     }
 }
 
-// Puts a word.
-fn put_label(out: &mut [u8], at: usize, word: Label) -> usize
-    requires { (at + 10 ≤ length out.old) × (word.length ≤ 10) }
-    ensures { PlacedAt 10 (take word.length word.bytes) at result out.old out.new }
-{
-    let bytes = word.bytes;
-    let length = word.length;
-    text::put_text(out, at, &bytes[..length])
-}
-
 // The line of a property.
-fn put_property(out: &mut [u8], at: usize, property: Property, first: u32, second: u32) -> usize
-    requires { at + line_limit ≤ length out.old }
-    ensures { PlacedAt line_limit (property_line property first second) at result out.old out.new }
+#[tactic(auto, unfolding(crate::specs::Lines::property_line))]
+fn put_property(out: &mut Text<TEXT>, property: Property, first: u32, second: u32)
+    requires { length out.old + line_limit ≤ text_limit }
+    ensures text { out.new ≡ out.old ++ property_line property first second }
+    ensures most { length (property_line property first second) ≤ line_limit }
 {
-    let word = property_label(property);
-    let number = put_label(out, at, word);
-    let rest = text::put_decimal(out, number, first as u64);
-    text::put_one(out, rest, b" ", second as u64)
+    out.put_numbered(property_word(property), first as u64);
+    out.put_line(" ", second as u64);
 }
 
-// Puts the word of a kind.
-fn put_kind(out: &mut [u8], at: usize, kind: Kind) -> usize
-    requires { at + 10 ≤ length out.old }
-    ensures { PlacedAt 10 (kind_word kind) at result out.old out.new }
+// The line of a position in both records.
+#[tactic(auto, unfolding(crate::specs::Lines::position_line))]
+fn put_position(out: &mut Text<TEXT>, index: u64, first: u64, second: u64)
+    requires { length out.old + line_limit ≤ text_limit }
+    ensures text { out.new ≡ out.old ++ position_line index first second }
+    ensures most { length (position_line index first second) ≤ line_limit }
 {
-    let word = kind_label(kind);
-    put_label(out, at, word)
+    out.put_numbered("position ", index);
+    out.put_numbered(" ", first);
+    out.put_line(" ", second);
 }
 
 // The line of a ratio: the bits of the first record's, of kind k, and of the second's, of kind l.
-fn put_ratio(
-    out: &mut [u8],
-    at: usize,
-    index: u64,
-    first: u64,
-    k: Kind,
-    second: u64,
-    l: Kind,
-) -> usize
-    requires { at + line_limit ≤ length out.old }
-    ensures { PlacedAt line_limit (ratio_line index first k second l) at result out.old out.new }
+#[tactic(auto, unfolding(crate::specs::Lines::ratio_line))]
+fn put_ratio(out: &mut Text<TEXT>, index: u64, first: u64, k: Kind, second: u64, l: Kind)
+    requires { length out.old + line_limit ≤ text_limit }
+    ensures text { out.new ≡ out.old ++ ratio_line index first k second l }
+    ensures most { length (ratio_line index first k second l) ≤ line_limit }
 {
-    let first_word = text::put_numbered(out, at, b"ratio ", index);
-    let first_bits = put_kind(out, first_word, k);
-    let second_word = text::put_hex(out, first_bits, first);
-    let second_bits = put_kind(out, second_word, l);
-    let end = text::put_hex(out, second_bits, second);
-    text::put_newline(out, end)
+    out.put_numbered("ratio ", index);
+    out.put(kind_word(k));
+    out.put_hex(first);
+    out.put(kind_word(l));
+    out.put_hex(second);
+    out.put("\n");
 }
 
 // The line of a difference, if there is one.
-fn put_difference(out: &mut [u8], at: usize, difference: Difference) -> usize
-    requires { at + line_limit ≤ length out.old }
-    ensures { PlacedAt line_limit (line_of difference) at result out.old out.new }
+#[tactic(auto, unfolding(crate::specs::Lines::more_line))]
+fn put_difference(out: &mut Text<TEXT>, difference: Difference)
+    requires { length out.old + line_limit ≤ text_limit }
+    ensures text { out.new ≡ out.old ++ line_of difference }
+    ensures most { length (line_of difference) ≤ line_limit }
 {
     match difference {
-        Difference::Equal => at,
+        Difference::Equal => {}
         Difference::InProperty(property, first, second) => {
-            put_property(out, at, property, first, second)
+            put_property(out, property, first, second)
         }
-        Difference::Position(index, first, second) => {
-            text::put_three(out, at, b"position ", index, b" ", first, b" ", second)
-        }
+        Difference::Position(index, first, second) => put_position(out, index, first, second),
         Difference::Ratio {
             index,
             first,
             first_kind,
             second,
             second_kind,
-        } => put_ratio(out, at, index, first, first_kind, second, second_kind),
-        Difference::More(n) => text::put_one(out, at, b"more ", n as u64),
+        } => put_ratio(out, index, first, first_kind, second, second_kind),
+        Difference::More(n) => out.put_line("more ", n as u64),
     }
 }
 
 // The only line of a refusal.
-fn put_refused_in(out: &mut [u8], number: u32, place: u32, which: u32) -> usize
-    requires { line_limit ≤ length out.old }
-    ensures { PlacedAt line_limit (refused_in_line number place which) 0 result out.old out.new }
+#[tactic(auto, unfolding(crate::specs::Lines::refused_in_line))]
+fn put_refused_in(out: &mut Text<TEXT>, number: u32, place: u32, which: u32)
+    requires { length out.old + line_limit ≤ text_limit }
+    ensures text { out.new ≡ out.old ++ refused_in_line number place which }
+    ensures most { length (refused_in_line number place which) ≤ line_limit }
 {
-    text::put_three(
-        out,
-        0,
-        b"refused ",
-        number as u64,
-        b" at ",
-        place as u64,
-        b" in ",
-        which as u64,
-    )
+    out.put_numbered("refused ", number as u64);
+    out.put_numbered(" at ", place as u64);
+    out.put_line(" in ", which as u64);
 }
 
 // The lines of the properties.
-fn put_properties(out: &mut [u8], overall: OverallDifferences) -> usize
-    requires { line_limit * 4 ≤ length out.old }
-    ensures { PlacedAt (line_limit * 4) (properties_text overall) 0 result out.old out.new }
+fn put_properties(out: &mut Text<TEXT>, overall: OverallDifferences)
+    requires { length out.old + line_limit * 4 ≤ text_limit }
+    ensures text { out.new ≡ out.old ++ properties_text overall }
+    ensures most { length (properties_text overall) ≤ line_limit * 4 }
 {
-    let rate = overall.rate;
-    let side_at = put_difference(out, 0, rate);
-    let side = overall.side;
-    let count_at = put_difference(out, side_at, side);
-    let count = overall.count;
-    let form_at = put_difference(out, count_at, count);
-    let form = overall.form;
-    put_difference(out, form_at, form)
+    put_difference(out, overall.rate);
+    put_difference(out, overall.side);
+    put_difference(out, overall.count);
+    put_difference(out, overall.form);
 }
 
-// The lines of the index i: ts and vs are the first run's positions and ratios, us and ws the second's.
-fn put_point(
-    out: &mut [u8],
-    at: usize,
-    ts: &[u64],
-    vs: &[u64],
-    us: &[u64],
-    ws: &[u64],
-    i: usize,
-) -> usize
-    requires { at + line_limit * 2 ≤ length out.old }
-    ensures { PlacedAt (line_limit * 2) (lines_at ts.now vs.now us.now ws.now i) at result out.old out.new }
+// The lines of the index i.
+fn put_point(out: &mut Text<TEXT>, first: &Points<'_>, second: &Points<'_>, i: usize)
+    requires { length out.old + line_limit * 2 ≤ text_limit }
+    ensures text { out.new ≡ out.old ++ lines_at first.now.positions.now first.now.ratios.now second.now.positions.now second.now.ratios.now i }
+    ensures most { length (lines_at first.now.positions.now first.now.ratios.now second.now.positions.now second.now.ratios.now i) ≤ line_limit * 2 }
 {
-    let position = differences::position_at(ts, us, i as u64);
-    let next = put_difference(out, at, position);
-    let ratio = differences::ratio_at(vs, ws, i as u64);
-    put_difference(out, next, ratio)
+    let position = differences::position_at(first.positions, second.positions, i as u64);
+    put_difference(out, position);
+    let ratio = differences::ratio_at(first.ratios, second.ratios, i as u64);
+    put_difference(out, ratio);
 }
 
 // The lines of each index below n.
-fn put_points(
-    out: &mut [u8],
-    at: usize,
-    ts: &[u64],
-    vs: &[u64],
-    us: &[u64],
-    ws: &[u64],
-    n: usize,
-) -> usize
-    requires { (n ≤ max_points) × (at + line_limit * 2 * n ≤ length out.old) }
-    ensures { PlacedAt (line_limit * 2 * n) (lines_below ts.now vs.now us.now ws.now n) at result out.old out.new }
+fn put_points(out: &mut Text<TEXT>, first: &Points<'_>, second: &Points<'_>, n: usize)
+    requires { (n ≤ max_points) × (length out.old + line_limit * 2 * n ≤ text_limit) }
+    ensures text { out.new ≡ out.old ++ lines_below first.now.positions.now first.now.ratios.now second.now.positions.now second.now.ratios.now n }
+    ensures most { length (lines_below first.now.positions.now first.now.ratios.now second.now.positions.now second.now.ratios.now n) ≤ line_limit * 2 * n }
 {
-    let mut end = at;
-    let mut i = 0;
-    while i < n {
-        end = put_point(out, end, ts, vs, us, ws, i);
-        i += 1;
+    for i in 0..n {
+        put_point(out, first, second, i);
     }
-    end
 }
 
-// The smaller number.
-fn least(m: usize, n: usize) -> usize
-    ensures { result ≡ min m n }
-{
-    if m < n {
-        return m;
-    }
-    n
-}
-
-// Puts the text for two inputs into an output, and returns its length.
-fn print(first: &[u8], second: &[u8], out: &mut [u8]) -> usize
-    requires { (length first.now ≤ input_limit) × (length second.now ≤ input_limit) × (text_limit ≤ length out.old) }
-    ensures { PlacedAt text_limit (printed first.now second.now) 0 result out.old out.new }
+// Puts the text for two inputs into an output that has no text.
+fn print(first: &[u8], second: &[u8], out: &mut Text<TEXT>)
+    requires { (length first.now ≤ input_limit) × (length second.now ≤ input_limit) × (out.old ≡ []) }
+    ensures text { out.new ≡ printed first.now second.now }
+    ensures most { length out.new ≤ text_limit }
 {
     let mut first_positions = numbers_room();
     let mut first_ratios = numbers_room();
@@ -251,18 +192,11 @@ fn print(first: &[u8], second: &[u8], out: &mut [u8]) -> usize
     }
     let m = a.count as usize;
     let n = b.count as usize;
-    let points = put_properties(out, overall);
-    let end = put_points(
-        out,
-        points,
-        &first_positions[..m],
-        &first_ratios[..m],
-        &second_positions[..n],
-        &second_ratios[..n],
-        least(m, n),
-    );
-    let more = overall.more;
-    put_difference(out, end, more)
+    put_properties(out, overall);
+    let first_points = Points::first(m, &first_positions, &first_ratios);
+    let second_points = Points::first(n, &second_positions, &second_ratios);
+    put_points(out, &first_points, &second_points, m.min(n));
+    put_difference(out, overall.more);
 }
 
 fn main(rt: HostRuntime) {
@@ -270,8 +204,7 @@ fn main(rt: HostRuntime) {
     let n = files::read_argument(&rt, 1, &mut first);
     let mut second = input_room();
     let m = files::read_argument(&rt, 2, &mut second);
-    let mut out = output_room();
-    let end = print(&first[..n], &second[..m], &mut out);
-    let mut printed = rt.stdout();
-    files::write_front(&mut printed, &out, end);
+    let mut out = Text::new();
+    print(&first[..n], &second[..m], &mut out);
+    files::write_front(&mut rt.stdout(), out.as_bytes());
 }

@@ -7,6 +7,7 @@ use native.Mathlib.Omega.{arith}
 use borrow.Author.Tests.{eq-eqb, ne_eqb}
 use lib.ListN.{length, get_or, take}
 use lib.Seq.{take-suc, take_all}
+use Rattle.std.specs.Prelude.{None, Some}
 use Rattle.lists.specs.Lists.{first_index}
 use Rattle.bits.specs.Digits.{number_of}
 use Rattle.bits.proofs.Digits.{number_snoc}
@@ -47,18 +48,19 @@ capped_more t i h n e =
 -- ---- the whole text
 
 -- no text
-pub index_none : (t : List ℕ) → length t ≡ 0 → max_points ≡ capped (given_index t)
+pub index_none : (t : List ℕ) → length t ≡ 0 → None ≡ capped (given_index t)
 index_none t e = rw (eq-eqb (length t) 0 e)
 
 -- a text with another byte than a digit
-pub index_other : (t : List ℕ) → first_index not_digit t < length t → max_points ≡ capped (given_index t)
+pub index_other : (t : List ℕ) → first_index not_digit t < length t → None ≡ capped (given_index t)
 index_other t h =
     let some-text : length t ≡ 0 → ⊥ = λ e. omega arith in
     let other : first_index not_digit t ≡ length t → ⊥ = λ e. omega arith in
     rw (ne_eqb (length t) 0 some-text, ne_eqb (first_index not_digit t) (length t) other)
 
 -- digits alone
-pub index_digits : (t : List ℕ) → (length t ≡ 0 → ⊥) → first_index not_digit t ≡ length t → (i : ℕ) → length t ≤ i → min max_points (value_of t i) ≡ capped (given_index t)
-index_digits t n e i h =
-    ap (λ (l : List ℕ). min max_points (number_of 10 (map digit_of l))) (take_all i t h)
+pub index_digits : (t : List ℕ) → (length t ≡ 0 → ⊥) → first_index not_digit t ≡ length t → (i : ℕ) → length t ≤ i → (m : ℕ) → m ≡ min max_points (value_of t i) → Some m ≡ capped (given_index t)
+index_digits t n e i h m is =
+    ap (λ (k : ℕ). Some k) is
+    ∙ ap (λ (l : List ℕ). Some (min max_points (number_of 10 (map digit_of l)))) (take_all i t h)
     ∙ rw (ne_eqb (length t) 0 n, eq-eqb (first_index not_digit t) (length t) e)

@@ -10,6 +10,8 @@ use borrow.Author.Tests.{lt-ltb, le-ltb, leb-true, leb-false, eq-eqb, ne_eqb}
 use lib.Dec.{leb}
 use lib.ListN.{length, get_or, take}
 use lib.Seq.{take_all}
+use Rattle.std.specs.Prelude.{None, Some}
+use Rattle.std.proofs.lemmas.Option.{none-some, same_Some}
 use Rattle.limits.specs.Points.{max_points}
 use Rattle.ratio_format.specs.Bodies.{coded_ratios}
 use Rattle.record_format.specs.Runs.{Run, record_of}
@@ -43,16 +45,27 @@ module _ (b : ℕ) (vs : List ℕ) where
       (ap₂ (λ (t : Bool) (r : Reason). cond t (cost_line i (get_or vs i 0) (cost_of vs i) (offset_of b vs i)) [] ++ reason_line r)
       (le-ltb i (length vs) h) (explained_past vs i few h))
 
-  -- one that is cut at the largest number of points is answered alike
-  pub point_capped : length vs ≤ max_points → (o : Option ℕ) → point_text b vs (capped o) ≡ index_text b vs o
-  point_capped few none = sym (point_past few max_points few)
-  point_capped few (some n) = go (leb n max_points) refl
-    where
-      go : (t : Bool) → leb n max_points ≡ t → point_text b vs (min max_points n) ≡ point_text b vs n
-      go true e = let c : min max_points n ≡ n = omega (arith, leb-true n max_points e) in ap (point_text b vs) c
-      go false e =
-          let h = leb-false n max_points e in
-          sym (point_past few (min max_points n) (omega arith)) ∙ point_past few n (omega arith)
+  -- a text that is none
+  pub index_none : (o : Option ℕ) → capped o ≡ None → refused_line 22 0 ≡ index_text b vs o
+  index_none none e = refl
+  index_none (some n) e = absurd (none-some _ (sym e))
+
+  module _ (few : length vs ≤ max_points) (o : Option ℕ) (i : ℕ) (e : capped o ≡ Some i) where
+    -- one that a ratio has is not cut
+    pub index_own : i < length vs → point_text b vs i ≡ index_text b vs o
+    index_own = own o e
+      where
+        own : (o : Option ℕ) → capped o ≡ Some i → i < length vs → point_text b vs i ≡ index_text b vs o
+        own none e h = absurd (none-some _ e)
+        own (some n) e h = let same : i ≡ n = omega (arith, same_Some _ _ e) in ap (point_text b vs) same
+
+    -- one that no ratio has, cut or not
+    pub index_past : length vs ≤ i → refused_line 22 0 ≡ index_text b vs o
+    index_past = past o e
+      where
+        past : (o : Option ℕ) → capped o ≡ Some i → length vs ≤ i → refused_line 22 0 ≡ index_text b vs o
+        past none e h = refl
+        past (some n) e h = point_past few n (omega (arith, same_Some _ _ e))
 
 -- ---- by what reading the input s left
 

@@ -3,8 +3,8 @@
 --   digit_of c     the digit of that code
 --   not_digit c    it is not
 --   given_index t  the number that the text t is, in base 10: digits alone, at least one, leading zeros allowed; or nothing
---   capped o       the number as far as it can be an index: 4,096 stands for all from there on, and for none
-use Rattle.std.specs.Prelude.{Bool, not, cond, List, map, ℕ, ◌-◌, min, leb, eqb, length}
+--   capped o       the number as far as it can be an index, as the program holds it: 4,096 stands for all from there on
+use Rattle.std.specs.Prelude.{Option as Index, None, Some, Bool, not, cond, List, map, ℕ, ◌-◌, min, leb, eqb, length}
 use Rattle.std.proofs.Math.Option.{Option, none, some}
 use Rattle.limits.specs.Points.{max_points}
 use Rattle.lists.specs.Compare.{both}
@@ -31,6 +31,6 @@ given_index t =
     none
 
 -- no run has an index from 4,096 on
-abbrev pub capped : Option ℕ → ℕ
-capped none = max_points
-capped (some n) = min max_points n
+abbrev pub capped : Option ℕ → Index ℕ
+capped none = None
+capped (some n) = Some (min max_points n)

@@ -2,18 +2,18 @@
 // is the second argument costs, and why; or the refusal.
 #![tactic(auto)]
 
-ghost use Rattle.std.specs.Prelude.{◌≡◌, true, ◌+◌, ◌*◌, ◌≤◌, ◌<◌, min, length, take};
+ghost use Rattle.std.specs.Prelude.{◌≡◌, ◌+◌, ◌≤◌, ◌<◌, MatchOption, [], ◌++◌, length, take, false, true};
 ghost use Rattle.limits.specs.Points.{max_points};
 ghost use Rattle.ratio_format.specs.Bodies.{coded_ratios};
-ghost use Rattle.text.specs.PlacedAt.{PlacedAt};
 ghost use Rattle.inputs.specs.Inputs.{input_limit};
 ghost use Rattle.explain.specs.Indexes.{is_digit, digit_of, given_index, capped};
 ghost use Rattle.explain.specs.Lines.{cost_line, xor_line, reason_line};
-ghost use Rattle.explain.specs.Printed.{body_limit, argument_limit, text_limit, cost_of, point_text, printed};
+ghost use Rattle.explain.specs.Printed.{text_limit, cost_of, point_text, index_text, printed};
 
 use inputs::{input_room, numbers_room, read_input};
 use limits::MAX_POINTS;
 use reasons::Reason;
+use text::Text;
 
 // As many bytes as the longest body of a run's ratios has.
 const BODY: usize = 36864;
@@ -31,64 +31,28 @@ pub struct RatioExtent {
     pub cost: usize,
 }
 
-// Whether a byte is a digit.
-fn is_digit(c: u8) -> bool
-    ensures { result ≡ is_digit c }
+// The digit that a byte is.
+fn digit(c: u8) -> Option<usize>
+    ensures { MatchOption result (is_digit c ≡ false) (λ d. (is_digit c ≡ true) × (d ≡ digit_of c)) }
 {
-    48 <= c && c <= 57
-}
-
-// A number of which the digits before c make n, up to 4,096.
-fn append_digit(n: usize, c: u8) -> usize
-    requires { (n ≤ max_points) × (is_digit c ≡ true) }
-    ensures { result ≡ min max_points (n * 10 + digit_of c) }
-{
-    let next = n * 10 + (c - 48) as usize;
-    if MAX_POINTS < next {
-        return MAX_POINTS;
+    match c {
+        b'0'..=b'9' => Some((c - b'0') as usize),
+        _ => None,
     }
-    next
 }
 
-// The index that a text is, up to 4,096, which stands for a text that is none, too: no run has that index.
-fn index_in(text: &[u8]) -> usize
+// The index that a text is, up to 4,096, which no run has.
+fn index_in(text: &[u8]) -> Option<usize>
     ensures { result ≡ capped (given_index text.now) }
 {
-    if text.len() == 0 {
-        return MAX_POINTS;
+    if text.is_empty() {
+        return None;
     }
     let mut n = 0;
-    let mut i = 0;
-    while i < text.len() {
-        let c = text[i];
-        if !is_digit(c) {
-            return MAX_POINTS;
-        }
-        n = append_digit(n, c);
-        i += 1;
+    for c in text {
+        n = (n * 10 + digit(*c)?).min(MAX_POINTS);
     }
-    n
-}
-
-// Room for the body of every run's ratios.
-fn body_room() -> [u8; BODY]
-    ensures { body_limit ≡ length result }
-{
-    [0; BODY]
-}
-
-// Room for every argument.
-fn argument_room() -> [u8; ARGUMENT]
-    ensures { argument_limit ≡ length result }
-{
-    [0; ARGUMENT]
-}
-
-// Room for the text.
-fn output_room() -> [u8; TEXT]
-    ensures { text_limit ≡ length result }
-{
-    [0; TEXT]
+    Some(n)
 }
 
 // How many bytes the body of some ratios has.
@@ -96,48 +60,50 @@ fn body_size(ratios: &[u64]) -> usize
     requires { length ratios.now ≤ max_points }
     ensures { result ≡ length (coded_ratios ratios.now) }
 {
-    let mut body = body_room();
-    let wrote = ratio_bodies::put_ratios(ratios, &mut body);
-    match wrote {
-        Some(n) => n,
-        None => 0,
-    }
+    ratio_bodies::put_ratios(ratios, &mut [0; BODY]).unwrap()
 }
 
 // The line of the cost: the ratio v of index i, n bytes from offset o on.
-fn put_cost(out: &mut [u8], i: u64, v: u64, n: u64, o: u64) -> usize
-    requires { 95 ≤ length out.old }
-    ensures { PlacedAt 95 (cost_line i v n o) 0 result out.old out.new }
+#[tactic(auto, unfolding(crate::specs::Lines::cost_line))]
+fn put_cost(out: &mut Text<TEXT>, i: u64, v: u64, n: u64, o: u64)
+    requires { length out.old + 95 ≤ text_limit }
+    ensures text { out.new ≡ out.old ++ cost_line i v n o }
+    ensures most { length (cost_line i v n o) ≤ 95 }
 {
-    let gap = text::put_numbered(out, 0, b"ratio ", i);
-    let cost = text::put_bits(out, gap, v);
-    text::put_two(out, cost, b" ", n, b" bytes at ", o)
+    out.put_numbered("ratio ", i);
+    out.put(" ");
+    out.put_hex(v);
+    out.put_numbered(" ", n);
+    out.put_numbered(" bytes at ", o);
+    out.put("\n");
 }
 
 // The line of an xor form.
-fn put_xor(out: &mut [u8], at: usize, place: u64, lead: u64, trail: u64) -> usize
-    requires { at + 111 ≤ length out.old }
-    ensures { PlacedAt 111 (xor_line place lead trail) at result out.old out.new }
+#[tactic(auto, unfolding(crate::specs::Lines::xor_line))]
+fn put_xor(out: &mut Text<TEXT>, place: u64, lead: u64, trail: u64)
+    requires { length out.old + 111 ≤ text_limit }
+    ensures text { out.new ≡ out.old ++ xor_line place lead trail }
+    ensures most { length (xor_line place lead trail) ≤ 111 }
 {
-    let comma = text::put_numbered(out, at, b"xor with place ", place);
-    let leading = text::put_numbered(out, comma, b", ", lead);
-    let trailing = text::put_numbered(out, leading, b" leading and ", trail);
-    text::put_text(out, trailing, b" trailing zero bytes\n")
+    out.put_numbered("xor with place ", place);
+    out.put_numbered(", ", lead);
+    out.put_numbered(" leading and ", trail);
+    out.put(" trailing zero bytes\n");
 }
 
 // The line of a reason.
-fn put_reason(out: &mut [u8], at: usize, reason: Reason) -> usize
-    requires { at + 111 ≤ length out.old }
-    ensures { PlacedAt 111 (reason_line reason) at result out.old out.new }
+#[tactic(auto, unfolding(crate::specs::Lines::reason_line))]
+fn put_reason(out: &mut Text<TEXT>, reason: Reason)
+    requires { length out.old + 111 ≤ text_limit }
+    ensures text { out.new ≡ out.old ++ reason_line reason }
+    ensures most { length (reason_line reason) ≤ 111 }
 {
     match reason {
-        Reason::Reference(place) => text::put_one(out, at, b"equal to place ", place as u64),
-        Reason::Xor { place, lead, trail } => {
-            put_xor(out, at, place as u64, lead as u64, trail as u64)
-        }
-        Reason::Exception(sum) => text::put_one(out, at, b"exception, best sum ", sum as u64),
-        Reason::Empty => text::put_text(out, at, b"exception, window empty\n"),
-        Reason::Refused(number, place) => text::put_refused(out, at, number, place),
+        Reason::Reference(place) => out.put_line("equal to place ", place as u64),
+        Reason::Xor { place, lead, trail } => put_xor(out, place as u64, lead as u64, trail as u64),
+        Reason::Exception(sum) => out.put_line("exception, best sum ", sum as u64),
+        Reason::Empty => out.put("exception, window empty\n"),
+        Reason::Refused(number, place) => out.put_refused(number, place),
     }
 }
 
@@ -155,59 +121,59 @@ fn bytes_of(ratios: &[u64], i: usize) -> RatioExtent
 }
 
 // Both lines for the ratio of index i, in a body that begins at the offset b.
-fn put_lines(out: &mut [u8], ratios: &[u64], i: usize, b: usize) -> usize
-    requires { (text_limit ≤ length out.old) × (i < length ratios.now) × (length ratios.now ≤ max_points) × (b ≤ input_limit) }
-    ensures { PlacedAt text_limit (point_text b ratios.now i) 0 result out.old out.new }
+fn put_lines(out: &mut Text<TEXT>, ratios: &[u64], i: usize, b: usize)
+    requires { (out.old ≡ []) × (i < length ratios.now) × (length ratios.now ≤ max_points) × (b ≤ input_limit) }
+    ensures text { out.new ≡ point_text b ratios.now i }
+    ensures most { length out.new ≤ text_limit }
 {
     let bytes = bytes_of(ratios, i);
-    let next = put_cost(
+    put_cost(
         out,
         i as u64,
         ratios[i],
         bytes.cost as u64,
         (b + bytes.before) as u64,
     );
-    let reason = reasons::explain(ratios, i as u64);
-    put_reason(out, next, reason)
+    put_reason(out, reasons::explain(ratios, i as u64));
 }
 
-// The same of any index: the refusal of one that no ratio has.
-fn put_index(out: &mut [u8], ratios: &[u64], i: usize, b: usize) -> usize
-    requires { (text_limit ≤ length out.old) × (length ratios.now ≤ max_points) × (b ≤ input_limit) }
-    ensures { PlacedAt text_limit (point_text b ratios.now i) 0 result out.old out.new }
+// The same of the index that a text is: the refusal of one that no ratio has, and of a text that is none.
+fn put_index(out: &mut Text<TEXT>, ratios: &[u64], index: &[u8], b: usize)
+    requires { (out.old ≡ []) × (length ratios.now ≤ max_points) × (b ≤ input_limit) }
+    ensures text { out.new ≡ index_text b ratios.now (given_index index.now) }
+    ensures most { length out.new ≤ text_limit }
 {
-    if ratios.len() <= i {
-        return text::put_refused(out, 0, 22, 0);
+    match index_in(index) {
+        Some(i) if i < ratios.len() => put_lines(out, ratios, i, b),
+        _ => out.put_refused(22, 0),
     }
-    put_lines(out, ratios, i, b)
 }
 
-// Puts the text for an input and the text of an index into an output, and returns its length.
-fn print(input: &[u8], index: &[u8], out: &mut [u8]) -> usize
-    requires { (length input.now ≤ input_limit) × (text_limit ≤ length out.old) }
-    ensures { PlacedAt text_limit (printed input.now index.now) 0 result out.old out.new }
+// Puts the text for an input and the text of an index into an output that has no text.
+fn print(input: &[u8], index: &[u8], out: &mut Text<TEXT>)
+    requires { (length input.now ≤ input_limit) × (out.old ≡ []) }
+    ensures text { out.new ≡ printed input.now index.now }
+    ensures most { length out.new ≤ text_limit }
 {
     let mut positions = numbers_room();
     let mut ratios = numbers_room();
     let answer = read_input(input, &mut positions, &mut ratios);
     let number = answer.number;
     if number != 0 {
-        return text::put_refused(out, 0, number, answer.place);
+        out.put_refused(number, answer.place);
+        return;
     }
-    let count = answer.count as usize;
-    let size = answer.size as usize;
-    let body = size - body_size(&ratios[..count]);
-    let i = index_in(index);
-    put_index(out, &ratios[..count], i, body)
+    let ratios = &ratios[..answer.count as usize];
+    let body = answer.size as usize - body_size(ratios);
+    put_index(out, ratios, index, body);
 }
 
 fn main(rt: HostRuntime) {
     let mut input = input_room();
     let n = files::read_argument(&rt, 1, &mut input);
-    let mut index = argument_room();
+    let mut index = [0; ARGUMENT];
     let m = files::argument(&rt, 2, &mut index);
-    let mut out = output_room();
-    let end = print(&input[..n], &index[..m], &mut out);
-    let mut printed = rt.stdout();
-    files::write_front(&mut printed, &out, end);
+    let mut out = Text::new();
+    print(&input[..n], &index[..m], &mut out);
+    files::write_front(&mut rt.stdout(), out.as_bytes());
 }

@@ -22,12 +22,12 @@ pub fn read_full<R: Read>(from: &mut R, buf: &mut [u8]) -> usize
     ensures prefix_len { IsPrefixLen result buf.new }
     ensures bytes { Consumes (R.remaining from.old) (R.remaining from.new) (take result buf.new) }
 {
+    // Counted by hand: where the input ends first `read_exact` does not say how many bytes came.
     let mut done = 0;
     while done < buf.len() {
         match from.read(&mut buf[done..]) {
-            Ok(0) => break,
+            Ok(0) | Err(_) => break,
             Ok(n) => done += n,
-            Err(_) => break,
         }
     }
     done
@@ -51,22 +51,14 @@ fn read_file(rt: &impl Files, path: &[u8], buf: &mut [u8]) -> usize
 pub fn argument(rt: &impl Env, i: usize, buf: &mut [u8]) -> usize
     ensures { IsPrefixLen result buf.new }
 {
-    match rt.arg(i, buf) {
-        Ok(n) => n,
-        Err(_) => 0,
-    }
+    rt.arg(i, buf).unwrap_or(0)
 }
 
 // How many arguments the program was started with, its own name among them.
 pub fn argument_count(rt: &impl Env) -> usize {
-    for i in 0..usize::MAX {
-        let mut none = [0; 0];
-        match rt.arg(i, &mut none) {
-            Err(FillError::NotPresent) => return i,
-            _ => {}
-        }
-    }
-    usize::MAX
+    (0..usize::MAX)
+        .find(|i| matches!(rt.arg(*i, &mut []), Err(FillError::NotPresent)))
+        .unwrap_or(usize::MAX)
 }
 
 // Reads the file that the program's argument i names, as `read_file` does. An argument that is missing, empty or longer than a path may be counts as a
@@ -79,20 +71,11 @@ pub fn read_argument(rt: &(impl Files + Env), i: usize, buf: &mut [u8]) -> usize
     read_file(rt, &path[..n], buf)
 }
 
-// Writes the first n bytes to an open file.
-fn put_front<W: Write>(to: &mut W, bytes: &[u8], n: usize) -> io::Result<()>
-    requires { n ≤ length bytes.now }
-    ensures { OnOk result (Appends (W.contents to.old) (W.contents to.new) (take n bytes.now)) }
+// Writes bytes, as the front of an output, to an open file, and returns whether that succeeded.
+pub fn write_front<W: Write>(to: &mut W, bytes: &[u8]) -> bool
+    ensures { IsTrue result → Appends (W.contents to.old) (W.contents to.new) bytes.now }
 {
-    to.write_all(&bytes[..n])
-}
-
-// The same, and returns whether that succeeded.
-pub fn write_front<W: Write>(to: &mut W, bytes: &[u8], n: usize) -> bool
-    requires { n ≤ length bytes.now }
-    ensures { IsTrue result → Appends (W.contents to.old) (W.contents to.new) (take n bytes.now) }
-{
-    put_front(to, bytes, n).is_ok()
+    to.write_all(bytes).is_ok()
 }
 
 // Writes a line: what failed, as the caller names it, a colon and why, in the system's words where it was the system.
@@ -107,86 +90,38 @@ pub fn fail<W: Write>(to: &mut W, what: &[u8], why: io::Error) {
 
 // The text of an error without the number that std puts after the system's words.
 fn system_words(text: &str) -> &str {
-    match text.split_once(" (os error ") {
-        Some((words, _)) => words,
-        None => text,
-    }
+    text.split_once(" (os error ")
+        .map_or(text, |(words, _)| words)
 }
 
-// Writes the first n bytes to a file, and has them stored: what a close would tell of them, which std keeps to itself, is told here before it.
-fn store<F: Write + OpenFile>(file: &mut F, bytes: &[u8], n: usize) -> io::Result<()>
-    requires { n ≤ length bytes.now }
-{
-    put_front(file, bytes, n)?;
+// Writes bytes to a file, has them stored, and closes it: what a close would tell of them, which std keeps to itself, is told here before it.
+fn fill<F: Write + OpenFile + Drop>(mut file: F, bytes: &[u8]) -> io::Result<()> {
+    file.write_all(bytes)?;
     file.sync_all()
 }
 
-// The same of a file that is then closed; if it fails, a line on `errors` says why.
-fn fill<F: Write + OpenFile + Drop, W: Write>(
-    errors: &mut W,
-    mut file: F,
-    path: &[u8],
-    bytes: &[u8],
-    n: usize,
-) -> bool
-    requires { n ≤ length bytes.now }
-{
-    match store(&mut file, bytes, n) {
+// Makes a new file of some bytes. A file that stands already is never replaced, and only one that was made here and could not be filled is removed.
+fn make_new<R: Files>(rt: &R, path: &[u8], bytes: &[u8]) -> io::Result<()> {
+    let Ok(name) = str::from_utf8(path) else {
+        return Err(io::Error::new(ErrorKind::InvalidFilename, "the name is not UTF-8"));
+    };
+    let file = OpenOptions::new()
+        .write(true)
+        .create_new(true)
+        .open(rt, name)?;
+    let filled = fill(file, bytes);
+    if filled.is_err() {
+        let _ = fs::remove_file(rt, name);
+    }
+    filled
+}
+
+// The same, and returns whether the file stands. Where the answer is no, a line on `errors` says why.
+pub fn save_new<R: Files, W: Write>(rt: &R, errors: &mut W, path: &[u8], bytes: &[u8]) -> bool {
+    match make_new(rt, path, bytes) {
         Ok(()) => true,
         Err(why) => {
             fail(errors, path, why);
-            false
-        }
-    }
-}
-
-// Makes a new file of the first n bytes, and returns whether it stands. A file that stands already is never replaced, and only one that was made
-// here and could not be filled is removed. Where the answer is no, a line on `errors` says why.
-pub fn save_new<R: Files, W: Write>(
-    rt: &R,
-    errors: &mut W,
-    path: &[u8],
-    bytes: &[u8],
-    n: usize,
-) -> bool
-    requires { n ≤ length bytes.now }
-{
-    match str::from_utf8(path) {
-        Ok(name) => save_named(rt, errors, name, bytes, n),
-        Err(_) => {
-            fail(
-                errors,
-                path,
-                io::Error::new(ErrorKind::InvalidFilename, "the name is not UTF-8"),
-            );
-            false
-        }
-    }
-}
-
-fn save_named<R: Files, W: Write>(
-    rt: &R,
-    errors: &mut W,
-    name: &str,
-    bytes: &[u8],
-    n: usize,
-) -> bool
-    requires { n ≤ length bytes.now }
-{
-    match OpenOptions::new()
-        .write(true)
-        .create_new(true)
-        .open(rt, name)
-    {
-        Ok(file) => {
-            if fill(errors, file, name.as_bytes(), bytes, n) {
-                return true;
-            }
-            let _ = fs::remove_file(rt, name);
-            false
-        }
-        Err(why) => {
-            fail(errors, name.as_bytes(), why);
             false
         }
     }

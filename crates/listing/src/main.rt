@@ -1,115 +1,118 @@
 // The listing program: reads a record from standard input, with no rate expected, and prints its run, or its refusal.
 #![tactic(auto)]
 
-ghost use Rattle.std.specs.Prelude.{◌≡◌, ◌+◌, ◌*◌, ◌≤◌, length};
+ghost use Rattle.std.specs.Prelude.{◌≡◌, ◌+◌, ◌*◌, ◌≤◌, [], ◌++◌, length};
 ghost use Rattle.inputs.specs.Inputs.{input_limit};
 ghost use Rattle.listing.specs.Lines.{rate_line, side_line, count_line, span_line, point_line, point_lines, listing};
 ghost use Rattle.listing.specs.Printed.{text_limit, printed};
-ghost use Rattle.text.specs.PlacedAt.{PlacedAt};
 
 use inputs::{input_room, numbers_room, read_input};
+use text::Text;
 
 // As many bytes as the longest text has: 106 for the lines of rate, side, count and span, and 38 for each of 4,096 points.
 const TEXT: usize = 155754;
 
-// Room for the text.
-fn output_room() -> [u8; TEXT]
-    ensures { text_limit ≡ length result }
-{
-    [0; TEXT]
-}
-
 // The line of the rate.
-fn put_rate(out: &mut [u8], at: usize, rate: u32) -> usize
-    requires { at + 26 ≤ length out.old }
-    ensures { PlacedAt 26 (rate_line rate) at result out.old out.new }
+#[tactic(auto, unfolding(crate::specs::Lines::rate_line))]
+fn put_rate(out: &mut Text<TEXT>, rate: u32)
+    requires { length out.old + 26 ≤ text_limit }
+    ensures text { out.new ≡ out.old ++ rate_line rate }
+    ensures most { length (rate_line rate) ≤ 26 }
 {
-    text::put_one(out, at, b"rate ", rate as u64)
+    out.put_line("rate ", rate as u64);
 }
 
 // The line of the side, if there is one.
-fn put_side(out: &mut [u8], at: usize, side: u32) -> usize
-    requires { at + 26 ≤ length out.old }
-    ensures { PlacedAt 26 (side_line side) at result out.old out.new }
+fn put_side(out: &mut Text<TEXT>, side: u32)
+    requires { length out.old + 26 ≤ text_limit }
+    ensures text { out.new ≡ out.old ++ side_line side }
+    ensures most { length (side_line side) ≤ 26 }
 {
-    if side == 0 {
-        return at;
+    if side != 0 {
+        out.put_line("side ", side as u64);
     }
-    text::put_one(out, at, b"side ", side as u64)
 }
 
 // The line of the count.
-fn put_count(out: &mut [u8], at: usize, count: u64) -> usize
-    requires { at + 27 ≤ length out.old }
-    ensures { PlacedAt 27 (count_line count) at result out.old out.new }
+#[tactic(auto, unfolding(crate::specs::Lines::count_line))]
+fn put_count(out: &mut Text<TEXT>, count: u64)
+    requires { length out.old + 27 ≤ text_limit }
+    ensures text { out.new ≡ out.old ++ count_line count }
+    ensures most { length (count_line count) ≤ 27 }
 {
-    text::put_one(out, at, b"count ", count)
+    out.put_line("count ", count);
 }
 
 // The line of the span.
-fn put_span(out: &mut [u8], at: usize, span: i64) -> usize
-    requires { at + 27 ≤ length out.old }
-    ensures { PlacedAt 27 (span_line span) at result out.old out.new }
+#[tactic(auto, unfolding(crate::specs::Lines::span_line))]
+fn put_span(out: &mut Text<TEXT>, span: i64)
+    requires { length out.old + 27 ≤ text_limit }
+    ensures text { out.new ≡ out.old ++ span_line span }
+    ensures most { length (span_line span) ≤ 27 }
 {
-    let number = text::put_text(out, at, b"span ");
-    let end = text::put_signed(out, number, span);
-    text::put_newline(out, end)
+    out.put("span ");
+    out.put_signed(span);
+    out.put("\n");
 }
 
 // The line of a point.
-fn put_point(out: &mut [u8], at: usize, position: u64, ratio: u64) -> usize
-    requires { at + 38 ≤ length out.old }
-    ensures { PlacedAt 38 (point_line position ratio) at result out.old out.new }
+#[tactic(auto, unfolding(crate::specs::Lines::point_line))]
+fn put_point(out: &mut Text<TEXT>, position: u64, ratio: u64)
+    requires { length out.old + 38 ≤ text_limit }
+    ensures text { out.new ≡ out.old ++ point_line position ratio }
+    ensures most { length (point_line position ratio) ≤ 38 }
 {
-    let gap = text::put_decimal(out, at, position);
-    let end = text::put_bits(out, gap, ratio);
-    text::put_newline(out, end)
+    out.put_decimal(position);
+    out.put(" ");
+    out.put_hex(ratio);
+    out.put("\n");
 }
 
 // The lines of the points.
-fn put_points(out: &mut [u8], at: usize, positions: &[u64], ratios: &[u64]) -> usize
-    requires { (length positions.now ≡ length ratios.now) × (at + 38 * length positions.now ≤ length out.old) }
-    ensures { PlacedAt (38 * length positions.now) (point_lines positions.now ratios.now) at result out.old out.new }
+fn put_points(out: &mut Text<TEXT>, positions: &[u64], ratios: &[u64])
+    requires { (length positions.now ≡ length ratios.now) × (length out.old + 38 * length positions.now ≤ text_limit) }
+    ensures text { out.new ≡ out.old ++ point_lines positions.now ratios.now }
+    ensures most { length (point_lines positions.now ratios.now) ≤ 38 * length positions.now }
 {
-    let mut end = at;
-    let mut i = 0;
-    while i < positions.len() {
-        end = put_point(out, end, positions[i], ratios[i]);
-        i += 1;
+    for (position, ratio) in positions.iter().zip(ratios) {
+        put_point(out, *position, *ratio);
     }
-    end
 }
 
 // The text of a run.
+#[tactic(auto, unfolding(crate::specs::Lines::listing))]
 fn put_listing(
-    out: &mut [u8],
+    out: &mut Text<TEXT>,
     rate: u32,
     side: u32,
     span: i64,
     positions: &[u64],
     ratios: &[u64],
-) -> usize
-    requires { (length positions.now ≡ length ratios.now) × (106 + 38 * length positions.now ≤ length out.old) }
-    ensures { PlacedAt (106 + 38 * length positions.now) (listing rate side span positions.now ratios.now) 0 result out.old out.new }
+)
+    requires { (length positions.now ≡ length ratios.now) × (length out.old + (106 + 38 * length positions.now) ≤ text_limit) }
+    ensures text { out.new ≡ out.old ++ listing rate side span positions.now ratios.now }
+    ensures most { length (listing rate side span positions.now ratios.now) ≤ 106 + 38 * length positions.now }
 {
-    let side_at = put_rate(out, 0, rate);
-    let count_at = put_side(out, side_at, side);
-    let span_at = put_count(out, count_at, positions.len() as u64);
-    let points_at = put_span(out, span_at, span);
-    put_points(out, points_at, positions, ratios)
+    put_rate(out, rate);
+    put_side(out, side);
+    put_count(out, positions.len() as u64);
+    put_span(out, span);
+    put_points(out, positions, ratios);
 }
 
-// Puts the text for an input into an output, and returns its length.
-fn print(input: &[u8], out: &mut [u8]) -> usize
-    requires { (length input.now ≤ input_limit) × (text_limit ≤ length out.old) }
-    ensures { PlacedAt text_limit (printed input.now) 0 result out.old out.new }
+// Puts the text for an input into an output that has no text.
+fn print(input: &[u8], out: &mut Text<TEXT>)
+    requires { (length input.now ≤ input_limit) × (out.old ≡ []) }
+    ensures text { out.new ≡ printed input.now }
+    ensures most { length out.new ≤ text_limit }
 {
     let mut positions = numbers_room();
     let mut ratios = numbers_room();
     let answer = read_input(input, &mut positions, &mut ratios);
     let number = answer.number;
     if number != 0 {
-        return text::put_refused(out, 0, number, answer.place);
+        out.put_refused(number, answer.place);
+        return;
     }
     let rate = answer.rate;
     let count = answer.count as usize;
@@ -121,15 +124,13 @@ fn print(input: &[u8], out: &mut [u8]) -> usize
         span.milliseconds,
         &positions[..count],
         &ratios[..count],
-    )
+    );
 }
 
 fn main(rt: HostRuntime) {
     let mut input = input_room();
-    let mut given = rt.stdin();
-    let n = files::read_full(&mut given, &mut input);
-    let mut out = output_room();
-    let end = print(&input[..n], &mut out);
-    let mut printed = rt.stdout();
-    files::write_front(&mut printed, &out, end);
+    let n = files::read_full(&mut rt.stdin(), &mut input);
+    let mut out = Text::new();
+    print(&input[..n], &mut out);
+    files::write_front(&mut rt.stdout(), out.as_bytes());
 }

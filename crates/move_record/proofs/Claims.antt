@@ -7,6 +7,7 @@ use native.Mathlib.Omega.{arith}
 use borrow.Author.Tests.{ne_eqb}
 use lib.ListN.{length, take, drop, length-replicate}
 use lib.Seq.{take_at}
+use Rattle.std.specs.Prelude.{Option}
 use Rattle.lists.proofs.Below.{below_take}
 use Rattle.refusals.specs.declared.Refusal.{Refusal}
 use Rattle.refusals.proofs.Tests.{first_of_end}
@@ -22,7 +23,6 @@ use Rattle.record_format.proofs.Sizes.{within}
 use Rattle.record_format.proofs.Writing.{accepted_fits}
 use Rattle.inputs.specs.Inputs.{input_limit}
 use Rattle.inputs.proofs.Inputs.{record_uncut, begins-whole}
-use Rattle.move_record.specs.declared.Word.{Word}
 use Rattle.move_record.specs.Words.{word_of, argument_count, is_form}
 use Rattle.move_record.specs.Printed.{blank_record, move_input, standard_output, Response, move_response, response_to, response}
 use Rattle.move_record.specs.Claims.{MovesFile, RefusesFile, SaysUsage}
@@ -48,7 +48,7 @@ answered made file line = record { stream = standard_output; moved = made; file 
 
 -- a call that asks for the form f
 asked : (n : ℕ) → argument_count ≤ n → (f : Form) (s : List ℕ) → response n (word_of f) s ≡ move_response (move_input f s)
-asked n many f s = ap (λ (a : Word). response_to a s) (asks_for n many f)
+asked n many f s = ap (λ (a : Option Form). response_to a s) (asks_for n many f)
 
 pub moves_file : MovesFile
 moves_file n many f r a e b rest =
@@ -75,4 +75,4 @@ refuses_file n many f s bytes never =
 pub says_usage : SaysUsage
 says_usage n w wrong s =
     let none = asks_for_none n w wrong in
-    (ap is_form none, ap (λ (a : Word). response_to a s) none)
+    (ap is_form none, ap (λ (a : Option Form). response_to a s) none)

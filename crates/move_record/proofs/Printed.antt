@@ -1,5 +1,7 @@
 -- Laws of what the program prints and writes: the line of an answer, what a move into room for every record leaves, and the response that is told of it.
 use mathlib.Core.Bool.{Bool, true, false}
+use Rattle.std.specs.Prelude.{Option, IfSome}
+use Rattle.std.specs.Bool.{then_some}
 use mathlib.Core.Path.{◌≡◌, refl, sym, ap, ap₂, ◌∙◌, subst}
 use mathlib.Core.List.{List}
 use Prim.Native.Nat.{ℕ, ◌≤◌}
@@ -17,13 +19,10 @@ use Rattle.record_format.specs.Runs.{record_of}
 use Rattle.record_format.specs.Sizes.{max_record}
 use Rattle.record_format.proofs.MoveClaims.{moved_within}
 use Rattle.text.specs.Lines.{refused_line}
-use Rattle.text.specs.PlacedAt.{PlacedAt}
-use Rattle.text.proofs.PlacedAt.{placed_same}
 use Rattle.inputs.specs.Inputs.{input_limit}
 use Rattle.move_record.specs.declared.Outcome.{Outcome}
-use Rattle.move_record.specs.declared.Word.{Word}
 use Rattle.move_record.specs.Words.{form_asked}
-use Rattle.move_record.specs.Lines.{line_limit, moved_line, answer_line}
+use Rattle.move_record.specs.Lines.{moved_line, answer_line}
 use Rattle.move_record.specs.Printed.{blank_record, move_input, standard_output, move_response, response_to, response, Told}
 
 -- ---- the line
@@ -63,28 +62,33 @@ left f s = go (eqb (first_of (move_tests f s blank_record)).number 0) refl
 -- ---- all but reading, writing and printing
 
 -- of a move
-pub move_told : (f : Form) (s o p l q : List ℕ) (a : MoveAnswer) (end : ℕ) → length s ≤ input_limit → o ≡ blank_record → length p ≡ length o
-    → (a ≡ (move_of f s o).answer) × (p ≡ (move_of f s o).output) → PlacedAt line_limit (answer_line a) 0 end l q
-    → Told (move_response (move_input f s)) (record { stream = standard_output; moved = eqb a.number 0; length = a.length; line = end }) p l q
-move_told f s o p l q a end short blank kept h put =
+pub move_told : (f : Form) (s o p q : List ℕ) (a : MoveAnswer) (saved : Option ℕ) → length s ≤ input_limit → o ≡ blank_record → length p ≡ length o
+    → (a ≡ (move_of f s o).answer) × (p ≡ (move_of f s o).output) → saved ≡ then_some (eqb a.number 0) a.length → q ≡ answer_line a
+    → Told (move_response (move_input f s)) (record { stream = standard_output; saved = saved }) p q
+move_told f s o p q a saved short blank kept h taken put =
     let e = whole f s o short blank in
     let is : a ≡ (move_input f s).answer = h.0 ∙ ap (λ (m : Move). m.answer) e in
     let leaves : p ≡ (move_input f s).output = h.1 ∙ ap (λ (m : Move). m.output) e in
     let within : a.length ≤ length p = subst (λ (n : ℕ). a.length ≤ n) (sym kept) (subst (λ (x : MoveAnswer). x.length ≤ length o) (sym h.0) (moved_within f s o)) in
+    let size : a.length ≡ length (take (move_input f s).answer.length (move_input f s).output) =
+    sym (ap₂ (λ (x : MoveAnswer) (z : List ℕ). length (take x.length z)) (sym is) (sym leaves) ∙ length-take-le a.length p within) in
     record {
       stream = refl;
-      moved = ap (λ (x : MoveAnswer). eqb x.number 0) is;
-      saved = sym (ap₂ (λ (x : MoveAnswer) (z : List ℕ). length (take x.length z)) (sym is) (sym leaves) ∙ length-take-le a.length p within);
+      saved = taken ∙ ap₂ (λ (x : MoveAnswer) (n : ℕ). then_some (eqb x.number 0) n) is size;
       output = leaves ∙ left f (take input_limit s);
-      room = within;
-      line = placed_same (ap answer_line is) put;
+      room = subst (λ (x : Option ℕ). IfSome x (λ n. n ≤ length p)) (sym taken) (room (eqb a.number 0) within);
+      line = put ∙ ap answer_line is;
     }
+  where
+    room : {m n : ℕ} (b : Bool) → m ≤ n → IfSome (then_some b m) (λ k. k ≤ n)
+    room true h = h
+    room false h = tt
 
 -- by the form that is asked for
-module _ (n : ℕ) (w s : List ℕ) {a b : Word} (asked : a ≡ form_asked n w) (is : a ≡ b) {r : Outcome} {o l p : List ℕ} where
-  pub told_asked : Told (response_to b s) r o l p → Told (response n w s) r o l p
-  told_asked h = subst (λ (x : Word). Told (response_to x s) r o l p) (sym is ∙ asked) h
+module _ (n : ℕ) (w s : List ℕ) {a b : Option Form} (asked : a ≡ form_asked n w) (is : a ≡ b) {r : Outcome} {o p : List ℕ} where
+  pub told_asked : Told (response_to b s) r o p → Told (response n w s) r o p
+  told_asked h = subst (λ (x : Option Form). Told (response_to x s) r o p) (sym is ∙ asked) h
 
   -- the same where the output was not written to
-  pub told_blank : o ≡ blank_record → Told (response_to b s) r blank_record l p → Told (response n w s) r o l p
-  told_blank e h = told_asked (subst (λ (x : List ℕ). Told (response_to b s) r x l p) (sym e) h)
+  pub told_blank : o ≡ blank_record → Told (response_to b s) r blank_record p → Told (response n w s) r o p
+  told_blank e h = told_asked (subst (λ (x : List ℕ). Told (response_to b s) r x p) (sym e) h)

@@ -8,7 +8,7 @@
 --   NamesForms     `wide` and `old` name the forms, and no other word does
 --   ReadsFile      given four arguments or more and the word of a form the program reads the file
 --   SaysUsage      given fewer, or any other word, it reads no file and makes none, and a line on standard error says how it is called
-use Rattle.std.specs.Prelude.{true, false, List, [], ◌∷◌, ◌++◌, ◌⊎◌, ◌≡◌, ℕ, ◌≤◌, ◌<◌, length, take}
+use Rattle.std.specs.Prelude.{None, Some, true, false, List, [], ◌∷◌, ◌++◌, ◌⊎◌, ◌≡◌, ℕ, ◌≤◌, ◌<◌, length, take}
 use Rattle.position_format.specs.declared.Form.{Form}
 use Rattle.position_format.specs.declared.Form.TheVariants.{Old, Wide}
 use Rattle.record_format.specs.Claims.{Accepted, Beginning, Bytes}
@@ -16,7 +16,6 @@ use Rattle.record_format.specs.Moves.{other_form, in_form, move_of}
 use Rattle.record_format.specs.Runs.{Run, record_of}
 use Rattle.text.specs.Lines.{refused_line}
 use Rattle.inputs.specs.Inputs.{input_limit}
-use Rattle.move_record.specs.declared.Word.TheVariants.{To, Other}
 use Rattle.move_record.specs.Words.{word_of, form_named, is_call}
 use Rattle.move_record.specs.Lines.{moved_line, usage_line}
 use Rattle.move_record.specs.Printed.{blank_record, standard_output, standard_error, response}
@@ -43,9 +42,9 @@ RefusesFile = (n : ℕ) → 4 ≤ n → (f : Form) (s : List ℕ) → Bytes s
 -- 119 105 100 101 and 111 108 100
 abbrev pub NamesForms : Type 0
 NamesForms =
-    (form_named (119 ∷ 105 ∷ 100 ∷ 101 ∷ []) ≡ To Wide)
-    × (form_named (111 ∷ 108 ∷ 100 ∷ []) ≡ To Old)
-    × ((w : List ℕ) → (w ≡ 119 ∷ 105 ∷ 100 ∷ 101 ∷ [] → ⊥) → (w ≡ 111 ∷ 108 ∷ 100 ∷ [] → ⊥) → form_named w ≡ Other)
+    (form_named (119 ∷ 105 ∷ 100 ∷ 101 ∷ []) ≡ Some Wide)
+    × (form_named (111 ∷ 108 ∷ 100 ∷ []) ≡ Some Old)
+    × ((w : List ℕ) → (w ≡ 119 ∷ 105 ∷ 100 ∷ 101 ∷ [] → ⊥) → (w ≡ 111 ∷ 108 ∷ 100 ∷ [] → ⊥) → form_named w ≡ None)
 
 -- more than four change nothing
 abbrev pub ReadsFile : Type 0

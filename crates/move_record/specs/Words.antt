@@ -7,12 +7,10 @@
 --   form_asked n w       the form that a call asks for, or none: n counts its arguments, the program's own name too, and w is the first after that name
 --   is_form a            whether a is a form, and not none
 --   is_call n w          whether a call asks for a form: the program reads a file only then
-use Rattle.std.specs.Prelude.{Bool, true, false, cond, List, [], ◌∷◌, ℕ, ltb}
+use Rattle.std.specs.Prelude.{Option, None, Some, Bool, true, false, cond, List, [], ◌∷◌, ℕ, ltb}
 use Rattle.lists.specs.Compare.{same}
 use Rattle.position_format.specs.declared.Form.{Form}
 use Rattle.position_format.specs.declared.Form.TheVariants.{Old, Wide}
-use Rattle.move_record.specs.declared.Word.{Word}
-use Rattle.move_record.specs.declared.Word.TheVariants.{To, Other}
 
 -- "wide"
 abbrev pub wide_word : List ℕ
@@ -28,21 +26,21 @@ word_of Wide = wide_word
 word_of Old = old_word
 
 -- one of the two, and nothing else
-abbrev pub form_named : List ℕ → Word
-form_named w = cond (same w wide_word) (To Wide) (cond (same w old_word) (To Old) Other)
+abbrev pub form_named : List ℕ → Option Form
+form_named w = cond (same w wide_word) (Some Wide) (cond (same w old_word) (Some Old) None)
 
 -- its own name, the word, the file to be read and the new one
 abbrev pub argument_count : ℕ
 argument_count = 4
 
 -- none where there are too few arguments, whatever the word is; more than enough change nothing
-abbrev pub form_asked : ℕ → List ℕ → Word
-form_asked n w = cond (ltb n argument_count) Other (form_named w)
+abbrev pub form_asked : ℕ → List ℕ → Option Form
+form_asked n w = cond (ltb n argument_count) None (form_named w)
 
 -- by its case
-abbrev pub is_form : Word → Bool
-is_form (To f) = true
-is_form Other = false
+abbrev pub is_form : Option Form → Bool
+is_form (Some f) = true
+is_form None = false
 
 -- by the form that is asked for
 abbrev pub is_call : ℕ → List ℕ → Bool

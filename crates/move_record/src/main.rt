@@ -5,16 +5,14 @@
 // open, read and write, and decide by nothing but these answers and what failed.
 #![tactic(auto)]
 
-ghost use Rattle.std.specs.Prelude.{◌≡◌, ◌≢◌, false, ◌≤◌, length, take, IsTrue};
+ghost use Rattle.std.specs.Prelude.{◌≡◌, false, ◌+◌, ◌≤◌, [], ◌++◌, length, IsTrue};
 ghost use Rattle.std.specs.Io.KnownBytes.{Appends};
 ghost use Rattle.files.specs.Counts.{IsPrefixLen};
-ghost use Rattle.lists.specs.Compare.{same};
 ghost use Rattle.record_format.specs.Moves.{move_of};
-ghost use Rattle.text.specs.PlacedAt.{PlacedAt};
 ghost use Rattle.inputs.specs.Inputs.{input_limit};
 ghost use Rattle.move_record.specs.Words.{form_named, form_asked, is_call};
 ghost use Rattle.move_record.specs.Lines.{line_limit, moved_line, answer_line, usage_line};
-ghost use Rattle.move_record.specs.Printed.{blank_record, move_input, move_response, usage_response, standard_error, response, Told};
+ghost use Rattle.move_record.specs.Printed.{blank_record, move_input, move_response, standard_output, standard_error, usage_response, response, Told};
 
 use files::PATH;
 use inputs::input_room;
@@ -24,13 +22,9 @@ use std::env::FillError;
 use std::io;
 use std::io::Write;
 use std::rt::{Env, Files};
+use text::Text;
 
-// The numbers of the streams in POSIX.
-const STDOUT_FILENO: i32 = 1;
-
-const STDERR_FILENO: i32 = 2;
-
-// The numbers of errors in Linux: an argument that is missing, and one that is longer than a path may be.
+// The numbers of errors in Linux, whose words the program prints: an argument that is missing, and one that is longer than a path may be.
 const EINVAL: i32 = 22;
 
 const ENAMETOOLONG: i32 = 36;
@@ -44,73 +38,39 @@ const LINE: usize = 53;
 // As many arguments as the program takes, with its own name before them.
 const ARGUMENTS: usize = 4;
 
-// What the first argument names: a form, or none.
+// The stream that the line goes to.
 #[derive(Clone, Copy)]
-pub enum Word {
-    To(Form),
-    Other,
+pub enum Stream {
+    Output,
+    Error,
 }
 
-// What the program is to do: the stream that the line goes to, whether a file is to be made, how many bytes of the output are to be saved in it, and
-// how many bytes the line has.
+// What the program is to do: the stream that the line goes to, and where a file is to be made, how many bytes of the output are to be saved in it.
 #[derive(Clone, Copy)]
 pub struct Outcome {
-    pub stream: i32,
-    pub moved: bool,
-    pub length: usize,
-    pub line: usize,
-}
-
-// Room for every record.
-fn record_room() -> [u8; RECORD]
-    ensures { result ≡ blank_record }
-{
-    [0; RECORD]
-}
-
-// Room for the line.
-fn line_room() -> [u8; LINE]
-    ensures { line_limit ≡ length result }
-{
-    [0; LINE]
-}
-
-// Whether two texts are the same.
-fn is_same(a: &[u8], b: &[u8]) -> bool
-    ensures { result ≡ same a.now b.now }
-{
-    if a.len() != b.len() {
-        return false;
-    }
-    let mut i = 0;
-    while i < a.len() {
-        if a[i] != b[i] {
-            return false;
-        }
-        i += 1;
-    }
-    true
+    pub stream: Stream,
+    pub saved: Option<usize>,
 }
 
 // The form that a word names.
-fn form_named(word: &[u8]) -> Word
+fn form_named(word: &[u8]) -> Option<Form>
     ensures { result ≡ form_named word.now }
 {
-    if is_same(word, b"wide") {
-        return Word::To(Form::Wide);
+    if word == b"wide".as_slice() {
+        return Some(Form::Wide);
     }
-    if is_same(word, b"old") {
-        return Word::To(Form::Old);
+    if word == b"old".as_slice() {
+        return Some(Form::Old);
     }
-    Word::Other
+    None
 }
 
 // The form that a call of the program asks for, by the number of its arguments and the first of them. With too few it asks for none.
-fn form_asked(count: usize, word: &[u8]) -> Word
+fn form_asked(count: usize, word: &[u8]) -> Option<Form>
     ensures { result ≡ form_asked count word.now }
 {
     if count < ARGUMENTS {
-        return Word::Other;
+        return None;
     }
     form_named(word)
 }
@@ -119,38 +79,29 @@ fn form_asked(count: usize, word: &[u8]) -> Word
 fn is_call(count: usize, word: &[u8]) -> bool
     ensures { result ≡ is_call count word.now }
 {
-    match form_asked(count, word) {
-        Word::To(_) => true,
-        Word::Other => false,
-    }
+    form_asked(count, word).is_some()
 }
 
 // The line of a move.
-fn put_moved_line(out: &mut [u8], used: u64, wrote: u64) -> usize
-    requires { line_limit ≤ length out.old }
-    ensures { PlacedAt line_limit (moved_line used wrote) 0 result out.old out.new }
+#[tactic(auto, unfolding(crate::specs::Lines::moved_line))]
+fn put_moved_line(line: &mut Text<LINE>, used: u64, wrote: u64)
+    requires { length line.old + line_limit ≤ line_limit }
+    ensures { line.new ≡ line.old ++ moved_line used wrote }
 {
-    text::put_two(out, 0, b"moved ", used, b" to ", wrote)
+    line.put_numbered("moved ", used);
+    line.put_line(" to ", wrote);
 }
 
 // The line of an answer.
-fn put_answer(out: &mut [u8], answer: MoveAnswer) -> usize
-    requires { line_limit ≤ length out.old }
-    ensures { PlacedAt line_limit (answer_line answer) 0 result out.old out.new }
+fn put_answer(line: &mut Text<LINE>, answer: MoveAnswer)
+    requires { line.old ≡ [] }
+    ensures { line.new ≡ answer_line answer }
 {
     let number = answer.number;
     if number != 0 {
-        return text::put_refused(out, 0, number, answer.place);
+        return line.put_refused(number, answer.place);
     }
-    put_moved_line(out, answer.used, answer.length)
-}
-
-// The line that says how the program is called.
-fn put_usage(out: &mut [u8]) -> usize
-    requires { line_limit ≤ length out.old }
-    ensures { PlacedAt line_limit usage_line 0 result out.old out.new }
-{
-    text::put_text(out, 0, b"usage: move_record wide|old RECORD NEW\n")
+    put_moved_line(line, answer.used, answer.length)
 }
 
 // The move to a form.
@@ -165,52 +116,54 @@ fn move_to(form: Form, input: &[u8], out: &mut [u8]) -> MoveAnswer
 }
 
 // Moves the record in an input into an output, and puts the line for it.
-fn move_input(form: Form, input: &[u8], out: &mut [u8], line: &mut [u8]) -> Outcome
-    requires { (length input.now ≤ input_limit) × (out.old ≡ blank_record) × (line_limit ≤ length line.old) }
-    ensures { Told (move_response (move_input form input.now)) result out.new line.old line.new }
+fn move_input(form: Form, input: &[u8], out: &mut [u8], line: &mut Text<LINE>) -> Outcome
+    requires { (length input.now ≤ input_limit) × (out.old ≡ blank_record) × (line.old ≡ []) }
+    ensures { Told (move_response (move_input form input.now)) result out.new line.new }
 {
     let answer = move_to(form, input, out);
-    let end = put_answer(line, answer);
+    put_answer(line, answer);
     Outcome {
-        stream: STDOUT_FILENO,
-        moved: answer.number == 0,
-        length: answer.length as usize,
-        line: end,
+        stream: Stream::Output,
+        saved: (answer.number == 0).then_some(answer.length as usize),
     }
 }
 
 // Puts the line of a call that asks for no form. The output then stays as it was lent.
-fn show_usage(line: &mut [u8]) -> Outcome
-    requires { line_limit ≤ length line.old }
-    ensures { Told usage_response result blank_record line.old line.new }
+fn show_usage(line: &mut Text<LINE>) -> Outcome
+    requires { line.old ≡ [] }
+    ensures { Told usage_response result blank_record line.new }
 {
-    let end = put_usage(line);
+    line.put("usage: move_record wide|old RECORD NEW\n");
     Outcome {
-        stream: STDERR_FILENO,
-        moved: false,
-        length: 0,
-        line: end,
+        stream: Stream::Error,
+        saved: None,
     }
 }
 
 // What the program is to do, by the number of its arguments, the first of them, and the bytes that it read.
-fn respond(count: usize, word: &[u8], input: &[u8], out: &mut [u8], line: &mut [u8]) -> Outcome
-    requires { (length input.now ≤ input_limit) × (out.old ≡ blank_record) × (line_limit ≤ length line.old) }
-    ensures { Told (response count word.now input.now) result out.new line.old line.new }
+fn respond(
+    count: usize,
+    word: &[u8],
+    input: &[u8],
+    out: &mut [u8],
+    line: &mut Text<LINE>,
+) -> Outcome
+    requires { (length input.now ≤ input_limit) × (out.old ≡ blank_record) × (line.old ≡ []) }
+    ensures { Told (response count word.now input.now) result out.new line.new }
 {
     match form_asked(count, word) {
-        Word::To(form) => move_input(form, input, out, line),
-        Word::Other => show_usage(line),
+        Some(form) => move_input(form, input, out, line),
+        None => show_usage(line),
     }
 }
 
 // Reads the file that the second argument names, if there is one to be read, and returns how many bytes it put at the front of the input. Else it
 // opens none, so that a call that asks for no form waits for no pipe.
-fn read_source(rt: &(impl Files + Env), called: bool, input: &mut [u8]) -> usize
+fn read_source(rt: &(impl Files + Env), count: usize, word: &[u8], input: &mut [u8]) -> usize
     ensures prefix_len { IsPrefixLen result input.new }
-    ensures value { called ≡ false → result ≡ 0 }
+    ensures value { is_call count word.now ≡ false → result ≡ 0 }
 {
-    if called {
+    if is_call(count, word) {
         return files::read_argument(rt, 2, input);
     }
     0
@@ -229,13 +182,11 @@ fn refuse_name<W: Write>(errors: &mut W, why: FillError) {
     );
 }
 
-// Makes the file that the third argument names of the first n bytes. Where the answer is no, a line on `errors` says why.
-fn save<R: Files + Env, W: Write>(rt: &R, errors: &mut W, bytes: &[u8], n: usize) -> bool
-    requires { n ≤ length bytes.now }
-{
+// Makes the file that the third argument names of some bytes. Where the answer is no, a line on `errors` says why.
+fn save<R: Files + Env, W: Write>(rt: &R, errors: &mut W, bytes: &[u8]) -> bool {
     let mut path = [0; PATH];
     match rt.arg(3, &mut path) {
-        Ok(k) => files::save_new(rt, errors, &path[..k], bytes, n),
+        Ok(k) => files::save_new(rt, errors, &path[..k], bytes),
         Err(why) => {
             refuse_name(errors, why);
             false
@@ -243,22 +194,15 @@ fn save<R: Files + Env, W: Write>(rt: &R, errors: &mut W, bytes: &[u8], n: usize
     }
 }
 
-// Writes the first n bytes of a line to the stream that goes by the number, standard error or else standard output, and returns whether that succeeded.
-fn show<P: Write, E: Write>(
-    printed: &mut P,
-    errors: &mut E,
-    stream: i32,
-    line: &[u8],
-    n: usize,
-) -> bool
-    requires { n ≤ length line.now }
-    ensures on_error { IsTrue result → stream ≡ standard_error → Appends (E.contents errors.old) (E.contents errors.new) (take n line.now) }
-    ensures on_output { IsTrue result → stream ≢ standard_error → Appends (P.contents printed.old) (P.contents printed.new) (take n line.now) }
+// Writes a line to a stream, and returns whether that succeeded.
+fn show<P: Write, E: Write>(printed: &mut P, errors: &mut E, stream: Stream, line: &[u8]) -> bool
+    ensures on_error { IsTrue result → stream ≡ standard_error → Appends (E.contents errors.old) (E.contents errors.new) line.now }
+    ensures on_output { IsTrue result → stream ≡ standard_output → Appends (P.contents printed.old) (P.contents printed.new) line.now }
 {
-    if stream == STDERR_FILENO {
-        return files::write_front(errors, line, n);
+    match stream {
+        Stream::Output => files::write_front(printed, line),
+        Stream::Error => files::write_front(errors, line),
     }
-    files::write_front(printed, line, n)
 }
 
 // Reads the first argument and, where the call asks for a form, the file, and does what `respond` answers. The line goes out once the new file stands,
@@ -269,18 +213,20 @@ fn main(rt: HostRuntime) {
     let k = files::argument(&rt, 1, &mut argument);
     let word = &argument[..k];
     let mut input = input_room();
-    let n = read_source(&rt, is_call(count, word), &mut input);
-    let mut out = record_room();
-    let mut line = line_room();
+    let n = read_source(&rt, count, word, &mut input);
+    let mut out = [0; RECORD];
+    let mut line = Text::new();
     let outcome = respond(count, word, &input[..n], &mut out, &mut line);
-    let length = outcome.length;
     let mut errors = rt.stderr();
-    if outcome.moved {
-        if !save(&rt, &mut errors, &out, length) {
+    if let Some(length) = outcome.saved {
+        if !save(&rt, &mut errors, &out[..length]) {
             return;
         }
     }
-    let end = outcome.line;
-    let mut printed = rt.stdout();
-    show(&mut printed, &mut errors, outcome.stream, &line, end);
+    show(
+        &mut rt.stdout(),
+        &mut errors,
+        outcome.stream,
+        line.as_bytes(),
+    );
 }

@@ -1,2 +1,1 @@
-pub mod PlacedAt
 pub mod Numbers

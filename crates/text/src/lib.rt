@@ -1,137 +1,131 @@
-// Numbers and lines of text put into a lent output at an index, for the programs that print.
-// Internal: callers meet each `requires`. Each function returns the index after its text.
+// Text in fixed memory, for the programs that print.
+// Internal: callers meet each `requires`.
+// Words and numbers are put by calls that cannot fail. A `Display` is not: std says what a writer holds after `write!` where that is Ok, and never that it
+// is, so that no program could promise what it prints.
 #![tactic(auto)]
 
-ghost use Rattle.std.specs.Prelude.{◌≡◌, ◌++◌, ◌+◌, ◌≤◌, nat_abs, length};
-ghost use Rattle.text.specs.Lines.{newline, space, refused_line};
+ghost use Rattle.std.specs.Prelude.{◌≡◌, [], ◌++◌, ◌+◌, ◌≤◌, length};
+ghost use Rattle.text.specs.Lines.{newline, refused_line};
 ghost use Rattle.text.specs.Numbers.{decimal, hex16, signed};
-ghost use Rattle.text.specs.PlacedAt.{PlacedAt};
 
-// A text as it stands.
-pub fn put_text(out: &mut [u8], at: usize, text: &[u8]) -> usize
-    requires { at + length text.now ≤ length out.old }
-    ensures { PlacedAt (length text.now) text.now at result out.old out.new }
-{
-    let mut i = 0;
-    while i < text.len() {
-        out[at + i] = text[i];
-        i += 1;
+use std::marker::Model;
+
+// A text of at most N bytes. A contract sees the text alone.
+#[derive(Drop)]
+pub struct Text<const N: usize> {
+    bytes: [u8; N],
+    length: usize,
+}
+
+impl<const N: usize> Model for Text<N> {
+    ghost use Rattle.std.specs.Prelude.{ℕ, ◌≤◌, List, take};
+
+    ghost Value = { List ℕ };
+
+    ghost view = { λ t. take t.length t.bytes };
+
+    ghost invariant = { λ t. t.length ≤ N };
+}
+
+impl<const N: usize> Text<N> {
+    // No text.
+    pub fn new() -> Self
+        ensures { result ≡ [] }
+    {
+        Text {
+            bytes: [0; N],
+            length: 0,
+        }
     }
-    at + i
-}
 
-// A number in base 10.
-pub fn put_decimal(out: &mut [u8], at: usize, n: u64) -> usize
-    requires { at + 20 ≤ length out.old }
-    ensures { PlacedAt 20 (decimal n) at result out.old out.new }
-{
-    let mut digits = [0; 20];
-    let k = io::decimal(n, &mut digits);
-    put_text(out, at, &digits[..k])
-}
-
-// 64 bits as 16 hex digits.
-pub fn put_hex(out: &mut [u8], at: usize, v: u64) -> usize
-    requires { at + 16 ≤ length out.old }
-    ensures { PlacedAt 16 (hex16 v) at result out.old out.new }
-{
-    let mut digits = [0; 16];
-    let k = io::hex(v, 16, &mut digits);
-    put_text(out, at, &digits[..k])
-}
-
-// A space, and 64 bits as 16 hex digits.
-pub fn put_bits(out: &mut [u8], at: usize, v: u64) -> usize
-    requires { at + 17 ≤ length out.old }
-    ensures { PlacedAt 17 (space ++ hex16 v) at result out.old out.new }
-{
-    let digits = put_text(out, at, b" ");
-    put_hex(out, digits, v)
-}
-
-// A line's end.
-pub fn put_newline(out: &mut [u8], at: usize) -> usize
-    requires { at + 1 ≤ length out.old }
-    ensures { PlacedAt 1 newline at result out.old out.new }
-{
-    put_text(out, at, b"\n")
-}
-
-// The absolute value, of the most negative number too.
-fn magnitude(z: i64) -> u64
-    ensures { result ≡ nat_abs z }
-{
-    if z < 0 {
-        return (-(z + 1)) as u64 + 1;
+    // The bytes of the text.
+    pub fn as_bytes(&self) -> &[u8]
+        ensures text { result.now ≡ self.now }
+        ensures most { length result.now ≤ N }
+    {
+        &self.bytes[..self.length]
     }
-    z as u64
-}
 
-// A signed number in base 10.
-pub fn put_signed(out: &mut [u8], at: usize, z: i64) -> usize
-    requires { at + 21 ≤ length out.old }
-    ensures { PlacedAt 21 (signed z) at result out.old out.new }
-{
-    let n = magnitude(z);
-    if z < 0 {
-        let next = put_text(out, at, b"-");
-        return put_decimal(out, next, n);
+    fn put_bytes(&mut self, bytes: &[u8])
+        requires { length self.old + length bytes.now ≤ N }
+        ensures { self.new ≡ self.old ++ bytes.now }
+    {
+        let all = &mut self.bytes[..];
+        let end = self.length + bytes.len();
+        all[self.length..end].copy_from_slice(bytes);
+        self.length = end;
     }
-    put_decimal(out, at, n)
-}
 
-// A word and a number in base 10.
-pub fn put_numbered(out: &mut [u8], at: usize, word: &[u8], n: u64) -> usize
-    requires { at + (length word.now + 20) ≤ length out.old }
-    ensures { PlacedAt (length word.now + 20) (word.now ++ decimal n) at result out.old out.new }
-{
-    let number = put_text(out, at, word);
-    put_decimal(out, number, n)
-}
+    // A text as it stands.
+    pub fn put(&mut self, text: &str)
+        requires { length self.old + length text.now ≤ N }
+        ensures { self.new ≡ self.old ++ text.now }
+    {
+        self.put_bytes(text.as_bytes());
+    }
 
-// A line of a word and a number in base 10.
-pub fn put_one(out: &mut [u8], at: usize, word: &[u8], n: u64) -> usize
-    requires { at + (length word.now + 21) ≤ length out.old }
-    ensures { PlacedAt (length word.now + 21) (word.now ++ (decimal n ++ newline)) at result out.old out.new }
-{
-    let end = put_numbered(out, at, word, n);
-    put_newline(out, end)
-}
+    // A number in base 10.
+    pub fn put_decimal(&mut self, n: u64)
+        requires { length self.old + 20 ≤ N }
+        ensures text { self.new ≡ self.old ++ decimal n }
+        ensures most { length (decimal n) ≤ 20 }
+    {
+        let mut digits = [0; 20];
+        let k = io::decimal(n, &mut digits);
+        self.put_bytes(&digits[..k]);
+    }
 
-// A line of two words, each with a number in base 10.
-pub fn put_two(out: &mut [u8], at: usize, first: &[u8], m: u64, second: &[u8], n: u64) -> usize
-    requires { at + (length first.now + (20 + (length second.now + 21))) ≤ length out.old }
-    ensures { PlacedAt (length first.now + (20 + (length second.now + 21)))
-        (first.now ++ (decimal m ++ (second.now ++ (decimal n ++ newline)))) at result out.old out.new }
-{
-    let rest = put_numbered(out, at, first, m);
-    put_one(out, rest, second, n)
-}
+    // 64 bits as 16 hex digits.
+    pub fn put_hex(&mut self, v: u64)
+        requires { length self.old + 16 ≤ N }
+        ensures text { self.new ≡ self.old ++ hex16 v }
+        ensures most { length (hex16 v) ≤ 16 }
+    {
+        let mut digits = [0; 16];
+        let k = io::hex(v, 16, &mut digits);
+        self.put_bytes(&digits[..k]);
+    }
 
-// A line of three words, each with a number in base 10.
-pub fn put_three(
-    out: &mut [u8],
-    at: usize,
-    first: &[u8],
-    l: u64,
-    second: &[u8],
-    m: u64,
-    third: &[u8],
-    n: u64,
-) -> usize
-    requires { at + (length first.now + (20 + (length second.now + (20 + (length third.now + 21))))) ≤ length out.old }
-    ensures { PlacedAt (length first.now + (20 + (length second.now + (20 + (length third.now + 21)))))
-        (first.now ++ (decimal l ++ (second.now ++ (decimal m ++ (third.now ++ (decimal n ++ newline)))))) at result
-        out.old out.new }
-{
-    let rest = put_numbered(out, at, first, l);
-    put_two(out, rest, second, m, third, n)
-}
+    // A signed number in base 10.
+    pub fn put_signed(&mut self, z: i64)
+        requires { length self.old + 21 ≤ N }
+        ensures text { self.new ≡ self.old ++ signed z }
+        ensures most { length (signed z) ≤ 21 }
+    {
+        if z < 0 {
+            self.put("-");
+        }
+        self.put_decimal(z.unsigned_abs());
+    }
 
-// The line of a refusal.
-pub fn put_refused(out: &mut [u8], at: usize, number: u32, place: u32) -> usize
-    requires { at + 53 ≤ length out.old }
-    ensures { PlacedAt 53 (refused_line number place) at result out.old out.new }
-{
-    put_two(out, at, b"refused ", number as u64, b" at ", place as u64)
+    // A word and a number in base 10.
+    pub fn put_numbered(&mut self, word: &str, n: u64)
+        requires { length self.old + (length word.now + 20) ≤ N }
+        ensures text { self.new ≡ self.old ++ (word.now ++ decimal n) }
+        ensures most { length (word.now ++ decimal n) ≤ length word.now + 20 }
+    {
+        self.put(word);
+        self.put_decimal(n);
+    }
+
+    // A line of a word and a number in base 10.
+    pub fn put_line(&mut self, word: &str, n: u64)
+        requires { length self.old + (length word.now + 21) ≤ N }
+        ensures text { self.new ≡ self.old ++ (word.now ++ (decimal n ++ newline)) }
+        ensures most { length (word.now ++ (decimal n ++ newline)) ≤ length word.now + 21 }
+    {
+        self.put_numbered(word, n);
+        self.put("\n");
+    }
+
+    // The line of a refusal.
+    #[tactic(auto, unfolding(crate::specs::Lines::refused_line))]
+    pub fn put_refused(&mut self, number: u32, place: u32)
+        requires { length self.old + 53 ≤ N }
+        ensures text { self.new ≡ self.old ++ refused_line number place }
+        ensures most { length (refused_line number place) ≤ 53 }
+    {
+        self.put_numbered("refused ", number as u64);
+        self.put_line(" at ", place as u64);
+    }
 }

@@ -1,15 +1,18 @@
--- `put_points` meets its contract: the goals that the check leaves.
-use mathlib.Core.Path.{refl}
+-- `put_points` meets its contract: no index, and one more.
 use native.Mathlib.Omega.{arith}
-use Rattle.compare.proofs.Pieces.{points_none, points_more}
+use mathlib.Core.Path.{ap}
+use lib.ListN.{length}
+use Rattle.std.proofs.lemmas.Grind.{common_steps}
+use Rattle.compare.proofs.Pieces.{below_none, below_more}
 use Rattle.compare.proofs.put_points.Goals as goal
 
 pub loop-i-init : goal.loop-i-init
-loop-i-init c = (omega arith, refl, points_none c.args.ts.now c.args.vs.now c.args.us.now c.args.ws.now c.args.at c.args.out.now)
+loop-i-init c =
+    let none = below_none c.args.first.now.positions.now c.args.first.now.ratios.now c.args.second.now.positions.now c.args.second.now.ratios.now in
+    (grind (arith, common_steps, none), omega (arith, ap length none))
 
 pub loop-i-preserved : goal.loop-i-preserved
-loop-i-preserved c = (
-  omega arith,
-  omega (arith, c.put_point-end.auto.out),
-  points_more c.args.ts.now c.args.vs.now c.args.us.now c.args.ws.now c.loop-i.i (omega arith) c.loop-i.invariant.2 c.put_point-end.ensures,
-)
+loop-i-preserved c =
+    let more = below_more c.args.first.now.positions.now c.args.first.now.ratios.now c.args.second.now.positions.now c.args.second.now.ratios.now c.loop-i.i in
+    let before = c.loop-i.invariant in
+    (grind (arith, common_steps, more, before.0), grind (arith, common_steps, more, before.1))

@@ -1,12 +1,13 @@
--- `put_points` meets its contract. The invariant: the lines of the indices below i are put.
+-- The lines of the indices below i are put.
 use mathlib.Core.Path.{◌≡◌}
-use Prim.Native.Nat.{◌-◌, ◌≤◌}
+use mathlib.Core.List.{◌++◌}
+use Prim.Native.Nat.{◌*◌, ◌≤◌}
 use lib.ListN.{length}
-use Rattle.compare.proofs.Pieces.{Points}
+use Rattle.compare.specs.Pieces.{lines_below}
+use Rattle.compare.specs.Printed.{line_limit}
 use Rattle.compare.proofs.put_points.Given as goal
 
 abbrev pub invariant-loop-i : goal.invariant-loop-i
-invariant-loop-i l = (l.i ≤ l.n) × (length l.out ≡ length l.initial.out) × Points l.ts l.vs l.us l.ws l.i l.at l.end l.initial.out l.out
-
-abbrev pub decreases-loop-i : goal.decreases-loop-i
-decreases-loop-i l = l.n - l.i
+invariant-loop-i l =
+    let below = lines_below l.first.positions.now l.first.ratios.now l.second.positions.now l.second.ratios.now l.i in
+    (l.out ≡ l.initial.out ++ below) × (length below ≤ line_limit * 2 * l.i)

@@ -1,8 +1,14 @@
--- `put_index` meets its contract: an index that no ratio has, or both lines.
-use native.Mathlib.Omega.{arith}
-use Rattle.text.proofs.PlacedAt.{placed_same, placed_within}
-use Rattle.explain.proofs.Printed.{point_past}
+-- `put_index` meets its contract: both lines, an index that no ratio has, and a text that is none.
+use mathlib.Core.Path.{sym, ◌∙◌}
+use Rattle.explain.specs.Indexes.{given_index}
+use Rattle.explain.proofs.Printed.{index_none, index_past}
 use Rattle.explain.proofs.put_index.Goals as goal
+use Rattle.explain.proofs.put_index.Goals.{in_default-via-in-Some+else-i-ratios, in_default-via-in_default}
 
-pub returns-then-ratios-i : goal.returns-then-ratios-i
-returns-then-ratios-i c = placed_within (omega arith) (placed_same (point_past c.args.b c.args.ratios.now c.requires.1 c.args.i c.if-ratios-i.true) c.put_refused.ensures)
+pub returns-in_default-clause-text : goal.returns-in_default-clause-text
+returns-in_default-clause-text c =
+    c.put_refused.ensures.text ∙ rw c.requires.0 (elim c.in_default.branch [
+      | in_default-via-in-Some+else-i-ratios w ↦
+          index_past c.args.b c.args.ratios.now c.requires.1 (given_index c.args.index.now) w.in-Some.i (sym w.in-Some.ensures) w.if-i-ratios.false
+      | in_default-via-in_default w ↦ index_none c.args.b c.args.ratios.now (given_index c.args.index.now) (sym w.in_default.ensures)
+    ])

@@ -1,12 +1,19 @@
--- `put_points` meets its contract. The invariant: the lines of the first i points are put.
+-- The text so far, with the lines of the points that are left behind it, is the whole text, and the lines so far have at most 38 bytes each.
 use mathlib.Core.Path.{◌≡◌}
-use Prim.Native.Nat.{◌-◌, ◌≤◌}
+use mathlib.Core.List.{◌++◌}
+use Prim.Native.Nat.{◌+◌, ◌*◌, ◌≤◌}
 use lib.ListN.{length}
-use Rattle.listing.proofs.Lines.{Points}
+use Rattle.std.specs.Iterator.Adapters.{zip_first, zip_second}
+use Rattle.std.specs.Slice.Iter.{iter_rest}
+use Rattle.listing.specs.Lines.{point_lines}
 use Rattle.listing.proofs.put_points.Given as goal
 
-abbrev pub invariant-loop-i : goal.invariant-loop-i
-invariant-loop-i l = (l.i ≤ length l.positions) × (length l.out ≡ length l.initial.out) × Points l.i l.positions l.ratios l.at l.end l.initial.out l.out
-
-abbrev pub decreases-loop-i : goal.decreases-loop-i
-decreases-loop-i l = length l.positions - l.i
+abbrev pub invariant-loop-position : goal.invariant-loop-position
+invariant-loop-position l =
+    let ts = iter_rest (zip_first l.position-iterator) in
+    let vs = iter_rest (zip_second l.position-iterator) in
+    (goal.iterator-loop-position).can_next l.position-iterator
+    × (goal.iterator-loop-position).is_finite l.position-iterator
+    × (length ts ≡ length vs)
+    × (l.out ++ point_lines ts vs ≡ l.initial.out ++ point_lines l.positions l.ratios)
+    × (length l.out + 38 * length ts ≤ length l.initial.out + 38 * length l.positions)

@@ -36,11 +36,10 @@ fn check_old_steps(positions: &[u64]) -> Result<(), Refusal>
     requires { (length positions.now ≤ first_high positions.now) × (length positions.now ≤ max_points) }
     ensures { Judged (outside_tests Form.Old positions.now) (λ _. ⊤) result }
 {
-    let outside = position_codec::first_outside(positions);
-    if outside < positions.len() {
-        return Err(Cause::StepOutside.at(outside));
+    match position_codec::first_outside(positions) {
+        Some(outside) => Err(Cause::StepOutside.at(outside)),
+        None => Ok(()),
     }
-    Ok(())
 }
 
 // The same in a form: the wide one has a code for every step.
@@ -77,8 +76,7 @@ fn check_run(
     if points_of(form) < positions.len() {
         return Err(Cause::TooManyPoints.at(0));
     }
-    let high = limits::first_high(positions);
-    if high < positions.len() {
+    if let Some(high) = limits::first_high(positions) {
         return Err(Cause::HighPosition.at(high));
     }
     check_steps(form, positions)

@@ -31,19 +31,19 @@ returns-then-points_of-positions c =
     refused_at 3 0 c.at-then-points_of-positions.ensures (λ z. omega arith)
     (run_many r listed (omega arith) c.if-ratios-positions.false (subst (λ (m : ℕ). m < length r.positions) c.points_of.ensures c.if-points_of-positions.true))
 
-pub returns-then-high-positions : goal.returns-then-high-positions
-returns-then-high-positions c =
+pub returns-in-Some : goal.returns-in-Some
+returns-in-Some c =
     let r = run c.args.rate c.args.side c.args.form c.args.positions.now c.args.ratios.now in
     let listed : is_rate c.args.rate ≡ true = sym c.is_rate.ensures ∙ c.if-not-is_rate.false in
     let few : length r.positions ≤ points_of r.form = subst (λ (n : ℕ). length r.positions ≤ n) c.points_of.ensures c.if-points_of-positions.false in
-    refused_at 4 c.first_high-high.result c.at-then-high-positions.ensures (λ z. omega arith)
-    (rw c.first_high-high.ensures
-    (run_high r listed (omega arith) c.if-ratios-positions.false few (subst (λ (n : ℕ). n < length r.positions) c.first_high-high.ensures c.if-high-positions.true)))
+    refused_at 4 c.in-Some.high c.at-in-Some.ensures (λ z. omega arith)
+    (rw c.in-Some.ensures.0
+    (run_high r listed (omega arith) c.if-ratios-positions.false few (omega (arith, c.in-Some.ensures.0, c.in-Some.ensures.1))))
 
 pub returns : goal.returns
 returns c =
     let r = run c.args.rate c.args.side c.args.form c.args.positions.now c.args.ratios.now in
     let listed : is_rate c.args.rate ≡ true = sym c.is_rate.ensures ∙ c.if-not-is_rate.false in
     let few : length r.positions ≤ points_of r.form = subst (λ (n : ℕ). length r.positions ≤ n) c.points_of.ensures c.if-points_of-positions.false in
-    let low : length r.positions ≤ first_high r.positions = subst (λ (n : ℕ). length r.positions ≤ n) c.first_high-high.ensures c.if-high-positions.false in
+    let low : length r.positions ≤ first_high r.positions = omega (arith, c.in_default.ensures) in
     judged_as (run_tests r) (outside_tests r.form r.positions) _ c.check_steps.result (sym (run-steps r listed (omega arith) c.if-ratios-positions.false few low _ refl)) c.check_steps.ensures

@@ -12,6 +12,16 @@ use ratio_window::window_start;
 // The most bytes that a form has.
 const LONGEST: usize = 10;
 
+// Ratio i at the offset `at`, by the open rule, against the ratios before it. Never a part of its caller, which is to stay small: the loops that
+// read have it in them.
+#[inline(never)]
+fn open_nth(ratios: &[u64], i: usize, body: &[u8], at: usize) -> Option<(u64, usize)>
+    requires { (i ≤ length ratios.now) × (at ≤ length body.now) }
+    ensures { result ≡ open_one (window_of window_size (take i ratios.now)) (drop at body.now) }
+{
+    read_one_open(&ratios[window_start(i)..i], &body[at..])
+}
+
 // What stands after the byte of a place that holds u: the two counts, and the middle.
 fn xor_ahead(u: u64, body: &[u8], at: usize) -> Option<(u64, usize)>
     requires { at + 9 ≤ length body.now }
@@ -55,5 +65,5 @@ pub(crate) fn open_from(ratios: &[u64], i: usize, body: &[u8], at: usize) -> Opt
     if at + LONGEST <= body.len() {
         return open_ahead(ratios, i, body, at);
     }
-    read_one_open(&ratios[window_start(i)..i], &body[at..])
+    open_nth(ratios, i, body, at)
 }

@@ -23,6 +23,7 @@ pub enum RatioForm {
 }
 
 // The preceding ratios, oldest first, and how many of the cells are filled.
+// An array with its fill beside it, since the C interface hands it over so.
 #[repr(C)]
 #[derive(Clone, Copy)]
 pub struct Window {
@@ -64,6 +65,7 @@ fn shift(cells: &mut [u64], v: u64)
 }
 
 // `Window::push` in place: the cells of a window with this fill become those after the ratio v. The answer is the fill afterwards.
+// Cells and fill, and no window: a live coding keeps them apart, so that its kilobyte is copied in and out once.
 pub fn push_cells(cells: &mut [u64; Window::SIZE], fill: u64, v: u64) -> u64
     ensures { record { ratios = cells.new; fill = result } ≡ pushed (record { ratios = cells.old; fill = fill }) v }
 {
@@ -95,6 +97,7 @@ impl Live {
 }
 
 // The answer of a live addition: number and place of the refusal, or 0 and 0 with the number of bytes written.
+// No Result, since the C interface hands it back so.
 #[repr(C)]
 #[derive(Clone, Copy)]
 pub struct AddAnswer {
@@ -133,6 +136,7 @@ pub struct Cursor {
 }
 
 // The answer of a step: number and place of the refusal, or 0 and 0 with the ratio.
+// No Result, since the C interface hands it back so.
 #[repr(C)]
 #[derive(Clone, Copy)]
 pub struct StepAnswer {

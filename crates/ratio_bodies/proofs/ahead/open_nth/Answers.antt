@@ -1,10 +1,10 @@
--- `open_from` meets its contract: the part before the ratio is its window, and the part from the offset on is what is left of the body.
+-- `open_nth` meets its contract: the part before the ratio is its window, and the part from the offset on is what is left of the body.
 use Rattle.std.proofs.Common.{ap₂, ◌∙◌}
 use Rattle.outputs.proofs.Outputs.Parts.{rest_is}
 use Rattle.ratio_format.specs.Open.{open_one}
 use Rattle.ratio_format.specs.Windows.{window_size}
 use Rattle.ratio_format.proofs.Windows.Before.{window_part}
-use Rattle.ratio_bodies.proofs.ahead.open_from.Goals as goal
+use Rattle.ratio_bodies.proofs.ahead.open_nth.Goals as goal
 
 pub returns : goal.returns
 returns c =

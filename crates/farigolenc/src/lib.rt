@@ -44,7 +44,7 @@ pub extern "C" fn farigolenc_span(rate: u32, positions: &[u64]) -> SpanAnswer
     span::span(rate, positions).into()
 }
 
-// The form that a number names: the wide one by its tag, and the old one by any other.
+// The form that a number names: the wide one by its tag, and the old one by any other. No conversion, since neither type is of this crate.
 fn form_of(form: u32) -> Form
     ensures { result ≡ form_of form }
 {

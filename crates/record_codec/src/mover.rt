@@ -12,7 +12,7 @@ ghost use Rattle.record_parts.specs.Leads.{lead_fields, RecodedAs};
 ghost use Rattle.record_codec.specs.Answers.{Moves};
 ghost use Rattle.record_codec.specs.Movable.{Movable, Opened};
 
-use position_codec::Recoded;
+use position_codec::RecodeError;
 use position_format::Form;
 use record_format::{HEAD_SIZE, Moved};
 use record_parts::coding::{Reading, is_in, points_of};
@@ -32,17 +32,17 @@ fn put_moved(
     count: usize,
     field: &[u8],
     out: &mut [u8],
-) -> Recoded
+) -> Result<usize, RecodeError>
     requires { (missing (read_positions (table_of from) count body.now) ≡ false) × (count ≤ max_points) }
     ensures { RecodedAs to (list_of (read_positions (table_of from) count body.now))
         (laid (lead_fields rate side to (list_of (read_positions (table_of from) count body.now))) ++ field.now)
         result out.old out.new }
 {
-    let lead = put_recoded_lead(rate, side, from, to, body, count, out);
-    let Recoded::Put(wrote) = lead else {
-        return lead;
-    };
-    Recoded::Put(outputs::put_copy_next(wrote, field, out))
+    let lead_end = put_recoded_lead(rate, side, from, to, body, count, out)?;
+    match outputs::put_copy(field, &mut out[lead_end..]) {
+        Some(field_size) => Ok(lead_end + field_size),
+        None => Err(RecodeError::NoRoom),
+    }
 }
 
 // The move of a record whose front is read and whose form is not the one moved to. First the points are checked, which needs no output. 3 refuses more
@@ -77,12 +77,12 @@ fn move_points(form: Form, input: &[u8], front: Front, out: &mut [u8]) -> Result
         out,
     );
     match moved {
-        Recoded::Outside(i) => Err(Cause::StepOutside.at(i)),
-        Recoded::Put(None) => Err(Cause::NoRoom.at(0)),
-        Recoded::Put(Some(length)) => Ok(Moved {
+        Ok(length) => Ok(Moved {
             length,
             used: points.end,
         }),
+        Err(RecodeError::Outside(i)) => Err(Cause::StepOutside.at(i)),
+        Err(RecodeError::NoRoom) => Err(Cause::NoRoom.at(0)),
     }
 }
 

@@ -36,11 +36,10 @@ fn check_old_steps(positions: &[u64]) -> Result<(), Refusal>
     requires { (length positions.now ≤ first_high positions.now) × (length positions.now ≤ max_points) }
     ensures { Judged (outside_tests Form.Old positions.now) (λ _. ⊤) result }
 {
-    let outside = position_codec::first_outside(positions);
-    if outside < positions.len() {
-        return Err(Cause::StepOutside.at(outside));
+    match position_codec::first_outside(positions) {
+        Some(outside) => Err(Cause::StepOutside.at(outside)),
+        None => Ok(()),
     }
-    Ok(())
 }
 
 // The same in a form: the wide one has a code for every step.

@@ -17,14 +17,16 @@ use position_format::Form;
 use record_format::{OLD_TAG, RATIOS_TAG, WIDE_TAG, form_tag};
 use refusals::{Cause, Refusal};
 
-// How the numbers of a body are coded.
+// How the numbers of a body are coded. An enum, and no type parameter of `put_coded`: one writer of fields stands for both, called from two places, and so
+// is not made part of a caller, where it is slower.
 #[derive(Clone, Copy)]
 pub enum Coding {
     Positions(Form),
     Ratios,
 }
 
-// How the ratios' field is read: it must be the coding of its ratios, or the open rule reads it.
+// How the ratios' field is read: it must be the coding of its ratios, or the open rule reads it. An enum that one function matches on: a closure in its
+// place is no plainer, since each function on the way to that one would ask for the closure's room and law.
 #[derive(Clone, Copy)]
 pub enum Reading {
     Strict,

@@ -8,12 +8,11 @@ use native.Mathlib.Omega.{arith}
 use borrow.Author.Tests.{lt-ltb, le-ltb}
 use lib.Dec.{leb, eqb}
 use Rattle.lists.specs.Compare.{both}
-use lib.ListN.{length, take, drop}
+use lib.ListN.{length, take, drop, length-append}
 use Rattle.lists.specs.Below.{Below}
 use Rattle.lists.specs.Optional.{missing, list_of}
 use Rattle.limits.specs.Points.{max_points, first_high}
-use Rattle.std.specs.Prelude.{Option as Wrote, Some, None, Result, Ok, Err}
-use Rattle.outputs.specs.Outputs.{Placed}
+use Rattle.std.specs.Prelude.{Option as Wrote, Some, Result, Ok, Err}
 use Rattle.refusals.specs.declared.Refusal.{Refusal}
 use Rattle.refusals.specs.Tests.{refusal, first_of}
 use Rattle.refusals.proofs.Tests.{first_of_here, first_of_skip, first_of_end}
@@ -24,8 +23,8 @@ use Rattle.position_format.specs.Steps.{first_outside}
 use Rattle.position_format.specs.Tables.{table_of, points_of}
 use Rattle.position_format.proofs.Positions.Valid.{valid_parts}
 use Rattle.position_codec.specs.Codes.{CodablePositions}
-use Rattle.position_codec.specs.declared.recode.Recoded.{Recoded}
-use Rattle.position_codec.specs.declared.recode.Recoded.TheVariants.{Outside, Put}
+use Rattle.position_codec.specs.declared.recode.RecodeError.{RecodeError}
+use Rattle.position_codec.specs.declared.recode.RecodeError.TheVariants.{Outside, NoRoom}
 use Rattle.position_codec.proofs.Codes.{codable_inside}
 use Rattle.ratio_format.specs.Bodies.{strict_ratios}
 use Rattle.record_format.specs.Fields.{head_size, tag_at, length_at, body_at, next_at, laid}
@@ -44,10 +43,20 @@ use Rattle.record_parts.specs.declared.points.Points.{Points}
 use Rattle.record_parts.specs.Fields.{RefusedBy, FrontFound, FrontRead, PointsRead}
 use Rattle.record_parts.proofs.Fields.{refused_at, refused_as}
 use Rattle.record_parts.specs.Leads.{lead_fields, RecodedAs}
-use Rattle.record_parts.proofs.putting.Recodings.{recoded_put, recoded_outside}
-use Rattle.outputs.proofs.Outputs.Writers.{short_of, wrote_all}
+use Rattle.outputs.proofs.Outputs.Writers.{next_placed}
+use Rattle.outputs.specs.Outputs.{Placed, both_wrote}
+use borrow.Rule.Slice.PartMut.{put_mid}
 use Rattle.record_codec.specs.Answers.{Moves}
 use Rattle.record_codec.specs.Movable.{NotThere, Movable, Opened}
+
+-- ---- bytes, and then more bytes
+
+pub longer : (xs ys o : List ℕ) → length o < length xs → length o < length (xs ++ ys)
+longer xs ys o short = omega (arith, short, length-append xs ys)
+
+pub placed_then : (xs ys o p : List ℕ) (n : ℕ) → Placed xs (Some n) o p → (q : List ℕ) (v : Wrote ℕ) → Placed ys v (take (length p - n) (drop n p)) q
+    → Placed (xs ++ ys) (both_wrote n v) o (put_mid n (length p - n) p q)
+placed_then xs ys o p n put q v next = next_placed ys p (Some n) n (λ i. Some n) q v next (both_wrote n v) (λ i. both_wrote n v) xs o put
 
 -- ---- refusals
 
@@ -180,48 +189,45 @@ module _ {f : Form} {s : List ℕ} {h : Front} {g : Points} (i : PointsPast f s 
       target_refused f s o clear (refusal 3 0) (target_many f (run_in s).positions (fitting_few (run_in s) sound.fits) (omega (arith, many_is))) (λ z. omega arith)
 
   -- what the writer of the record says
-  module _ (o p : List ℕ) (r : Recoded) (put : RecodedAs f (list_of points) (laid (lead_fields h.rate h.side f (list_of points)) ++ field) r o p) where
-    abbrev moved : List ℕ
-    moved = record_of (in_form f (run_in s))
+  abbrev moved : List ℕ
+  moved = record_of (in_form f (run_in s))
 
-    bytes_are : laid (lead_fields h.rate h.side f (list_of points)) ++ field ≡ moved
-    bytes_are =
-        ap₂ (λ (x y : List ℕ). x ++ y)
-        (ap₂ (λ (x y : ℕ). laid (lead_fields x y f (list_of points))) front.rate front.side ∙ ap (λ (l : List ℕ). laid (lead_fields (rate_in s) (side_in s) f l)) run_are)
-        (ap₂ (λ (a b : ℕ). take (b - a) (drop a s)) (i.read.1.from) (i.read.1.next) ∙ sound.ratios)
-        ∙ sym (moved-laid f (run_in s))
+  bytes_are : laid (lead_fields h.rate h.side f (list_of points)) ++ field ≡ moved
+  bytes_are =
+      ap₂ (λ (x y : List ℕ). x ++ y)
+      (ap₂ (λ (x y : ℕ). laid (lead_fields x y f (list_of points))) front.rate front.side ∙ ap (λ (l : List ℕ). laid (lead_fields (rate_in s) (side_in s) f l)) run_are)
+      (ap₂ (λ (a b : ℕ). take (b - a) (drop a s)) i.read.1.from i.read.1.next ∙ sound.ratios)
+      ∙ sym (moved-laid f (run_in s))
 
+  module _ (o p : List ℕ) (r : Result ℕ RecodeError) (put : RecodedAs f (list_of points) (laid (lead_fields h.rate h.side f (list_of points)) ++ field) r o p) where
     put_record : RecodedAs f (run_in s).positions moved r o p
     put_record = subst (λ (l : List ℕ). RecodedAs f (run_in s).positions l r o p) bytes_are (subst (λ (l : List ℕ). RecodedAs f l (laid (lead_fields h.rate h.side f (list_of points)) ++ field) r o p) run_are put)
 
-    -- a step outside
-    module _ (k : ℕ) (e : r ≡ Outside k) where
-      outside_is : (k ≡ first_outside (table_of f) (run_in s).positions) × (k < length (run_in s).positions)
-      outside_is = recoded_outside f (run_in s).positions moved o p r put_record e moved o p
+    pub put_as : (x : Result ℕ RecodeError) → r ≡ x → RecodedAs f (run_in s).positions moved x o p
+    put_as x e = subst (λ (y : Result ℕ RecodeError). RecodedAs f (run_in s).positions moved y o p) e put_record
 
-      pub outside_low : k ≤ max_points
-      outside_low = omega (arith, outside_is.1, fitting_few (run_in s) sound.fits)
+  -- a step outside
+  module _ (o p : List ℕ) (k : ℕ) (put : RecodedAs f (run_in s).positions moved (Err (Outside k)) o p) where
+    pub outside_low : k ≤ max_points
+    outside_low = omega (arith, put.1, fitting_few (run_in s) sound.fits)
 
-      pub outside_stop : refused_move (refusal 5 k) o ≡ move_of f s o
-      outside_stop =
-          target_refused f s o clear (refusal 5 k)
-          (ap (refusal 5) outside_is.0 ∙ target_outside f (run_in s).positions low (omega (arith, outside_is.0, outside_is.1))) (λ z. omega arith)
+    pub outside_stop : refused_move (refusal 5 k) o ≡ move_of f s o
+    outside_stop =
+        target_refused f s o clear (refusal 5 k)
+        (ap (refusal 5) put.0 ∙ target_outside f (run_in s).positions low (omega (arith, put.0, put.1))) (λ z. omega arith)
 
-    -- or none: the record, or no room for it
-    module _ (few : h.count ≤ points_of f) (w : Wrote ℕ) (e : r ≡ Put w) where
-      wrote : CodablePositions f (run_in s).positions × Placed moved w o p
-      wrote = recoded_put f (run_in s).positions moved o p r put_record e
+  -- or none: the record, or no room for it
+  module _ (few : h.count ≤ points_of f) where
+    target_clear : CodablePositions f (run_in s).positions → (first_of (target_tests f (run_in s).positions)).number ≡ 0
+    target_clear valid = target_good f (run_in s).positions (omega (arith, many_is)) valid
 
-      target_clear : (first_of (target_tests f (run_in s).positions)).number ≡ 0
-      target_clear = target_good f (run_in s).positions (omega (arith, many_is)) wrote.0
+    pub move_short : (o p : List ℕ) → RecodedAs f (run_in s).positions moved (Err NoRoom) o p → refused_move (refusal 6 0) o ≡ move_of f s o
+    move_short o p put = room-refused f s o clear (target_clear put.0) put.1
 
-      pub move_short : w ≡ None → refused_move (refusal 6 0) o ≡ move_of f s o
-      move_short is = room-refused f s o clear target_clear (short_of moved o p w wrote.1 is)
-
-      pub move_ends : (n : ℕ) → w ≡ Some n → Moves (move_of f s o) o (Ok (record { length = n; used = g.end })) p
-      move_ends n is =
-          let a = wrote_all moved o p w wrote.1 n is in
-          let done = move_done f s o clear target_clear a.1 in (
-            ap₂ (λ (x y : ℕ). move_answer (Ok (record { length = x; used = y }))) a.0 i.read.1.next ∙ ap (λ (m : Move). m.answer) done,
-            a.2 ∙ ap (λ (m : Move). m.output) done,
-          )
+    pub move_ends : (o p : List ℕ) (n : ℕ) → RecodedAs f (run_in s).positions moved (Ok n) o p → Moves (move_of f s o) o (Ok (record { length = n; used = g.end })) p
+    move_ends o p n put =
+        let a = put.1 in
+        let done = move_done f s o clear (target_clear put.0) a.1 in (
+          ap₂ (λ (x y : ℕ). move_answer (Ok (record { length = x; used = y }))) a.0 i.read.1.next ∙ ap (λ (m : Move). m.answer) done,
+          a.2 ∙ ap (λ (m : Move). m.output) done,
+        )

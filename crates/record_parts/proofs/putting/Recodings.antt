@@ -9,14 +9,13 @@ use lib.ListN.{length, take, drop}
 use borrow.Rule.Slice.PartMut.{put_mid}
 use Rattle.lists.specs.Optional.{missing, list_of}
 use Rattle.bits.specs.Digits.{bytes_of}
-use Rattle.outputs.specs.Outputs.{over, Placed}
+use Rattle.outputs.specs.Outputs.{over}
 use Rattle.std.specs.Prelude.{Some, None, Result, Ok, Err}
 use Rattle.std.specs.Result.{IsErrAnd}
 use Rattle.position_format.specs.declared.Form.{Form}
 use Rattle.position_format.specs.Tables.{table_of}
 use Rattle.position_format.specs.Positions.{coded_positions, read_positions}
 use Rattle.position_format.proofs.Positions.{read_only}
-use Rattle.position_codec.specs.Codes.{CodablePositions}
 use Rattle.position_codec.specs.Recoding.{RecodedInto}
 use Rattle.position_codec.specs.declared.recode.RecodeError.{RecodeError}
 use Rattle.position_codec.specs.declared.recode.RecodeError.TheVariants.{Outside, NoRoom}

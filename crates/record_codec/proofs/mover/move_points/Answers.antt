@@ -1,10 +1,12 @@
 -- `move_points` meets its contract: a law of moves answers each return.
-use mathlib.Core.Path.{◌≡◌, subst}
+use mathlib.Core.Path.{◌≡◌, ap, ◌∙◌, subst}
 use Prim.Native.Nat.{ℕ, ◌≤◌, ◌<◌}
 use native.Mathlib.Omega.{arith}
-use Rattle.std.specs.Prelude.{Some, None}
+use Rattle.std.specs.Prelude.{Ok, Err}
+use Rattle.position_codec.specs.declared.recode.RecodeError.{RecodeError}
+use Rattle.position_codec.specs.declared.recode.RecodeError.TheVariants.{Outside, NoRoom}
 use Rattle.lists.proofs.Below.{below_of}
-use Rattle.record_codec.proofs.mover.Movings.{moves_err, moves_at, PointsPast, points_past, points_stop, body_order, field_order, body-sound, many_stop, outside_low, outside_stop, move_short, move_ends}
+use Rattle.record_codec.proofs.mover.Movings.{moves_err, moves_at, PointsPast, points_past, points_stop, body_order, field_order, body-sound, many_stop, put_as, outside_low, outside_stop, move_short, move_ends}
 use Rattle.record_codec.proofs.mover.move_points.Goals as goal
 
 pub returns-in_err-points : goal.returns-in_err-points
@@ -55,33 +57,41 @@ put_moved-moved-requires c =
     points_past (below_of 256 c.args.input.now (λ i. (c.shared_slice_known-1.given i).fits)) c.requires _ _ _ _ c.in_ok-points.ensures in
     body-sound past
 
-pub at-requires-in-Outside : goal.at-requires-in-Outside
-at-requires-in-Outside c =
+pub at-requires-in-Err-Outside : goal.at-requires-in-Err-Outside
+at-requires-in-Err-Outside c =
     let past : PointsPast c.args.form c.args.input.now c.args.front c.in_ok-points.points =
     points_past (below_of 256 c.args.input.now (λ i. (c.shared_slice_known-1.given i).fits)) c.requires _ _ _ _ c.in_ok-points.ensures in
-    let low = outside_low past c.args.out.now c.put_moved-moved.new.out c.put_moved-moved.result c.put_moved-moved.ensures _ c.in-Outside.is in
+    let error : c.in-Err-Outside.field-0 ≡ Outside c.in-Err-Outside.i = rw c.in-Err-Outside.is at c.in-Err-Outside.field-0-is in
+    let put = put_as past c.args.out.now c.put_moved-moved.new.out c.put_moved-moved.result c.put_moved-moved.ensures (Err (Outside c.in-Err-Outside.i))
+    (c.in-Err-Outside.is ∙ ap (λ (e : RecodeError). Err e) error) in
+    let low = outside_low past c.args.out.now c.put_moved-moved.new.out c.in-Err-Outside.i put in
     omega arith
 
-pub returns-in-Outside : goal.returns-in-Outside
-returns-in-Outside c =
+pub returns-in-Err-Outside : goal.returns-in-Err-Outside
+returns-in-Err-Outside c =
     let past : PointsPast c.args.form c.args.input.now c.args.front c.in_ok-points.points =
     points_past (below_of 256 c.args.input.now (λ i. (c.shared_slice_known-1.given i).fits)) c.requires _ _ _ _ c.in_ok-points.ensures in
-    moves_at c.args.form c.args.input.now c.args.out.now c.put_moved-moved.new.out 5 _ c.at-in-Outside.ensures (λ z. omega arith)
-    (outside_stop past c.args.out.now c.put_moved-moved.new.out c.put_moved-moved.result c.put_moved-moved.ensures _ c.in-Outside.is)
+    let error : c.in-Err-Outside.field-0 ≡ Outside c.in-Err-Outside.i = rw c.in-Err-Outside.is at c.in-Err-Outside.field-0-is in
+    let put = put_as past c.args.out.now c.put_moved-moved.new.out c.put_moved-moved.result c.put_moved-moved.ensures (Err (Outside c.in-Err-Outside.i))
+    (c.in-Err-Outside.is ∙ ap (λ (e : RecodeError). Err e) error) in
+    moves_at c.args.form c.args.input.now c.args.out.now c.put_moved-moved.new.out 5 _ c.at-in-Err-Outside.ensures (λ z. omega arith)
+    (outside_stop past c.args.out.now c.put_moved-moved.new.out c.in-Err-Outside.i put)
 
-pub returns-in-Put-None : goal.returns-in-Put-None
-returns-in-Put-None c =
+pub returns-in-Err-NoRoom : goal.returns-in-Err-NoRoom
+returns-in-Err-NoRoom c =
     let past : PointsPast c.args.form c.args.input.now c.args.front c.in_ok-points.points =
     points_past (below_of 256 c.args.input.now (λ i. (c.shared_slice_known-1.given i).fits)) c.requires _ _ _ _ c.in_ok-points.ensures in
     let few = subst (λ (n : ℕ). c.args.front.count ≤ n) c.points_of.ensures c.if-points_of-count.false in
-    let short : c.in-Put-None.field-0 ≡ None = rw c.in-Put-None.is at c.in-Put-None.field-0-is in
-    moves_at c.args.form c.args.input.now c.args.out.now c.put_moved-moved.new.out 6 0 c.at-in-Put-None.ensures (λ z. omega arith)
-    (move_short past c.args.out.now c.put_moved-moved.new.out c.put_moved-moved.result c.put_moved-moved.ensures few _ c.in-Put-None.is short)
+    let error : c.in-Err-NoRoom.field-0 ≡ NoRoom = rw c.in-Err-NoRoom.is at c.in-Err-NoRoom.field-0-is in
+    let put = put_as past c.args.out.now c.put_moved-moved.new.out c.put_moved-moved.result c.put_moved-moved.ensures (Err NoRoom)
+    (c.in-Err-NoRoom.is ∙ ap (λ (e : RecodeError). Err e) error) in
+    moves_at c.args.form c.args.input.now c.args.out.now c.put_moved-moved.new.out 6 0 c.at-in-Err-NoRoom.ensures (λ z. omega arith)
+    (move_short past few c.args.out.now c.put_moved-moved.new.out put)
 
-pub returns-in-Put-Some : goal.returns-in-Put-Some
-returns-in-Put-Some c =
+pub returns-in-Ok : goal.returns-in-Ok
+returns-in-Ok c =
     let past : PointsPast c.args.form c.args.input.now c.args.front c.in_ok-points.points =
     points_past (below_of 256 c.args.input.now (λ i. (c.shared_slice_known-1.given i).fits)) c.requires _ _ _ _ c.in_ok-points.ensures in
     let few = subst (λ (n : ℕ). c.args.front.count ≤ n) c.points_of.ensures c.if-points_of-count.false in
-    let wrote : c.in-Put-Some.field-0 ≡ Some c.in-Put-Some.length = rw c.in-Put-Some.is at c.in-Put-Some.field-0-is in
-    move_ends past c.args.out.now c.put_moved-moved.new.out c.put_moved-moved.result c.put_moved-moved.ensures few _ c.in-Put-Some.is c.in-Put-Some.length wrote
+    move_ends past few c.args.out.now c.put_moved-moved.new.out c.in-Ok.length
+    (put_as past c.args.out.now c.put_moved-moved.new.out c.put_moved-moved.result c.put_moved-moved.ensures (Ok c.in-Ok.length) c.in-Ok.is)

@@ -38,7 +38,7 @@ returns-in-Some c =
     let few : length r.positions ≤ points_of r.form = subst (λ (n : ℕ). length r.positions ≤ n) c.points_of.ensures c.if-points_of-positions.false in
     refused_at 4 c.in-Some.high c.at-in-Some.ensures (λ z. omega arith)
     (rw c.in-Some.ensures.0
-    (run_high r listed (omega arith) c.if-ratios-positions.false few (subst (λ (n : ℕ). n < length r.positions) c.in-Some.ensures.0 c.in-Some.ensures.1)))
+    (run_high r listed (omega arith) c.if-ratios-positions.false few (omega (arith, c.in-Some.ensures.0, c.in-Some.ensures.1))))
 
 pub returns : goal.returns
 returns c =

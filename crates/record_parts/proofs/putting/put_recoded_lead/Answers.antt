@@ -1,7 +1,5 @@
 -- `put_recoded_lead` meets its contract: the front, and the field of the recoded positions past it.
-use mathlib.Core.List.{[], ◌∷◌, ◌++◌}
-use mathlib.Core.Path.{◌≡◌, sym, ap}
-use Prim.Native.Nat.{ℕ}
+use mathlib.Core.List.{[], ◌∷◌}
 use Rattle.std.specs.Prelude.{Some, None}
 use Rattle.lists.specs.Optional.{list_of}
 use Rattle.position_format.specs.Positions.{read_positions}

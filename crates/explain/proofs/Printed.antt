@@ -10,7 +10,8 @@ use borrow.Author.Tests.{lt-ltb, le-ltb, leb-true, leb-false, eq-eqb, ne_eqb}
 use lib.Dec.{leb}
 use lib.ListN.{length, get_or, take}
 use lib.Seq.{take_all}
-use Rattle.std.specs.Prelude.{None, Some}
+use Rattle.std.specs.Prelude.{Result, None, Some}
+use Rattle.refusals.specs.declared.Refusal.{Refusal}
 use Rattle.std.proofs.lemmas.Option.{none-some, same_Some}
 use Rattle.limits.specs.Points.{max_points}
 use Rattle.ratio_format.specs.Bodies.{coded_ratios}
@@ -42,7 +43,7 @@ module _ (b : ℕ) (vs : List ℕ) where
   unfolding reason_line
   point_past few i h =
       sym
-      (ap₂ (λ (t : Bool) (r : Reason). cond t (cost_line i (get_or vs i 0) (cost_of vs i) (offset_of b vs i)) [] ++ reason_line r)
+      (ap₂ (λ (t : Bool) (r : Result Reason Refusal). cond t (cost_line i (get_or vs i 0) (cost_of vs i) (offset_of b vs i)) [] ++ reason_line r)
       (le-ltb i (length vs) h) (explained_past vs i few h))
 
   -- a text that is none

@@ -4,15 +4,16 @@
 --   PrintsExample    of the run's record and the text "1" the program prints them, without a side and, four bytes further on, with one
 --   Example, example, examples   lines, each with its bytes; examples_hold: each is as it is given
 --   index_examples   what texts of an index are
-use Rattle.std.specs.Prelude.{List, [], ◌∷◌, ◌++◌, map, ◌≡◌, refl, ℕ, ◌+◌, ◌^◌}
+use Rattle.std.specs.Prelude.{Ok, Err, List, [], ◌∷◌, ◌++◌, map, ◌≡◌, refl, ℕ, ◌+◌, ◌^◌}
 use Rattle.std.proofs.Math.Option.{none, some}
 use Rattle.lists.specs.Lists.{first_index}
 use Rattle.bits.specs.Digits.{digits_of, number_of}
 use Rattle.position_format.specs.declared.Form.TheVariants.{Old}
 use Rattle.record_format.specs.Runs.{Run, run, record_of}
+use Rattle.refusals.specs.Tests.{refusal}
 use Rattle.text.specs.Lines.{refused_line}
 use Rattle.text.specs.Numbers.{trimmed, decimal, hex16}
-use Rattle.reasons.specs.declared.Reason.TheVariants.{Reference, Exception, Empty, Refused}
+use Rattle.reasons.specs.declared.Reason.TheVariants.{Reference, Exception, Empty}
 use Rattle.explain.specs.Indexes.{given_index}
 use Rattle.explain.specs.Lines.{cost_line, reason_line}
 use Rattle.explain.specs.Printed.{printed}
@@ -51,14 +52,14 @@ example l p = record { text = l; expected = p }
 -- `equal to place 3`; `exception, best sum 1`; `exception, window empty`; `refused 22 at 0`; and a cost of one byte, `1 bytes`
 pub examples : List Example
 examples =
-    example (reason_line (Reference 3)) (101 ∷ 113 ∷ 117 ∷ 97 ∷ 108 ∷ 32 ∷ 116 ∷ 111 ∷ 32 ∷ 112 ∷ 108 ∷ 97 ∷ 99 ∷ 101 ∷ 32 ∷ 51 ∷ 10 ∷ [])
+    example (reason_line (Ok (Reference 3))) (101 ∷ 113 ∷ 117 ∷ 97 ∷ 108 ∷ 32 ∷ 116 ∷ 111 ∷ 32 ∷ 112 ∷ 108 ∷ 97 ∷ 99 ∷ 101 ∷ 32 ∷ 51 ∷ 10 ∷ [])
     ∷ example
-    (reason_line (Exception 1))
+    (reason_line (Ok (Exception 1)))
     (101 ∷ 120 ∷ 99 ∷ 101 ∷ 112 ∷ 116 ∷ 105 ∷ 111 ∷ 110 ∷ 44 ∷ 32 ∷ 98 ∷ 101 ∷ 115 ∷ 116 ∷ 32 ∷ 115 ∷ 117 ∷ 109 ∷ 32 ∷ 49 ∷ 10 ∷ [])
     ∷ example
-    (reason_line Empty)
+    (reason_line (Ok Empty))
     (101 ∷ 120 ∷ 99 ∷ 101 ∷ 112 ∷ 116 ∷ 105 ∷ 111 ∷ 110 ∷ 44 ∷ 32 ∷ 119 ∷ 105 ∷ 110 ∷ 100 ∷ 111 ∷ 119 ∷ 32 ∷ 101 ∷ 109 ∷ 112 ∷ 116 ∷ 121 ∷ 10 ∷ [])
-    ∷ example (reason_line (Refused 22 0)) (114 ∷ 101 ∷ 102 ∷ 117 ∷ 115 ∷ 101 ∷ 100 ∷ 32 ∷ 50 ∷ 50 ∷ 32 ∷ 97 ∷ 116 ∷ 32 ∷ 48 ∷ 10 ∷ [])
+    ∷ example (reason_line (Err (refusal 22 0))) (114 ∷ 101 ∷ 102 ∷ 117 ∷ 115 ∷ 101 ∷ 100 ∷ 32 ∷ 50 ∷ 50 ∷ 32 ∷ 97 ∷ 116 ∷ 32 ∷ 48 ∷ 10 ∷ [])
     ∷ example
     (cost_line 2 0x3FE0000000000000 1 45)
     (114 ∷ 97 ∷ 116 ∷ 105 ∷ 111 ∷ 32 ∷ 50 ∷ 32 ∷ 51 ∷ 102 ∷ 101 ∷ 48 ∷ 48 ∷ 48 ∷ 48 ∷ 48 ∷ 48 ∷ 48 ∷ 48 ∷ 48 ∷ 48 ∷ 48 ∷ 48 ∷ 48 ∷ 32 ∷ 49

@@ -4,11 +4,12 @@
 --   xor_line p l t              the reason of an xor form
 --   reason_line r               the reason: `equal to place 3`, `xor with place 0, 1 leading and 6 trailing zero bytes`, `exception, best sum 1`,
 --                               `exception, window empty`; or the line of a refusal, as the listing has it
-use Rattle.std.specs.Prelude.{List, [], ◌∷◌, ◌++◌, ℕ}
+use Rattle.std.specs.Prelude.{Result, Ok, Err, List, [], ◌∷◌, ◌++◌, ℕ}
 use Rattle.text.specs.Lines.{newline, space, ratio_word, refused_line}
 use Rattle.text.specs.Numbers.{decimal, hex16}
+use Rattle.refusals.specs.declared.Refusal.{Refusal}
 use Rattle.reasons.specs.declared.Reason.{Reason}
-use Rattle.reasons.specs.declared.Reason.TheVariants.{Reference, Xor, Exception, Empty, Refused}
+use Rattle.reasons.specs.declared.Reason.TheVariants.{Reference, Xor, Exception, Empty}
 
 -- " bytes at "
 abbrev pub bytes_word : List ℕ
@@ -55,9 +56,9 @@ unfoldable pub xor_line : ℕ → ℕ → ℕ → List ℕ
 xor_line p l t = xor_word ++ (decimal p ++ (comma ++ (decimal l ++ (leading_word ++ (decimal t ++ trailing_word)))))
 
 -- the line of the reason
-unfoldable pub reason_line : Reason → List ℕ
-reason_line (Reference p) = equal_word ++ (decimal p ++ newline)
-reason_line (Xor p l t) = xor_line p l t
-reason_line (Exception s) = best_word ++ (decimal s ++ newline)
-reason_line Empty = empty_line
-reason_line (Refused n p) = refused_line n p
+unfoldable pub reason_line : Result Reason Refusal → List ℕ
+reason_line (Ok (Reference p)) = equal_word ++ (decimal p ++ newline)
+reason_line (Ok (Xor p l t)) = xor_line p l t
+reason_line (Ok (Exception s)) = best_word ++ (decimal s ++ newline)
+reason_line (Ok Empty) = empty_line
+reason_line (Err f) = refused_line f.number f.place

@@ -13,6 +13,7 @@ ghost use Rattle.explain.specs.Printed.{text_limit, cost_of, point_text, index_t
 use inputs::{input_room, numbers_room, read_input};
 use limits::MAX_POINTS;
 use reasons::Reason;
+use refusals::{Cause, Refusal};
 use text::Text;
 
 // As many bytes as the longest body of a run's ratios has.
@@ -91,19 +92,21 @@ fn put_xor(out: &mut Text<TEXT>, place: u64, lead: u64, trail: u64)
     out.put(" trailing zero bytes\n");
 }
 
-// The line of a reason.
+// The line of a reason, or of a refusal.
 #[tactic(auto, unfolding(crate::specs::Lines::reason_line))]
-fn put_reason(out: &mut Text<TEXT>, reason: Reason)
+fn put_reason(out: &mut Text<TEXT>, reason: Result<Reason, Refusal>)
     requires { length out.old + 111 ≤ text_limit }
     ensures text { out.new ≡ out.old ++ reason_line reason }
     ensures most { length (reason_line reason) ≤ 111 }
 {
     match reason {
-        Reason::Reference(place) => out.put_line("equal to place ", place as u64),
-        Reason::Xor { place, lead, trail } => put_xor(out, place as u64, lead as u64, trail as u64),
-        Reason::Exception(sum) => out.put_line("exception, best sum ", sum as u64),
-        Reason::Empty => out.put("exception, window empty\n"),
-        Reason::Refused(number, place) => out.put_refused(number, place),
+        Ok(Reason::Reference(place)) => out.put_line("equal to place ", u64::from(place)),
+        Ok(Reason::Xor { place, lead, trail }) => {
+            put_xor(out, u64::from(place), u64::from(lead), u64::from(trail))
+        }
+        Ok(Reason::Exception(sum)) => out.put_line("exception, best sum ", u64::from(sum)),
+        Ok(Reason::Empty) => out.put("exception, window empty\n"),
+        Err(refusal) => out.put_refused(refusal),
     }
 }
 
@@ -145,7 +148,7 @@ fn put_index(out: &mut Text<TEXT>, ratios: &[u64], index: &[u8], b: usize)
 {
     match index_in(index) {
         Some(i) if i < ratios.len() => put_lines(out, ratios, i, b),
-        _ => out.put_refused(22, 0),
+        _ => out.put_refused(Cause::BadIndex.at(0)),
     }
 }
 
@@ -157,15 +160,14 @@ fn print(input: &[u8], index: &[u8], out: &mut Text<TEXT>)
 {
     let mut positions = numbers_room();
     let mut ratios = numbers_room();
-    let answer = read_input(input, &mut positions, &mut ratios);
-    let number = answer.number;
-    if number != 0 {
-        out.put_refused(number, answer.place);
-        return;
+    match read_input(input, &mut positions, &mut ratios) {
+        Ok(found) => {
+            let ratios = &ratios[..found.count as usize];
+            let body = found.size - body_size(ratios);
+            put_index(out, ratios, index, body);
+        }
+        Err(refusal) => out.put_refused(refusal),
     }
-    let ratios = &ratios[..answer.count as usize];
-    let body = answer.size as usize - body_size(ratios);
-    put_index(out, ratios, index, body);
 }
 
 fn main(rt: HostRuntime) {

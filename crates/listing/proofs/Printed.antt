@@ -4,12 +4,16 @@ use mathlib.Core.List.{List}
 use Prim.Native.Nat.{ℕ, ◌+◌, ◌*◌, ◌≤◌}
 use native.Mathlib.Omega.{arith}
 use borrow.Author.Tests.{eq-eqb, ne_eqb}
-use lib.IntN.{ℤ}
+use lib.IntN.{ℤ, pos}
 use lib.ListN.{length, take}
 use lib.Seq.{length-take-le}
+use Rattle.std.specs.Prelude.{Result, Ok, Err}
+use Rattle.std.specs.Result.{result_unwrap_or}
+use Rattle.refusals.specs.declared.Refusal.{Refusal}
 use Rattle.record_format.specs.declared.CheckAnswer.{CheckAnswer}
 use Rattle.record_format.specs.Runs.{Run}
-use Rattle.span.specs.Spans.{spanned}
+use Rattle.span.specs.declared.SpanAnswer.{SpanAnswer}
+use Rattle.span.specs.Spans.{spanned, span_numbers}
 use Rattle.text.specs.Lines.{refused_line}
 use Rattle.inputs.specs.Inputs.{run_input}
 use Rattle.inputs.specs.Readings.{RunHeld, InputRead}
@@ -42,3 +46,8 @@ module _ {s : List ℕ} {r : CheckAnswer} {ts vs : List ℕ} (h : InputRead s r 
       let same : (r.rate ≡ (run_input s).rate) × (r.side ≡ (run_input s).side) =
       (ap (λ (x : CheckAnswer). x.rate) o.3 ∙ sym (ap (λ (x : Run). x.rate) o.4), ap (λ (x : CheckAnswer). x.side) o.3 ∙ sym (ap (λ (x : Run). x.side) o.4)) in
       rw (e, same.0, same.1, h.positions ok, h.ratios ok) (sym (listed ok) ∙ answered)
+
+-- the span of a call's answer is 0 where it refuses
+pub span_is : (r : Result ℤ Refusal) {a : SpanAnswer} {z : ℤ} → span_numbers r ≡ a → z ≡ result_unwrap_or r (pos 0) → z ≡ a.milliseconds
+span_is (Ok x) e h = h ∙ ap (λ (a : SpanAnswer). a.milliseconds) e
+span_is (Err f) e h = h ∙ ap (λ (a : SpanAnswer). a.milliseconds) e

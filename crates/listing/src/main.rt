@@ -19,7 +19,7 @@ fn put_rate(out: &mut Text<TEXT>, rate: u32)
     ensures text { out.new ≡ out.old ++ rate_line rate }
     ensures most { length (rate_line rate) ≤ 26 }
 {
-    out.put_line("rate ", rate as u64);
+    out.put_line("rate ", u64::from(rate));
 }
 
 // The line of the side, if there is one.
@@ -29,7 +29,7 @@ fn put_side(out: &mut Text<TEXT>, side: u32)
     ensures most { length (side_line side) ≤ 26 }
 {
     if side != 0 {
-        out.put_line("side ", side as u64);
+        out.put_line("side ", u64::from(side));
     }
 }
 
@@ -108,23 +108,21 @@ fn print(input: &[u8], out: &mut Text<TEXT>)
 {
     let mut positions = numbers_room();
     let mut ratios = numbers_room();
-    let answer = read_input(input, &mut positions, &mut ratios);
-    let number = answer.number;
-    if number != 0 {
-        out.put_refused(number, answer.place);
-        return;
+    match read_input(input, &mut positions, &mut ratios) {
+        Ok(found) => {
+            let count = found.count as usize;
+            let span = span::span(found.rate, &positions[..count]).unwrap_or(0);
+            put_listing(
+                out,
+                found.rate,
+                found.side,
+                span,
+                &positions[..count],
+                &ratios[..count],
+            );
+        }
+        Err(refusal) => out.put_refused(refusal),
     }
-    let rate = answer.rate;
-    let count = answer.count as usize;
-    let span = span::span(rate, &positions[..count]);
-    put_listing(
-        out,
-        rate,
-        answer.side,
-        span.milliseconds,
-        &positions[..count],
-        &ratios[..count],
-    );
 }
 
 fn main(rt: HostRuntime) {

@@ -8,16 +8,14 @@
 ghost use Rattle.std.specs.Prelude.{◌≡◌, false, ◌+◌, ◌≤◌, [], ◌++◌, length, IsTrue};
 ghost use Rattle.std.specs.Io.KnownBytes.{Appends};
 ghost use Rattle.files.specs.Counts.{IsPrefixLen};
-ghost use Rattle.record_format.specs.Moves.{move_of};
 ghost use Rattle.inputs.specs.Inputs.{input_limit};
 ghost use Rattle.move_record.specs.Words.{form_named, form_asked, is_call};
-ghost use Rattle.move_record.specs.Lines.{line_limit, moved_line, answer_line, usage_line};
+ghost use Rattle.move_record.specs.Lines.{line_limit, moved_line, usage_line};
 ghost use Rattle.move_record.specs.Printed.{blank_record, move_input, move_response, standard_output, standard_error, usage_response, response, Told};
 
 use files::PATH;
 use inputs::input_room;
 use position_format::Form;
-use record_format::MoveAnswer;
 use std::env::FillError;
 use std::io;
 use std::io::Write;
@@ -92,39 +90,26 @@ fn put_moved_line(line: &mut Text<LINE>, used: u64, wrote: u64)
     line.put_line(" to ", wrote);
 }
 
-// The line of an answer.
-fn put_answer(line: &mut Text<LINE>, answer: MoveAnswer)
-    requires { line.old ≡ [] }
-    ensures { line.new ≡ answer_line answer }
-{
-    let number = answer.number;
-    if number != 0 {
-        return line.put_refused(number, answer.place);
-    }
-    put_moved_line(line, answer.used, answer.length)
-}
-
-// The move to a form.
-fn move_to(form: Form, input: &[u8], out: &mut [u8]) -> MoveAnswer
-    ensures { (result ≡ (move_of form input.now out.old).answer)
-        × (out.new ≡ (move_of form input.now out.old).output) }
-{
-    match form {
-        Form::Old => record_codec::to_old(input, out),
-        Form::Wide => record_codec::to_wide(input, out),
-    }
-}
-
 // Moves the record in an input into an output, and puts the line for it.
 fn move_input(form: Form, input: &[u8], out: &mut [u8], line: &mut Text<LINE>) -> Outcome
     requires { (length input.now ≤ input_limit) × (out.old ≡ blank_record) × (line.old ≡ []) }
     ensures { Told (move_response (move_input form input.now)) result out.new line.new }
 {
-    let answer = move_to(form, input, out);
-    put_answer(line, answer);
-    Outcome {
-        stream: Stream::Output,
-        saved: (answer.number == 0).then_some(answer.length as usize),
+    match record_codec::move_to(form, input, out) {
+        Ok(moved) => {
+            put_moved_line(line, moved.used as u64, moved.length as u64);
+            Outcome {
+                stream: Stream::Output,
+                saved: Some(moved.length),
+            }
+        }
+        Err(refusal) => {
+            line.put_refused(refusal);
+            Outcome {
+                stream: Stream::Output,
+                saved: None,
+            }
+        }
     }
 }
 

@@ -8,6 +8,7 @@ ghost use Rattle.std.specs.Prelude.{◌≡◌, [], ◌++◌, ◌+◌, ◌≤◌,
 ghost use Rattle.text.specs.Lines.{newline, refused_line};
 ghost use Rattle.text.specs.Numbers.{decimal, hex16, signed};
 
+use refusals::Refusal;
 use std::marker::Model;
 
 // A text of at most N bytes. A contract sees the text alone.
@@ -120,12 +121,12 @@ impl<const N: usize> Text<N> {
 
     // The line of a refusal.
     #[tactic(auto, unfolding(crate::specs::Lines::refused_line))]
-    pub fn put_refused(&mut self, number: u32, place: u32)
+    pub fn put_refused(&mut self, refusal: Refusal)
         requires { length self.old + 53 ≤ N }
-        ensures text { self.new ≡ self.old ++ refused_line number place }
-        ensures most { length (refused_line number place) ≤ 53 }
+        ensures text { self.new ≡ self.old ++ refused_line refusal.number refusal.place }
+        ensures most { length (refused_line refusal.number refusal.place) ≤ 53 }
     {
-        self.put_numbered("refused ", number as u64);
-        self.put_line(" at ", place as u64);
+        self.put_numbered("refused ", u64::from(refusal.number));
+        self.put_line(" at ", u64::from(refusal.place));
     }
 }

@@ -32,7 +32,7 @@ fn test_state(state: &Live) -> Result<(), Refusal>
 }
 
 // One ratio more; where it is refused the output may hold anything.
-#[tactic(auto, using(crate::proofs::Additions::passed_fill, crate::proofs::Additions::passed_seen))]
+#[tactic(auto, using(crate::proofs::adding::Additions::passed_fill, crate::proofs::adding::Additions::passed_seen))]
 fn put_ratio(state: &mut Live, ratio: u64, out: &mut [u8]) -> Result<usize, Refusal>
     ensures answer { added_numbers result ≡ add_answer state.old ratio out.old }
     ensures state { state.new ≡ add_state state.old ratio out.old }

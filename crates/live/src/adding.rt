@@ -1,5 +1,5 @@
 // One ratio added to a live coding: its bytes go to the front of the output, and the ratio into the window. An addition by another coder is
-// `add` with that coder's call in the place of `encode`: the tests before it are test_state, and what follows depends on no coder.
+// `add` over `put_ratio` with that coder's call in the place of `encode`: the tests before it are `test_state`, and what follows depends on no coder.
 ghost use Rattle.std.specs.Prelude.{◌≡◌, ◌≢◌, MatchResult, IfErr, OnOk};
 ghost use Rattle.refusals.specs.Tests.{no_refusal, first_of};
 ghost use Rattle.outputs.specs.Outputs.{zeros};

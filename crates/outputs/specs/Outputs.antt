@@ -1,7 +1,7 @@
 -- What a lent output holds after a call. `over` and `over_at` say what stands in it; `Placed` and `Filled` what an internal function says that it
 -- did. Document 01 says nothing of internal functions: they leave an output as they please where they fail, and the call above them then
--- fills it with zeros; a slice keeps its length in any case. The same is said of bits by `PlacedBits` (bits), of a text at an index by `PlacedAt`
--- (text), and of ratios, with how many were taken, by `TakenInto` (ratio_bodies).
+-- fills it with zeros; a slice keeps its length in any case. The same is said of bits by `PlacedBits` (bits), and of ratios, with how many were taken,
+-- by `TakenInto` (ratio_bodies).
 --   zeros l            as many zeros as l is long: document 01's output after a refusal
 --   over bs o          bs at the front of the output o, whose rest stays: document 01's output after a success
 --   over_at o at n bs  o with the n elements from `at` on replaced by bs, of which there are n

@@ -12,9 +12,7 @@ use ratio_window::window_start;
 // The most bytes that a form has.
 const LONGEST: usize = 10;
 
-// Ratio i at the offset `at`, by the open rule, against the ratios before it. Never a part of its caller, which is to stay small: the loops that
-// read have it in them.
-#[inline(never)]
+// Ratio i at the offset `at`, by the open rule, against the ratios before it.
 fn open_nth(ratios: &[u64], i: usize, body: &[u8], at: usize) -> Option<(u64, usize)>
     requires { (i ≤ length ratios.now) × (at ≤ length body.now) }
     ensures { result ≡ open_one (window_of window_size (take i ratios.now)) (drop at body.now) }

@@ -147,15 +147,12 @@ pub fn get_open(body: &[u8], count: usize, out: &mut [u64]) -> Took
     ensures { TakenInto (open_taken count body.now) result out.old out.new }
 {
     let mut at: usize = 0;
-    let mut i: usize = 0;
-    // Counted by hand: a for over the indices takes up to a half longer for each ratio.
-    while i < count {
+    for i in 0..count {
         let Some((v, n)) = open_from(out, i, body, at) else {
             return Took { count: i, used: at };
         };
         out[i] = v;
         at += n;
-        i += 1;
     }
-    Took { count: i, used: at }
+    Took { count, used: at }
 }

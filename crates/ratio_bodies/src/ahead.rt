@@ -12,7 +12,7 @@ use ratio_window::window_start;
 // The most bytes that a form has.
 const LONGEST: usize = 10;
 
-// Ratio i at the offset `at`, by the open rule, against the ratios before it. Apart from `open_from`, whose loops are slower with it in their place.
+// Ratio i at the offset `at`, by the open rule, against the ratios before it. Apart from `open_from`: with this body in it the loops that read are slower.
 fn open_nth(ratios: &[u64], i: usize, body: &[u8], at: usize) -> Option<(u64, usize)>
     requires { (i ≤ length ratios.now) × (at ≤ length body.now) }
     ensures { result ≡ open_one (window_of window_size (take i ratios.now)) (drop at body.now) }

@@ -20,7 +20,8 @@ fn open_nth(ratios: &[u64], i: usize, body: &[u8], at: usize) -> Option<(u64, us
     read_one_open(&ratios[window_start(i)..i], &body[at..])
 }
 
-// What stands after the byte of a place that holds u: the two counts, and the middle.
+// What stands after the byte of a place that holds u: the two counts, and the middle. Beside `read_xor` of ratio_codec, since nine bytes stand here:
+// no test of room, and one load, in the loops that read.
 fn xor_ahead(u: u64, body: &[u8], at: usize) -> Option<(u64, usize)>
     requires { at + 9 ≤ length body.now }
     ensures { result ≡ open_xor u (drop at body.now) }

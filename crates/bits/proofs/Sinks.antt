@@ -3,7 +3,7 @@ use mathlib.Core.Bool.{Bool, true, false, cond}
 use mathlib.Core.List.{List, [], ◌++◌, append_assoc}
 use mathlib.Core.Path.{◌≡◌, refl, sym, ap, ap₂, ◌∙◌}
 use Prim.Native.Nat.{ℕ, ◌+◌, ◌-◌, ◌*◌, ◌/◌, ◌%◌, ◌^◌, ◌≤◌, ◌<◌}
-use native.Mathlib.Nat.{mod-lt, mul_assoc}
+use native.Mathlib.Nat.{mul_assoc}
 use native.Mathlib.Omega.{arith}
 use borrow.Author.Tests.{leb-true, leb-false}
 use lib.Dec.{leb}
@@ -150,7 +150,7 @@ module _ (s : Sink) (n w : ℕ) (n≤ : n ≤ 64) (w< : w < 2 ^ n) (many : 64 �
   all_of : fill + more ≡ n
   all_of = omega (arith, s.small)
 
-  pub more< : more < 64
+  more< : more < 64
   more< = omega (arith, s.small)
 
   moved : s.held * 2 ^ (63 - s.width) % 2 ^ 64 * 2 % 2 ^ 64 ≡ s.held * 2 ^ fill
@@ -173,9 +173,6 @@ module _ (s : Sink) (n w : ℕ) (n≤ : n ≤ 64) (w< : w < 2 ^ n) (many : 64 �
   word_bits =
       ap (λ (m : ℕ). bits_of m word) (sym full) ∙ ap (λ (x : ℕ). bits_of (s.width + fill) (x + w / 2 ^ more)) moved
       ∙ digits_join two⁺ s.width fill s.held first<
-
-  pub left_fits : left < 2 ^ more
-  left_fits = rw (mask_pow more more<) (mod-lt w (pow_pos more))
 
   module _ (ds : List ℕ) (h : Held ds s) where
     all : ds ++ bits_of n w ≡ (take (8 * s.at) ds ++ bits_of 64 word) ++ bits_of more w

@@ -3,6 +3,7 @@
 // meet each `requires`.
 #![tactic(auto)]
 
+mod pair; // two positions, and the step after them
 mod row; // the rows of the tables of steps
 mod table; // the tables: where a code begins, and the code of a step
 mod write; // positions written

@@ -9,8 +9,9 @@ ghost use Rattle.outputs.specs.Outputs.{Filled};
 ghost use Rattle.position_format.specs.Rows.{Row};
 ghost use Rattle.position_format.specs.Tables.{table_of};
 ghost use Rattle.position_format.specs.Positions.{read_positions};
-ghost use Rattle.position_codec.specs.Found.{Ahead, StepFound, PositionFound, PointFound, kept, FilledPart};
+ghost use Rattle.position_codec.specs.Found.{Ahead, StepFound, PointFound, kept, FilledPart};
 
+use crate::pair::Pair;
 use crate::table::{Lead, lead_of};
 use limits::MAX_POSITION;
 use position_format::Form;
@@ -24,19 +25,6 @@ pub(crate) fn field_ahead(w: u64, n: usize, width: usize) -> u64
     ensures { result ≡ w / 2 ^ (64 - n) % 2 ^ width }
 {
     (w >> (64 - n)) % (1 << width)
-}
-
-// The position after a and b whose step is z, any i64. Where z is 0 the position fits an i64, and z is compared with the room on either
-// side of that one, since the sum can leave 64 bits.
-fn next_position(a: u64, b: u64, z: i64) -> Option<u64>
-    requires { (a < 2 ^ 62) × (b < 2 ^ 62) }
-    ensures { PositionFound a b z result }
-{
-    let c = b as i64 + (b as i64 - a as i64);
-    if !(-c..=MAX_POSITION as i64 - c).contains(&z) {
-        return None;
-    }
-    Some((c + z) as u64)
 }
 
 // The position at point i, one of the first two, and that it has 64 bits: no table has a part in it.
@@ -107,16 +95,16 @@ impl<'a> Place<'a> {
         self.step_ahead(form, bits::get_ahead(self.body, self.at))
     }
 
-    // The position of point i, which stands there, after the positions a and b, and how many bits it has.
-    fn point(self, form: Form, i: usize, a: u64, b: u64) -> Option<(u64, usize)>
-        requires { (i < 2 → self.at ≡ 64 * i) × (2 ≤ i → 128 ≤ self.at) × (a < 2 ^ 62) × (b < 2 ^ 62) }
-        ensures { PointFound (table_of form) i a b (drop self.entry.at (bits self.entry.body.now)) result }
+    // The position of point i, which stands there, after the two before it, and how many bits it has.
+    fn point(self, form: Form, i: usize, two: Pair) -> Option<(u64, usize)>
+        requires { (i < 2 → self.at ≡ 64 * i) × (2 ≤ i → 128 ≤ self.at) }
+        ensures { PointFound (table_of form) i two.before two.last (drop self.entry.at (bits self.entry.body.now)) result }
     {
         if i < 2 {
             return get_raw(self.body, i);
         }
         let (z, n) = self.step(form)?;
-        let t = next_position(a, b, z)?;
+        let t = two.next(z)?;
         Some((t, n))
     }
 
@@ -151,16 +139,17 @@ fn walk_positions(form: Form, body: &[u8], count: usize, out: &mut [u64]) -> boo
         return false;
     }
     let mut at = 0;
-    let mut a = 0;
-    let mut b = 0;
+    let mut two = Pair { before: 0, last: 0 };
     for i in 0..count {
         let place = Place { body, at };
-        let Some((t, n)) = place.point(form, i, a, b) else {
+        let Some((t, n)) = place.point(form, i, two) else {
             return false;
         };
         keep(out, i, t);
-        a = b;
-        b = t;
+        two = Pair {
+            before: two.last,
+            last: t,
+        };
         at += n;
     }
     let end = Place { body, at };

@@ -4,29 +4,26 @@ ghost use Rattle.bits.specs.Sinks.{Held, PlacedBits};
 ghost use Rattle.outputs.specs.Outputs.{Placed};
 ghost use Rattle.limits.specs.Points.{max_points, first_high};
 ghost use Rattle.position_format.specs.Rows.{Row, rows};
-ghost use Rattle.position_format.specs.Steps.{step_of, first_outside, step_here};
+ghost use Rattle.position_format.specs.Steps.{first_outside, step_here};
 ghost use Rattle.position_format.specs.Tables.{table_of};
 ghost use Rattle.position_format.specs.Positions.{position_bits, coded_positions};
 ghost use Rattle.position_codec.specs.Codes.{CodablePositions, Point};
 
+use crate::pair::Pair;
 use crate::table::{code_of, in_table};
 use bits::Sink;
 use position_format::Form;
-
-// The step at the point t after the points a and b.
-fn step(a: u64, b: u64, t: u64) -> i64
-    requires { (a < 2 ^ 62) × (b < 2 ^ 62) × (t < 2 ^ 62) }
-    ensures { result ≡ step_of a b t }
-{
-    (t as i64 - b as i64) - (b as i64 - a as i64)
-}
 
 // The step at point i, from the third on.
 fn step_at(positions: &[u64], i: usize) -> i64
     requires { (2 ≤ i) × (i < length positions.now) × (length positions.now ≤ first_high positions.now) }
     ensures { result ≡ step_here positions.now i }
 {
-    step(positions[i - 2], positions[i - 1], positions[i])
+    let two = Pair {
+        before: positions[i - 2],
+        last: positions[i - 1],
+    };
+    two.step_to(positions[i])
 }
 
 // The index of the first point whose step document 01's table does not hold, if there is one.

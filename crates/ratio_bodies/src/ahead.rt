@@ -12,9 +12,7 @@ use ratio_window::window_start;
 // The most bytes that a form has.
 const LONGEST: usize = 10;
 
-// Ratio i at the offset `at`, by the open rule, against the ratios before it. Never a part of its caller, which is to stay small: the loops that
-// read have it in them.
-#[inline(never)]
+// Ratio i at the offset `at`, by the open rule, against the ratios before it. Apart from `open_from`: with this body in it the loops that read are slower.
 fn open_nth(ratios: &[u64], i: usize, body: &[u8], at: usize) -> Option<(u64, usize)>
     requires { (i ≤ length ratios.now) × (at ≤ length body.now) }
     ensures { result ≡ open_one (window_of window_size (take i ratios.now)) (drop at body.now) }
@@ -22,7 +20,8 @@ fn open_nth(ratios: &[u64], i: usize, body: &[u8], at: usize) -> Option<(u64, us
     read_one_open(&ratios[window_start(i)..i], &body[at..])
 }
 
-// What stands after the byte of a place that holds u: the two counts, and the middle.
+// What stands after the byte of a place that holds u: the two counts, and the middle. Beside `read_xor` of ratio_codec, since nine bytes stand here:
+// no test of room, and one load, in the loops that read.
 fn xor_ahead(u: u64, body: &[u8], at: usize) -> Option<(u64, usize)>
     requires { at + 9 ≤ length body.now }
     ensures { result ≡ open_xor u (drop at body.now) }

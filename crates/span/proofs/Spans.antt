@@ -1,5 +1,6 @@
 -- Laws of a span: what is divided, by the order of the first and the last position; the milliseconds of no points or one; and the whole answer by the
 -- first of its tests that applies.
+pub mod Parts
 pub mod Rounding
 use mathlib.Core.List.{List, [], ◌∷◌}
 use mathlib.Core.Path.{◌≡◌, ap, ◌∙◌}

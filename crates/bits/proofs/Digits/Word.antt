@@ -5,16 +5,13 @@ use Prim.Native.Nat.{ℕ, ◌+◌, ◌*◌, ◌%◌, ◌^◌, ◌≤◌, ◌<◌
 use native.Mathlib.Nat.{one-mul, lt_of_lt_of_le}
 use native.Mathlib.Omega.{arith}
 use lib.Arith.{digits_lt}
-use lib.Pow.{pow_pos, pow-add, pow_mono, shl_exact}
+use lib.Pow.{pow-add, pow_mono, shl_exact}
 use Rattle.bits.specs.Digits.{bits_of}
 use Rattle.bits.proofs.Digits.{two⁺, digits_join}
 
 -- a mask's modulus
 pub mask_pow : (k : ℕ) → k < 64 → 1 * 2 ^ k % 2 ^ 64 ≡ 2 ^ k
 mask_pow k h = shl_exact {a = 1} 1 k 64 (omega arith) (omega arith) ∙ one-mul (2 ^ k)
-
-pub mask_pos : (k : ℕ) → k < 64 → 0 < 1 * 2 ^ k % 2 ^ 64
-mask_pos k h = rw (mask_pow k h) (pow_pos k)
 
 -- a number of j bits above one of k bits is one of j + k bits, and fits the word
 module _ (j k : ℕ) {h l : ℕ} (h< : h < 2 ^ j) (l< : l < 2 ^ k) (fits : j + k ≤ 64) where

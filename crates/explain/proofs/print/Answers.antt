@@ -1,6 +1,6 @@
 -- `print` meets its contract: the text is that for what reading the input left, and the index.
-use mathlib.Core.Path.{◌≡◌, refl, ap, ◌∙◌}
-use Prim.Native.Nat.{ℕ, ◌-◌, ◌≤◌}
+use mathlib.Core.Path.{refl, ap, ◌∙◌}
+use Prim.Native.Nat.{ℕ, ◌-◌}
 use native.Mathlib.Omega.{arith}
 use lib.Seq.{length-take-le}
 use Rattle.explain.proofs.Printed.{refused_text_lem, body_start, run_text}
@@ -11,8 +11,7 @@ overflow_sub-body c = omega (arith, c.body_size.ensures, (body_start c.in-Ok.ens
 
 pub put_index-requires : goal.put_index-requires
 put_index-requires c =
-    let held = c.in-Ok.ensures.read.held refl in
-    (
+    let held = c.in-Ok.ensures.read.held refl in (
       c.requires.1,
       omega (arith, length-take-le _ _ held.ratios, held.few),
       omega (arith, (body_start c.in-Ok.ensures.read c.args.index.now refl).2),

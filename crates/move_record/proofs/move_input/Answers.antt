@@ -1,6 +1,5 @@
 -- `move_input` meets its contract, by what the move and its line leave.
 use mathlib.Core.Path.{refl, sym, ap, ◌∙◌}
-use Prim.Native.Nat.{ℕ}
 use borrow.Author.Tests.{ne_eqb}
 use mathlib.Core.Bool.{Bool}
 use Rattle.std.specs.Bool.{then_some}

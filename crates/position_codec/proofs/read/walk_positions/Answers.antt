@@ -28,7 +28,7 @@ pub invariant_of-place : goal.invariant_of-place
 invariant_of-place c =
     let a = c.args in
     let l = c.loop-i in
-    record { short = omega (arith, c.if-body-gt-MAX_BYTES.false); inside = walked_inside a.form a.count a.body.now a.out.now l.out l.at l.a l.b l.i l.invariant }
+    record { short = omega (arith, c.if-body-gt-MAX_BYTES.false); inside = walked_inside a.form a.count a.body.now a.out.now l.out l.at l.two.0 l.two.1.0 l.i l.invariant }
 
 pub point-requires : goal.point-requires
 point-requires c =
@@ -37,10 +37,8 @@ point-requires c =
     let w = l.invariant in
     let rs = table_of a.form in
     let g = table_good a.form in (
-      state_raw rs g a.count a.body.now w.ts l.at l.a l.b l.i w.state,
-      state_far rs g a.count a.body.now w.ts l.at l.a l.b l.i w.state,
-      w.state.a_small,
-      w.state.b_small,
+      state_raw rs g a.count a.body.now w.ts l.at l.two.0 l.two.1.0 l.i w.state,
+      state_far rs g a.count a.body.now w.ts l.at l.two.0 l.two.1.0 l.i w.state,
     )
 
 pub returns-in_default : goal.returns-in_default
@@ -49,7 +47,7 @@ returns-in_default c =
     let l = c.loop-i in
     let w = l.invariant in
     off a.form a.count a.body.now _ _
-    (state-none (table_of a.form) (table_good a.form) a.count a.body.now w.ts l.at l.a l.b l.i w.state c.loop-i-test.true c.in_default.ensures)
+    (state-none (table_of a.form) (table_good a.form) a.count a.body.now w.ts l.at l.two.0 l.two.1.0 l.i w.state c.loop-i-test.true c.in_default.ensures)
 
 pub overflow_add-at : goal.overflow_add-at
 overflow_add-at c =
@@ -57,27 +55,30 @@ overflow_add-at c =
     let l = c.loop-i in
     let s = c.in-Some in
     let in_body =
-    walked_inside a.form a.count a.body.now a.out.now c.keep.new.out (l.at + s.n) l.b s.t (l.i + 1)
-    (walked_more a.form a.count a.body.now a.out.now l.out l.at l.a l.b l.i l.invariant c.loop-i-test.true s.t s.n s.ensures.0 s.ensures.1 c.keep.new.out c.keep.ensures) in
+    walked_inside a.form a.count a.body.now a.out.now c.keep.new.out (l.at + s.n) l.two.1.0 s.t (l.i + 1)
+    (walked_more a.form a.count a.body.now a.out.now l.out l.at l.two.0 l.two.1.0 l.i l.invariant c.loop-i-test.true s.t s.n s.ensures.0 s.ensures.1 c.keep.new.out c.keep.ensures) in
     record { fits = omega (arith, in_body, c.if-body-gt-MAX_BYTES.false) }
+
+pub invariant_of-two : goal.invariant_of-two
+invariant_of-two c = record { before_small = c.loop-i.invariant.state.a_small; last_small = c.loop-i.invariant.state.b_small }
 
 pub loop-i-preserved : goal.loop-i-preserved
 loop-i-preserved c =
     let a = c.args in
     let l = c.loop-i in
     let s = c.in-Some in
-    walked_more a.form a.count a.body.now a.out.now l.out l.at l.a l.b l.i l.invariant c.loop-i-test.true s.t s.n s.ensures.0 s.ensures.1 c.keep.new.out c.keep.ensures
+    walked_more a.form a.count a.body.now a.out.now l.out l.at l.two.0 l.two.1.0 l.i l.invariant c.loop-i-test.true s.t s.n s.ensures.0 s.ensures.1 c.keep.new.out c.keep.ensures
 
 pub invariant_of-end : goal.invariant_of-end
 invariant_of-end c =
     let a = c.args in
     let l = c.loop-i in
-    record { short = omega (arith, c.if-body-gt-MAX_BYTES.false); inside = walked_inside a.form a.count a.body.now a.out.now l.out l.at l.a l.b l.i l.invariant }
+    record { short = omega (arith, c.if-body-gt-MAX_BYTES.false); inside = walked_inside a.form a.count a.body.now a.out.now l.out l.at l.two.0 l.two.1.0 l.i l.invariant }
 
 pub returns : goal.returns
 returns c =
     let a = c.args in
     let l = c.loop-i in
     let w = l.invariant in
-    state_end (table_of a.form) (table_good a.form) a.count a.body.now w.ts l.at l.a l.b l.i w.state c.loop-i-test.false
+    state_end (table_of a.form) (table_good a.form) a.count a.body.now w.ts l.at l.two.0 l.two.1.0 l.i w.state c.loop-i-test.false
     (below_of 256 a.body.now (λ j. (c.type_inv.body j).fits)) c.is_fill.result c.is_fill.ensures a.out.now l.out w.output

@@ -5,4 +5,4 @@ use Rattle.position_codec.proofs.read.State.{Walked}
 use Rattle.position_codec.proofs.read.walk_positions.Given as goal
 
 abbrev pub invariant-loop-i : goal.invariant-loop-i
-invariant-loop-i l = Walked (table_of l.form) l.count l.body l.initial.out l.out l.at l.a l.b l.i
+invariant-loop-i l = Walked (table_of l.form) l.count l.body l.initial.out l.out l.at l.two.0 l.two.1.0 l.i

@@ -16,12 +16,12 @@ pub returns-then-i-lt2 : goal.returns-then-i-lt2
 returns-then-i-lt2 c =
     let a = c.args in
     let rs = table_of a.form in
-    subst (λ (n : ℕ). PointFound rs a.i a.a a.b (drop n (bits a.self.body.now)) c.get_raw.result) (sym (c.requires.0 c.if-i-lt2.true)) (c.get_raw.ensures rs a.a a.b)
+    subst (λ (n : ℕ). PointFound rs a.i a.two.before a.two.last (drop n (bits a.self.body.now)) c.get_raw.result) (sym (c.requires.0 c.if-i-lt2.true)) (c.get_raw.ensures rs a.two.before a.two.last)
 
 pub returns-in_err-t : goal.returns-in_err-t
 returns-in_err-t c =
     let a = c.args in
     let found = c.in_ok-z.ensures in
     rw c.from_residual-in_err-t.ensures
-    (step_high (table_of a.form) (table_good a.form) a.i a.a a.b c.if-i-lt2.false (drop a.self.at (bits a.self.body.now)) c.in_ok-z.z found.0 found.1
+    (step_high (table_of a.form) (table_good a.form) a.i a.two.before a.two.last c.if-i-lt2.false (drop a.self.at (bits a.self.body.now)) c.in_ok-z.z found.0 found.1
     (rw (to_z-of_z w64 c.in_ok-z.z (search rules)) at c.in_err-t.ensures))

@@ -1,16 +1,14 @@
 -- What a lent output holds after a call. `over` and `over_at` say what stands in it; `Placed` and `Filled` what an internal function says that it
 -- did. Document 01 says nothing of internal functions: they leave an output as they please where they fail, and the call above them then
--- fills it with zeros; a slice keeps its length in any case. The same is said of bits by `PlacedBits` (bits), and of ratios, with how many were taken,
--- by `TakenInto` (ratio_bodies).
+-- fills it with zeros; a slice keeps its length in any case. The same is said of bits by `PlacedBits` (bits), and of ratios, with how many were
+-- taken, by `TakenInto` (ratio_bodies).
 --   zeros l            as many zeros as l is long: document 01's output after a refusal
 --   over bs o          bs at the front of the output o, whose rest stays: document 01's output after a success
 --   over_at o at n bs  o with the n elements from `at` on replaced by bs, of which there are n
 --   Placed bs w o p    the bytes bs were put at the front of o, which is now p; or there was no room for them
---   Left w p           past the bytes that a writer says by w that it put into p there is a rest, which may be empty
---   both_wrote n w     what two writers wrote: the first n bytes, and the second what w says; BothFit n w: a number of 64 bits holds it
---   Next bs w v p q    bs were put past the bytes of a writer that said w and left p, which is now q; v says what both wrote
+--   both_wrote n w     what two writers wrote: the first n bytes, and the second what w says
 --   Filled l b o p     the list l was put at the front of o, which is now p; or there is no such list
-use Rattle.std.specs.Prelude.{Bool, true, false, List, ◌++◌, ◌≡◌, ℕ, ◌+◌, ◌^◌, ◌≤◌, ◌<◌, length, take, drop, replicate, Option, Some, None}
+use Rattle.std.specs.Prelude.{Bool, true, false, List, ◌++◌, ◌≡◌, ℕ, ◌+◌, ◌≤◌, ◌<◌, length, take, drop, replicate, Option, Some, None}
 use Rattle.std.proofs.Math.Option.{none, some}
 use Rattle.std.proofs.Math.Option as maybe
 
@@ -27,26 +25,14 @@ abbrev pub over_at : List ℕ → ℕ → ℕ → List ℕ → List ℕ
 over_at o at n bs = take at o ++ (bs ++ drop (at + n) o)
 
 -- how many bytes were written, or that they do not fit
-abbrev pub Placed : List ℕ → (Option ℕ) → List ℕ → List ℕ → Type 0
+abbrev pub Placed : List ℕ → Option ℕ → List ℕ → List ℕ → Type 0
 Placed bs (Some n) o p = (n ≡ length bs) × (length bs ≤ length o) × (p ≡ over bs o)
 Placed bs None o p = length o < length bs
 
--- where the rest begins
-abbrev pub Left : (Option ℕ) → List ℕ → Type 0
-Left w p = (n : ℕ) → w ≡ Some n → n ≤ length p
-
 -- no room for one is no room for both
-abbrev pub both_wrote : ℕ → (Option ℕ) → (Option ℕ)
+abbrev pub both_wrote : ℕ → Option ℕ → Option ℕ
 both_wrote n (Some m) = Some (n + m)
 both_wrote n None = None
-
--- how many bytes both wrote is a number that 64 bits hold
-abbrev pub BothFit : ℕ → (Option ℕ) → Type 0
-BothFit n w = (m : ℕ) → w ≡ Some m → n + m < 2 ^ 64
-
--- bytes after others, whatever these were
-abbrev pub Next : List ℕ → (Option ℕ) → (Option ℕ) → List ℕ → List ℕ → Type 0
-Next bs w v p q = (xs o : List ℕ) → Placed xs w o p → Placed (xs ++ bs) v o q
 
 -- whether a list was read
 abbrev pub Filled : maybe.Option (List ℕ) → Bool → List ℕ → List ℕ → Type 0

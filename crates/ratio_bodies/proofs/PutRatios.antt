@@ -67,12 +67,12 @@ module _ (rs o out : List ℕ) (at i : ℕ) (s : Writing rs o out at i) where
     counted = omega (arith, ap length (coded_more window_size rs i h), length-append (coded_ratios (take i rs)) next)
 
     -- there is no room for them, nor for all
-    pub writing_full : (r : (Option ℕ)) (p : List ℕ) → r ≡ None → Placed next r part p → length o < length (coded_ratios rs)
+    pub writing_full : (r : Option ℕ) (p : List ℕ) → r ≡ None → Placed next r part p → length o < length (coded_ratios rs)
     writing_full r p e d =
-        let n : length part < length next = subst (λ (x : (Option ℕ)). Placed next x part p) e d in
+        let n : length part < length next = subst (λ (x : Option ℕ). Placed next x part p) e d in
         omega (arith, counted, part_length, coded-room window_size [] rs (i + 1))
 
     -- they are written
-    pub writing_more : (r : (Option ℕ)) (n : ℕ) (p : List ℕ) → r ≡ Some n → Placed next r part p → length p ≡ length part
+    pub writing_more : (r : Option ℕ) (n : ℕ) (p : List ℕ) → r ≡ Some n → Placed next r part p → length p ≡ length part
         → Writing rs o (put_mid at (length out - at) out p) (at + n) (i + 1)
-    writing_more r n p e d k = writing_on next (i + 1) (omega arith) (coded_more window_size rs i h) n p (subst (λ (x : (Option ℕ)). Placed next x part p) e d) k
+    writing_more r n p e d k = writing_on next (i + 1) (omega arith) (coded_more window_size rs i h) n p (subst (λ (x : Option ℕ). Placed next x part p) e d) k

@@ -43,8 +43,7 @@ use Rattle.record_parts.specs.declared.points.Points.{Points}
 use Rattle.record_parts.specs.Fields.{RefusedBy, FrontFound, FrontRead, PointsRead}
 use Rattle.record_parts.proofs.Fields.{refused_at, refused_as}
 use Rattle.record_parts.specs.Leads.{lead_fields, RecodedAs}
-use Rattle.outputs.proofs.Outputs.Writers.{next_placed}
-use Rattle.outputs.specs.Outputs.{Placed, both_wrote}
+use Rattle.outputs.specs.Outputs.{Placed}
 use borrow.Rule.Slice.PartMut.{put_mid}
 use Rattle.record_codec.specs.Answers.{Moves}
 use Rattle.record_codec.specs.Movable.{NotThere, Movable, Opened}
@@ -53,10 +52,6 @@ use Rattle.record_codec.specs.Movable.{NotThere, Movable, Opened}
 
 pub longer : (xs ys o : List ℕ) → length o < length xs → length o < length (xs ++ ys)
 longer xs ys o short = omega (arith, short, length-append xs ys)
-
-pub placed_then : (xs ys o p : List ℕ) (n : ℕ) → Placed xs (Some n) o p → (q : List ℕ) (v : Wrote ℕ) → Placed ys v (take (length p - n) (drop n p)) q
-    → Placed (xs ++ ys) (both_wrote n v) o (put_mid n (length p - n) p q)
-placed_then xs ys o p n put q v next = next_placed ys p (Some n) n (λ i. Some n) q v next (both_wrote n v) (λ i. both_wrote n v) xs o put
 
 -- ---- refusals
 

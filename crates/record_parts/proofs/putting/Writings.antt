@@ -10,7 +10,7 @@ use Rattle.bits.specs.Digits.{bytes_of}
 use Rattle.outputs.specs.Outputs.{over, over_at, Placed, both_wrote}
 use Rattle.bits.proofs.Digits.{length_digits}
 use Rattle.outputs.proofs.Outputs.Parts.{rest_is, put_rest}
-use Rattle.outputs.proofs.Outputs.Writers.{next_placed}
+use Rattle.outputs.proofs.Outputs.Writers.{placed_then}
 use Rattle.std.specs.Prelude.{Option, Some, None}
 use Rattle.record_format.specs.Fields.{Field, field_of, length_size, head_size, field_bytes, laid}
 use Rattle.record_format.specs.Runs.{side_fields}
@@ -109,7 +109,7 @@ module _ {fs gs all : List Field} {n : ℕ} {o p : List ℕ} (h : FirstLaid fs g
   pub first-laid_then : (v : Option ℕ) → Placed (laid gs) v (take (length p - n) (drop n p)) q → Placed (laid all) (both_wrote n v) o (put_mid n (length p - n) p q)
   first-laid_then v next =
       subst (λ (l : List ℕ). Placed l (both_wrote n v) o (put_mid n (length p - n) p q)) (sym (ap laid h.both ∙ laid-append fs gs))
-      (next_placed (laid gs) p (Some n) n refl q v next (both_wrote n v) refl (laid fs) o h.put)
+      (placed_then (laid fs) (laid gs) o p n h.put q v next)
 
 -- ---- the side's field, if there is one
 

@@ -8,7 +8,7 @@ use Rattle.ratio_format.specs.declared.RatioForm.{RatioForm}
 use Rattle.ratio_format.specs.RatioForms.{written}
 use Rattle.ratio_codec.proofs.write.put_ratio_form.Goals as goal
 
-same_form : (v : ℕ) {f g : RatioForm} (r : (Option ℕ)) (o p : List ℕ) → f ≡ g → Placed (written v g) r o p → Placed (written v f) r o p
+same_form : (v : ℕ) {f g : RatioForm} (r : Option ℕ) (o p : List ℕ) → f ≡ g → Placed (written v g) r o p → Placed (written v f) r o p
 same_form v r o p e h = subst (λ (x : RatioForm). Placed (written v x) r o p) (sym e) h
 
 pub returns-in-Reference : goal.returns-in-Reference

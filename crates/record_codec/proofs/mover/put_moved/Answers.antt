@@ -7,7 +7,8 @@ use Rattle.position_format.specs.Tables.{table_of}
 use Rattle.record_format.specs.Fields.{laid}
 use Rattle.record_parts.specs.Leads.{lead_fields}
 use Rattle.record_parts.proofs.putting.Recodings.{recoded-else, recoded_err}
-use Rattle.record_codec.proofs.mover.Movings.{longer, placed_then}
+use Rattle.outputs.proofs.Outputs.Writers.{placed_then}
+use Rattle.record_codec.proofs.mover.Movings.{longer}
 use Rattle.record_codec.proofs.mover.put_moved.Goals as goal
 
 pub returns-in_err-lead_end : goal.returns-in_err-lead_end

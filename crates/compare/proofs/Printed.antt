@@ -12,7 +12,7 @@ use Rattle.record_format.specs.Runs.{Run}
 use Rattle.record_format.specs.Checking.{run_in, checked}
 use Rattle.record_format.specs.declared.CheckAnswer.{CheckAnswer}
 use Rattle.inputs.specs.Inputs.{input_limit}
-use Rattle.inputs.specs.Readings.{RunHeld, InputRead}
+use Rattle.inputs.specs.Readings.{InputRead}
 use Rattle.inputs.proofs.Inputs.{reads_whole}
 use Rattle.differences.specs.declared.OverallDifferences.{OverallDifferences}
 use Rattle.differences.specs.declared.RefusedRecord.{RefusedRecord}
@@ -129,12 +129,9 @@ module _ {s t : List ℕ} {a b : CheckAnswer} {ts vs us ws : List ℕ} (x : Inpu
         (text_then h.count _
         ∙ ap (λ (l : List ℕ). line_if h.count ++ l) (text_then h.form _ ∙ ap (λ (l : List ℕ). line_if h.form ++ l) points-are))))
 
-    -- what can be taken of the outputs
+    -- neither record was refused
     both_clear : (a.number ≡ 0) × (b.number ≡ 0)
     both_clear = subst (Clear a b) (sym is) (clear a b)
-
-    pub both_held : RunHeld a.count ts vs × RunHeld b.count us ws
-    both_held = (x.held both_clear.0, y.held both_clear.1)
 
     -- as the points are held
     pub lines_text : (k : ℕ) → k ≡ min a.count b.count

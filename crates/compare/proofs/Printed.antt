@@ -93,10 +93,7 @@ module _ {s t : List ℕ} {a b : CheckAnswer} {ts vs us ws : List ℕ} (x : Inpu
       let c : comparison s t ≡ record { number = f.refusal.number; place = f.refusal.place; which = which_number f.which; list = [] } =
       subst (λ (o : Result OverallDifferences RefusedRecord). MakeUp o (run_in s) (run_in t) a.count b.count (comparison s t)) (sym is) made in
       let some : f.refusal.number ≡ 0 → ⊥ = subst (Clear a b) (sym is) (clear a b) in
-      sym
-      (printed-whole s t x.whole y.whole
-      ∙ ap comparison_text c
-      ∙ text_refused (record { number = f.refusal.number; place = f.refusal.place; which = which_number f.which; list = [] }) some)
+      sym (printed-whole s t x.whole y.whole ∙ ap comparison_text c ∙ text_refused _ some)
 
   module _ (h : OverallDifferences) (is : Ok h ≡ overall_of a b) where
     -- two runs, and k points that both have
@@ -120,7 +117,7 @@ module _ {s t : List ℕ} {a b : CheckAnswer} {ts vs us ws : List ℕ} (x : Inpu
         ∙ sym
         (printed-whole s t x.whole y.whole
         ∙ ap comparison_text c
-        ∙ text_list (record { number = 0; place = 0; which = 0; list = list (min a.count b.count) }) refl
+        ∙ text_list _ refl
         ∙ ap (λ (n : ℕ). differences_text (list n)) (sym few)
         ∙ text_then h.rate _
         ∙ ap (λ (l : List ℕ). line_if h.rate ++ l)

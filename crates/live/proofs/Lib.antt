@@ -1,3 +1,2 @@
-pub mod Additions
 pub mod States
 pub mod Claims

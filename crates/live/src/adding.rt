@@ -1,5 +1,5 @@
 // One ratio added to a live coding: its bytes go to the front of the output, and the ratio into the window. An addition by another coder is
-// `add` with that coder's call in the place of `encode`: the tests before it are test_state, and what follows depends on no coder.
+// `add` over `put_ratio` with that coder's call in the place of `encode`: the tests before it are `test_state`, and what follows depends on no coder.
 ghost use Rattle.std.specs.Prelude.{◌≡◌, ◌≢◌, MatchResult, IfErr, OnOk};
 ghost use Rattle.refusals.specs.Tests.{no_refusal, first_of};
 ghost use Rattle.outputs.specs.Outputs.{zeros};
@@ -32,7 +32,7 @@ fn test_state(state: &Live) -> Result<(), Refusal>
 }
 
 // One ratio more; where it is refused the output may hold anything.
-#[tactic(auto, using(crate::proofs::Additions::passed_fill, crate::proofs::Additions::passed_seen))]
+#[tactic(auto, using(crate::proofs::adding::Additions::passed_fill, crate::proofs::adding::Additions::passed_seen))]
 fn put_ratio(state: &mut Live, ratio: u64, out: &mut [u8]) -> Result<usize, Refusal>
     ensures answer { added_numbers result ≡ add_answer state.old ratio out.old }
     ensures state { state.new ≡ add_state state.old ratio out.old }

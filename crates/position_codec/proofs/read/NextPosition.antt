@@ -16,7 +16,7 @@ use Rattle.limits.specs.Points.{max_position}
 use Rattle.integers.proofs.Integers.{diff_pos, diff_neg, le_diff, abs_neg, abs_diff, abs_add}
 use Rattle.position_format.specs.Steps.{step_of}
 use Rattle.position_format.proofs.Rows.Signs.{at_least}
-use Rattle.position_codec.proofs.Between.{contains_lem, between}
+use Rattle.position_codec.proofs.row.Between.{contains_lem, between}
 use Rattle.position_format.proofs.Positions.After.{step_of_lem, of_step}
 use Rattle.integers.proofs.Machine.{abs_fits, diff_abs, diff_back}
 

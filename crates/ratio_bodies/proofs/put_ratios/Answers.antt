@@ -6,7 +6,7 @@ use native.Mathlib.Omega.{arith}
 use borrow.Rule.Slice.PartMut.{put_mid}
 use lib.ListN.{length, drop, replicate, length-replicate}
 use Rattle.ratio_search.specs.BytePlanes.{cells}
-use Rattle.ratio_search.proofs.Kept.{kept_start}
+use Rattle.ratio_search.proofs.PutPlanes.{kept_start}
 use Rattle.ratio_bodies.proofs.Indexes.{nearly_start}
 use Rattle.ratio_bodies.proofs.PutRatios.{Writing, part, writing_start, writing_full, writing_on, writing_more}
 use Rattle.ratio_bodies.proofs.repeats.Repeated.{repeats_coded, repeats_nearly}

@@ -5,7 +5,7 @@ use Rattle.refusals.specs.Tests.{refusal}
 use Rattle.ratio_format.specs.declared.Window.{Window}
 use Rattle.ratio_format.specs.RatioForms.{coded}
 use Rattle.ratio_format.specs.Lives.{add_bytes}
-use Rattle.live.proofs.Additions.{addition_tested, addition_short, addition_written}
+use Rattle.live.proofs.adding.Additions.{addition_tested, addition_short, addition_written}
 use Rattle.live.proofs.adding.put_ratio.Goals as goal
 
 pub returns-in_err-test_state : goal.returns-in_err-test_state

@@ -16,7 +16,7 @@ use Rattle.ratio_format.proofs.Bodies.Taken.{strict_within}
 use Rattle.ratio_format.proofs.Windows.Before.{window_inside}
 use Rattle.ratio_codec.proofs.read.References.{named_one}
 use Rattle.ratio_search.specs.BytePlanes.{slots, Kept}
-use Rattle.ratio_search.proofs.Kept.{kept_set}
+use Rattle.ratio_search.proofs.PutPlanes.{kept_set}
 use Rattle.ratio_bodies.specs.Marks.{slot_of, Marks}
 use Rattle.ratio_bodies.specs.Taking.{Taking}
 use Rattle.ratio_bodies.proofs.ahead.FirstByte.{rest_first, named_at}

@@ -6,7 +6,7 @@ use mir.Val.{to_z, of_z}
 use mir.ValLaws.{to_z-of_z}
 use Rattle.position_format.specs.Rows.{holds}
 use Rattle.position_codec.specs.Codes.{row_at}
-use Rattle.position_codec.proofs.Between.{between}
+use Rattle.position_codec.proofs.row.Between.{between}
 use Rattle.position_codec.proofs.table.Numbers.{ranged}
 use Rattle.position_codec.proofs.row.TableRow.holds.Goals as goal
 

@@ -1,0 +1,2 @@
+-- Laws of how the functions of `adding` go.
+pub mod Additions

@@ -1,0 +1,2 @@
+-- Laws of how the functions of `row` go.
+pub mod Between

@@ -1,6 +1,5 @@
 -- What the program prints of two records, of equal ones, and of all else.
 use mathlib.Core.List.{List, [], ◌∷◌, ◌++◌, cons≢nil}
-use mathlib.Core.Logic.{inl}
 use mathlib.Core.Path.{◌≡◌, refl, sym, ap, ap₂, ◌∙◌}
 use Prim.Native.Nat.{ℕ, zero, suc, ◌-◌}
 use native.Mathlib.Omega.{arith}
@@ -14,11 +13,10 @@ use Rattle.inputs.specs.Inputs.{input_limit, check_input, run_input}
 use Rattle.inputs.proofs.Inputs.{record_uncut, reads_record, reads_no_other, begins-whole}
 use Rattle.differences.specs.declared.Property.TheVariants.{Rate, Side, Count, Form}
 use Rattle.differences.specs.declared.Difference.{Difference}
-use Rattle.differences.specs.declared.Difference.TheVariants.{Equal, InProperty, Position, Ratio, More}
+use Rattle.differences.specs.declared.Difference.TheVariants.{InProperty, Position, Ratio, More}
 use Rattle.differences.specs.Differences.{differences}
 use Rattle.differences.specs.Comparisons.{Comparison, comparison, refused_comparison}
-use Rattle.lists.specs.Among.{Among}
-use Rattle.differences.proofs.Claims.{lists_exactly, none_own}
+use Rattle.differences.proofs.Claims.{none_own}
 use Rattle.differences.proofs.Comparisons.{compares, compares_only, empty_exactly, compared-first, compared-second, comparison_trailing}
 use Rattle.compare.specs.Lines.{property_line, position_line, ratio_line, more_line, line_of, differences_text, refused_in_line}
 use Rattle.compare.specs.Printed.{comparison_text, printed}
@@ -36,22 +34,21 @@ prints_differences r q a b x y =
 -- ---- no text
 
 -- a line has a byte
-some_line : (d : Difference) (l : List ℕ) → (d ≡ Equal → ⊥) → line_of d ++ l ≡ [] → ⊥
+some_line : (d : Difference) (l : List ℕ) → line_of d ++ l ≡ [] → ⊥
 unfolding property_line position_line ratio_line more_line
-some_line Equal l n e = n refl
-some_line (InProperty Rate a b) l n e = cons≢nil e
-some_line (InProperty Side a b) l n e = cons≢nil e
-some_line (InProperty Count a b) l n e = cons≢nil e
-some_line (InProperty Form a b) l n e = cons≢nil e
-some_line (Position i t u) l n e = cons≢nil e
-some_line (Ratio i v k w m) l n e = cons≢nil e
-some_line (More k) l n e = cons≢nil e
+some_line (InProperty Rate a b) l e = cons≢nil e
+some_line (InProperty Side a b) l e = cons≢nil e
+some_line (InProperty Count a b) l e = cons≢nil e
+some_line (InProperty Form a b) l e = cons≢nil e
+some_line (Position i t u) l e = cons≢nil e
+some_line (Ratio i v k w m) l e = cons≢nil e
+some_line (More k) l e = cons≢nil e
 
 -- so only a list without differences has none
-no_text : (l : List Difference) → (Among Equal l → ⊥) → differences_text l ≡ [] → l ≡ []
-unfolding differences_text Among
-no_text [] n e = refl
-no_text (d ∷ l) n e = absurd (some_line d (differences_text l) (λ q. n (inl (sym q))) e)
+no_text : (l : List Difference) → differences_text l ≡ [] → l ≡ []
+unfolding differences_text
+no_text [] e = refl
+no_text (d ∷ l) e = absurd (some_line d (differences_text l) e)
 
 -- and a refusal has a line
 some-refusal : (n p w : ℕ) → refused_in_line n p w ≡ [] → ⊥
@@ -77,7 +74,7 @@ prints_nothing s t u v = (
       let ok = nothing_refused (comparison l m) e in
       let c = compares_only l m bytes others ok in
       let is = ap (λ (x : Comparison). x.list) c.6 in
-      let none = no_text (differences c.0 c.1) (λ h. (lists_exactly c.0 c.1 c.2 c.3 Equal).0 h) (ap differences_text (sym is) ∙ sym (text_list (comparison l m) ok) ∙ e) in
+      let none = no_text (differences c.0 c.1) (ap differences_text (sym is) ∙ sym (text_list (comparison l m) ok) ∙ e) in
       let h = (empty_exactly l m bytes others).0 (ok, is ∙ none) in
       (h.0, h.1, begins-whole (record_of h.0) s h.2, begins-whole (record_of h.0) t h.3),
   λ h.

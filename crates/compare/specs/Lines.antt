@@ -6,16 +6,17 @@
 --   position_line i t u    `position 7 960 961`
 --   ratio_line i v k w l   `ratio 7 number 3fe0000000000000 nan 7ff8000000000000`
 --   more_line n            `more 2`
---   line_of d              the line of the difference d; nothing where there is no difference
+--   line_of d              the line of the difference d
+--   line_if d              that line where there is a difference; else nothing
 --   differences_text l     the text of the list l: its lines, in its order
 --   refused_in_line n p w  `refused 10 at 0 in 2`: a refusal's number and place, and which record it was
-use Rattle.std.specs.Prelude.{List, [], ◌∷◌, ◌++◌, ℕ}
+use Rattle.std.specs.Prelude.{Option, Some, None, List, [], ◌∷◌, ◌++◌, ℕ}
 use Rattle.kind.specs.declared.Kind.{Kind}
 use Rattle.kind.specs.declared.Kind.TheVariants.{Number, Infinity, Nan}
 use Rattle.differences.specs.declared.Property.{Property}
 use Rattle.differences.specs.declared.Property.TheVariants.{Rate, Side, Count, Form}
 use Rattle.differences.specs.declared.Difference.{Difference}
-use Rattle.differences.specs.declared.Difference.TheVariants.{Equal, InProperty, Position, Ratio, More}
+use Rattle.differences.specs.declared.Difference.TheVariants.{InProperty, Position, Ratio, More}
 use Rattle.text.specs.Lines.{newline, space, ratio_word, rate_word, side_word, count_word, refused_word, at_word}
 use Rattle.text.specs.Numbers.{decimal, hex16}
 
@@ -66,11 +67,15 @@ more_line n = more_word ++ (decimal n ++ newline)
 
 -- the line of a difference
 abbrev pub line_of : Difference → List ℕ
-line_of Equal = []
 line_of (InProperty p a b) = property_line p a b
 line_of (Position i t u) = position_line i t u
 line_of (Ratio i v k w l) = ratio_line i v k w l
 line_of (More n) = more_line n
+
+-- the line of a difference, if there is one
+abbrev pub line_if : Option Difference → List ℕ
+line_if None = []
+line_if (Some d) = line_of d
 
 -- one line after the other
 unfoldable pub differences_text : List Difference → List ℕ

@@ -5,15 +5,15 @@
 use Rattle.std.specs.Prelude.{List, [], ◌++◌, ℕ, zero, suc}
 use Rattle.differences.specs.declared.OverallDifferences.{OverallDifferences}
 use Rattle.differences.specs.Differences.{position_at, ratio_at}
-use Rattle.compare.specs.Lines.{line_of}
+use Rattle.compare.specs.Lines.{line_if}
 
 -- rate, side, count, form
 abbrev pub properties_text : OverallDifferences → List ℕ
-properties_text h = line_of h.rate ++ (line_of h.side ++ (line_of h.count ++ line_of h.form))
+properties_text h = line_if h.rate ++ (line_if h.side ++ (line_if h.count ++ line_if h.form))
 
 -- the position's before the ratio's
 abbrev pub lines_at : List ℕ → List ℕ → List ℕ → List ℕ → ℕ → List ℕ
-lines_at ts vs us ws i = line_of (position_at ts us i) ++ line_of (ratio_at vs ws i)
+lines_at ts vs us ws i = line_if (position_at ts us i) ++ line_if (ratio_at vs ws i)
 
 -- index by index
 unfoldable pub lines_below : List ℕ → List ℕ → List ℕ → List ℕ → ℕ → List ℕ

@@ -6,13 +6,15 @@ ghost use Rattle.std.specs.Prelude.{◌≡◌, ◌+◌, ◌*◌, ◌≤◌, [], 
 ghost use Rattle.limits.specs.Points.{max_points};
 ghost use Rattle.inputs.specs.Inputs.{input_limit};
 ghost use Rattle.inputs.specs.Readings.{RunHeld};
-ghost use Rattle.compare.specs.Lines.{property_word, kind_word, property_line, position_line, ratio_line, line_of, refused_in_line};
+ghost use Rattle.differences.specs.Numbers.{which_number};
+ghost use Rattle.compare.specs.Lines.{property_word, kind_word, property_line, position_line, ratio_line, line_if, refused_in_line};
 ghost use Rattle.compare.specs.Pieces.{properties_text, lines_at, lines_below};
 ghost use Rattle.compare.specs.Printed.{line_limit, text_limit, printed};
 
-use differences::{Difference, OverallDifferences, Property};
+use differences::{Difference, OverallDifferences, Property, RefusedRecord};
 use inputs::{input_room, numbers_room, read_input};
 use kind::Kind;
+use record_format::CheckAnswer;
 use text::Text;
 
 // Room for every text: 79 bytes for each line, one for each of four properties, two for each of 4,096 points, and one more.
@@ -71,8 +73,8 @@ fn put_property(out: &mut Text<TEXT>, property: Property, first: u32, second: u3
     ensures text { out.new ≡ out.old ++ property_line property first second }
     ensures most { length (property_line property first second) ≤ line_limit }
 {
-    out.put_numbered(property_word(property), first as u64);
-    out.put_line(" ", second as u64);
+    out.put_numbered(property_word(property), u64::from(first));
+    out.put_line(" ", u64::from(second));
 }
 
 // The line of a position in both records.
@@ -104,38 +106,40 @@ fn put_ratio(out: &mut Text<TEXT>, index: u64, first: u64, k: Kind, second: u64,
 
 // The line of a difference, if there is one.
 #[tactic(auto, unfolding(crate::specs::Lines::more_line))]
-fn put_difference(out: &mut Text<TEXT>, difference: Difference)
+fn put_difference(out: &mut Text<TEXT>, difference: Option<Difference>)
     requires { length out.old + line_limit ≤ text_limit }
-    ensures text { out.new ≡ out.old ++ line_of difference }
-    ensures most { length (line_of difference) ≤ line_limit }
+    ensures text { out.new ≡ out.old ++ line_if difference }
+    ensures most { length (line_if difference) ≤ line_limit }
 {
     match difference {
-        Difference::Equal => {}
-        Difference::InProperty(property, first, second) => {
+        None => {}
+        Some(Difference::InProperty(property, first, second)) => {
             put_property(out, property, first, second)
         }
-        Difference::Position(index, first, second) => put_position(out, index, first, second),
-        Difference::Ratio {
-            index,
-            first,
-            first_kind,
-            second,
-            second_kind,
-        } => put_ratio(out, index, first, first_kind, second, second_kind),
-        Difference::More(n) => out.put_line("more ", n as u64),
+        Some(Difference::Position(index, first, second)) => put_position(out, index, first, second),
+        Some(
+            Difference::Ratio {
+                index,
+                first,
+                first_kind,
+                second,
+                second_kind,
+            },
+        ) => put_ratio(out, index, first, first_kind, second, second_kind),
+        Some(Difference::More(n)) => out.put_line("more ", u64::from(n)),
     }
 }
 
 // The only line of a refusal.
 #[tactic(auto, unfolding(crate::specs::Lines::refused_in_line))]
-fn put_refused_in(out: &mut Text<TEXT>, number: u32, place: u32, which: u32)
+fn put_refused_in(out: &mut Text<TEXT>, refused: RefusedRecord)
     requires { length out.old + line_limit ≤ text_limit }
-    ensures text { out.new ≡ out.old ++ refused_in_line number place which }
-    ensures most { length (refused_in_line number place which) ≤ line_limit }
+    ensures text { out.new ≡ out.old ++ refused_in_line refused.refusal.number refused.refusal.place (which_number refused.which) }
+    ensures most { length (refused_in_line refused.refusal.number refused.refusal.place (which_number refused.which)) ≤ line_limit }
 {
-    out.put_numbered("refused ", number as u64);
-    out.put_numbered(" at ", place as u64);
-    out.put_line(" in ", which as u64);
+    out.put_numbered("refused ", u64::from(refused.refusal.number));
+    out.put_numbered(" at ", u64::from(refused.refusal.place));
+    out.put_line(" in ", u64::from(refused.which.number()));
 }
 
 // The lines of the properties.
@@ -181,22 +185,22 @@ fn print(first: &[u8], second: &[u8], out: &mut Text<TEXT>)
 {
     let mut first_positions = numbers_room();
     let mut first_ratios = numbers_room();
-    let a = read_input(first, &mut first_positions, &mut first_ratios);
+    let a = CheckAnswer::from(read_input(first, &mut first_positions, &mut first_ratios));
     let mut second_positions = numbers_room();
     let mut second_ratios = numbers_room();
-    let b = read_input(second, &mut second_positions, &mut second_ratios);
-    let overall = differences::overall_of(a, b);
-    let number = overall.number;
-    if number != 0 {
-        return put_refused_in(out, number, overall.place, overall.which);
+    let b = CheckAnswer::from(read_input(second, &mut second_positions, &mut second_ratios));
+    match differences::overall_of(a, b) {
+        Ok(overall) => {
+            let m = a.count as usize;
+            let n = b.count as usize;
+            put_properties(out, overall);
+            let first_points = Points::first(m, &first_positions, &first_ratios);
+            let second_points = Points::first(n, &second_positions, &second_ratios);
+            put_points(out, &first_points, &second_points, m.min(n));
+            put_difference(out, overall.more);
+        }
+        Err(refused) => put_refused_in(out, refused),
     }
-    let m = a.count as usize;
-    let n = b.count as usize;
-    put_properties(out, overall);
-    let first_points = Points::first(m, &first_positions, &first_ratios);
-    let second_points = Points::first(n, &second_positions, &second_ratios);
-    put_points(out, &first_points, &second_points, m.min(n));
-    put_difference(out, overall.more);
 }
 
 fn main(rt: HostRuntime) {

@@ -12,13 +12,13 @@ pub returns-clause-text : goal.returns-clause-text
 returns-clause-text g c =
     let digits = decimal c.unsigned_abs.result in
     c.put_decimal.ensures.text ∙ elim c.if-z-lt0.branch [
-    | then-z-lt0 w ↦
-      ap (λ (l : List ℕ). l ++ digits) (w.self-is ∙ w.put.ensures)
-      ∙ append_assoc c.args.self.now (45 ∷ []) digits
-      ∙ ap (λ (l : List ℕ). c.args.self.now ++ l) (sym (signed_negative c.args.z c.ranges.z c.unsigned_abs.ensures.value w.if-z-lt0.true))
-    | else-z-lt0 w ↦
-      ap (λ (l : List ℕ). l ++ digits) w.self-is
-      ∙ ap (λ (l : List ℕ). c.args.self.now ++ l) (sym (signed-plain c.args.z c.ranges.z c.unsigned_abs.ensures.value w.if-z-lt0.false))
+      | then-z-lt0 w ↦
+          ap (λ (l : List ℕ). l ++ digits) (w.self-is ∙ w.put.ensures)
+          ∙ append_assoc c.args.self.now (45 ∷ []) digits
+          ∙ ap (λ (l : List ℕ). c.args.self.now ++ l) (sym (signed_negative c.args.z c.ranges.z c.unsigned_abs.ensures.value w.if-z-lt0.true))
+      | else-z-lt0 w ↦
+          ap (λ (l : List ℕ). l ++ digits) w.self-is
+          ∙ ap (λ (l : List ℕ). c.args.self.now ++ l) (sym (signed-plain c.args.z c.ranges.z c.unsigned_abs.ensures.value w.if-z-lt0.false))
     ]
 
 pub returns-clause-most : goal.returns-clause-most

@@ -12,8 +12,9 @@ ghost use Rattle.compare.specs.Pieces.{properties_text, lines_at, lines_below};
 ghost use Rattle.compare.specs.Printed.{line_limit, text_limit, printed};
 
 use differences::{Difference, OverallDifferences, Property, RefusedRecord};
-use inputs::{input_room, numbers_room, read_input};
+use inputs::{input_room, read_input};
 use kind::Kind;
+use limits::MAX_POINTS;
 use record_format::CheckAnswer;
 use text::Text;
 
@@ -183,11 +184,11 @@ fn print(first: &[u8], second: &[u8], out: &mut Text<TEXT>)
     ensures text { out.new ≡ printed first.now second.now }
     ensures most { length out.new ≤ text_limit }
 {
-    let mut first_positions = numbers_room();
-    let mut first_ratios = numbers_room();
+    let mut first_positions = [0; MAX_POINTS];
+    let mut first_ratios = [0; MAX_POINTS];
     let a = CheckAnswer::from(read_input(first, &mut first_positions, &mut first_ratios));
-    let mut second_positions = numbers_room();
-    let mut second_ratios = numbers_room();
+    let mut second_positions = [0; MAX_POINTS];
+    let mut second_ratios = [0; MAX_POINTS];
     let b = CheckAnswer::from(read_input(second, &mut second_positions, &mut second_ratios));
     match differences::overall_of(a, b) {
         Ok(overall) => {

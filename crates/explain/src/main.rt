@@ -10,7 +10,7 @@ ghost use Rattle.explain.specs.Indexes.{is_digit, digit_of, given_index, capped}
 ghost use Rattle.explain.specs.Lines.{cost_line, xor_line, reason_line};
 ghost use Rattle.explain.specs.Printed.{text_limit, cost_of, point_text, index_text, printed};
 
-use inputs::{input_room, numbers_room, read_input};
+use inputs::{input_room, read_input};
 use limits::MAX_POINTS;
 use reasons::Reason;
 use refusals::{Cause, Refusal};
@@ -158,8 +158,8 @@ fn print(input: &[u8], index: &[u8], out: &mut Text<TEXT>)
     ensures text { out.new ≡ printed input.now index.now }
     ensures most { length out.new ≤ text_limit }
 {
-    let mut positions = numbers_room();
-    let mut ratios = numbers_room();
+    let mut positions = [0; MAX_POINTS];
+    let mut ratios = [0; MAX_POINTS];
     match read_input(input, &mut positions, &mut ratios) {
         Ok(found) => {
             let ratios = &ratios[..found.count as usize];

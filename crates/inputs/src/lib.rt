@@ -1,8 +1,7 @@
-// What every program that reads a record shares: room for as many bytes as it reads, and for the numbers of every run; and the reading. Internal.
+// What every program that reads a record shares: room for as many bytes as it reads, and the reading. Internal.
 #![tactic(auto)]
 
 ghost use Rattle.std.specs.Prelude.{◌≡◌, ◌≢◌, ◌≤◌, length, IfErr};
-ghost use Rattle.limits.specs.Points.{max_points};
 ghost use Rattle.record_format.specs.Answers.{check_answer};
 ghost use Rattle.inputs.specs.Inputs.{input_limit};
 ghost use Rattle.inputs.specs.Readings.{InputRead};
@@ -14,21 +13,14 @@ use refusals::Refusal;
 // As many bytes as a program reads: 64 KiB, which every record stays below.
 pub const INPUT: usize = 65536;
 
-// Room for the input.
+// Room for the input. A function, since its contract is what says how far every program reads.
 pub fn input_room() -> [u8; INPUT]
     ensures { input_limit ≡ length result }
 {
     [0; INPUT]
 }
 
-// Room for the numbers of every run.
-pub fn numbers_room() -> [u64; MAX_POINTS]
-    ensures { max_points ≡ length result }
-{
-    [0; MAX_POINTS]
-}
-
-// Reads an input with no rate expected: checks it and, where the check accepts it, fetches its run into such room. Answers what the check answered.
+// Reads an input with no rate expected: checks it and, where the check accepts it, fetches its run into such room as every run has. Answers what the check answered.
 pub fn read_input(
     input: &[u8],
     positions: &mut [u64; MAX_POINTS],

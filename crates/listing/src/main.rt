@@ -6,7 +6,8 @@ ghost use Rattle.inputs.specs.Inputs.{input_limit};
 ghost use Rattle.listing.specs.Lines.{rate_line, side_line, count_line, span_line, point_line, point_lines, listing};
 ghost use Rattle.listing.specs.Printed.{text_limit, printed};
 
-use inputs::{input_room, numbers_room, read_input};
+use inputs::{input_room, read_input};
+use limits::MAX_POINTS;
 use text::Text;
 
 // As many bytes as the longest text has: 106 for the lines of rate, side, count and span, and 38 for each of 4,096 points.
@@ -106,8 +107,8 @@ fn print(input: &[u8], out: &mut Text<TEXT>)
     ensures text { out.new ≡ printed input.now }
     ensures most { length out.new ≤ text_limit }
 {
-    let mut positions = numbers_room();
-    let mut ratios = numbers_room();
+    let mut positions = [0; MAX_POINTS];
+    let mut ratios = [0; MAX_POINTS];
     match read_input(input, &mut positions, &mut ratios) {
         Ok(found) => {
             let count = found.count as usize;

@@ -1,5 +1,6 @@
 // Numbers as digits, bytes and bits of a slice, most significant first.
 // The definitions stand in specs/, their laws in proofs/. Internal: callers meet each `requires`.
+// How many bits or bytes are meant is a plain number with its bound in each `requires`, and no type: nearly every call has a literal there.
 #![tactic(auto)]
 
 ghost use Rattle.std.specs.Prelude.{◌≡◌, ◌+◌, ◌*◌, ◌^◌, ◌≤◌, ◌<◌, length, take, drop};

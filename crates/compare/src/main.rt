@@ -1,5 +1,6 @@
 // The comparing program: reads the records in the files that its two arguments name, with no rate expected, and prints what differs between them,
 // a line for each difference and nothing for equal records; or the refusal, and which record it was.
+// How much of the input is read, and how much room the text has left, are facts of a call, and so stay in each requires.
 #![tactic(auto)]
 
 ghost use Rattle.std.specs.Prelude.{◌≡◌, ◌+◌, ◌*◌, ◌≤◌, [], ◌++◌, take, length};

@@ -148,6 +148,7 @@ impl From<Option<Difference>> for DifferenceAnswer {
 
 // The differences that are of no index (rate, side, count, form, and how many points only the longer run has), or the refusal: its number, its
 // place, and which record it was, 1 or 2.
+// No Result, since the C interface hands it back so.
 #[repr(C)]
 #[derive(Clone, Copy, Default)]
 pub struct OverallAnswer {

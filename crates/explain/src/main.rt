@@ -1,5 +1,6 @@
 // The explaining program: reads the record in the file that its first argument names, with no rate expected, and prints what the ratio whose index
 // is the second argument costs, and why; or the refusal.
+// How much of the input is read, and how much room the text has left, are facts of a call, and so stay in each requires.
 #![tactic(auto)]
 
 ghost use Rattle.std.specs.Prelude.{◌≡◌, ◌+◌, ◌≤◌, ◌<◌, MatchOption, [], ◌++◌, length, take, false, true};

@@ -1,5 +1,5 @@
 // The calls for a host program in C; include/farigolenc.h declares them. Each passes a call of the library on: what that answers by a Result, an Option
-// or an enum it answers in numbers, and a form is named by its tag.
+// or an enum it answers in numbers, and a form is named by its tag. Calls of one shape stay apart, since the C interface names each.
 #![tactic(auto)]
 
 ghost use Rattle.std.specs.Prelude.{◌≡◌};

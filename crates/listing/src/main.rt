@@ -1,4 +1,5 @@
 // The listing program: reads a record from standard input, with no rate expected, and prints its run, or its refusal.
+// How much of the input is read, and how much room the text has left, are facts of a call, and so stay in each requires.
 #![tactic(auto)]
 
 ghost use Rattle.std.specs.Prelude.{◌≡◌, ◌+◌, ◌*◌, ◌≤◌, [], ◌++◌, length};

@@ -11,6 +11,7 @@ use ratio_format::{Cursor, StepAnswer, Window, push_cells};
 use refusals::{Cause, Refusal};
 
 // What making a reader answers, and the state that the reader starts with.
+// No Result, since the C interface hands it back so.
 #[repr(C)]
 #[derive(Clone, Copy)]
 pub struct Begun {
@@ -19,6 +20,7 @@ pub struct Begun {
 }
 
 // The answer of a step and the state after it.
+// No Result, since the C interface hands it back so.
 #[repr(C)]
 #[derive(Clone, Copy)]
 pub struct Step {

@@ -3,6 +3,7 @@
 // no file, and a line on standard error says how it is called.
 // Whether a file is read is answered by `is_call`, and all else that follows from the arguments and from the bytes read by `respond`. `main` and `save`
 // open, read and write, and decide by nothing but these answers and what failed.
+// How much of the input is read, and that line and output begin empty, are facts of a call, and so stay in each requires.
 #![tactic(auto)]
 
 ghost use Rattle.std.specs.Prelude.{◌≡◌, false, ◌+◌, ◌≤◌, [], ◌++◌, length, IsTrue};
@@ -50,7 +51,7 @@ pub struct Outcome {
     pub saved: Option<usize>,
 }
 
-// The form that a word names.
+// The form that a word names. By two tests: a match on strings of bytes asks for a proof of each byte.
 fn form_named(word: &[u8]) -> Option<Form>
     ensures { result ≡ form_named word.now }
 {

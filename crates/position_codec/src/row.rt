@@ -24,7 +24,7 @@ const HIGH: [i64; 6] = [0, 64, 256, 2048, 2147483648, i64::MAX];
 // read.
 const WIDTHS: u64 = 0x40200c090700;
 
-// A row, by its index.
+// A row, by its index. What a row's bits are below stays a requires of its methods: it is a fact of the other argument, a plain number.
 #[derive(Clone, Copy)]
 pub struct TableRow {
     pub index: usize,

@@ -120,6 +120,9 @@ pub(crate) fn code_of(form: Form, z: i64) -> Code
     }
 }
 
+// Five bits of which the first is 1 are a number with its bounds in the next three functions: each hands it on as it came, and a type would be taken apart in
+// the first.
+//
 // The row of a code that has more than one bit, and the entry of a small table of lengths, by the three bits after a first bit 1: of the five bits the last
 // plays no part.
 fn lead_by(lens: u64, five: u64) -> Lead

@@ -1,4 +1,5 @@
-// Positions written: the bits of one point after the other, and then the fill.
+// Positions written: the bits of one point after the other, and then the fill. That they are in range is a requires and no type: they are the caller's own
+// slice, tested once above, and a type for it would be made for this file alone.
 ghost use Rattle.std.specs.Prelude.{SomeIff, List, ◌≡◌, ℕ, ◌+◌, ◌^◌, ◌≤◌, ◌<◌, length, take};
 ghost use Rattle.bits.specs.Sinks.{Held, PlacedBits};
 ghost use Rattle.outputs.specs.Outputs.{Placed};

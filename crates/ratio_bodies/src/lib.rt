@@ -1,5 +1,6 @@
 // A whole list of ratios, the body of the ratios' field (document 01, "Ratios"): written and read in one pass. The window of a ratio is
-// the part of the list before it. Internal: callers meet each `requires`.
+// the part of the list before it. Internal: callers meet each `requires`. List and index, body and offset go as arguments of their own, and as no struct:
+// the loops keep each in a register.
 //
 // Index (index.rt): writing knows the place of most equal ratios without a search. For each remainder of a value, one kilobyte in all, the
 // index names the newest ratio that has it; where that ratio is equal, no newer one is.

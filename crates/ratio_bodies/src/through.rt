@@ -39,6 +39,7 @@ pub(crate) fn read_through(body: &[u8], count: usize, ratios: &mut [u64]) -> Too
     let mut before: usize = 0;
     let mut from: usize = 0;
     let mut begun: usize = 0;
+    // No index to count: a turn reads a stretch, and ends the loop where the stretch is the last.
     loop {
         let to = (count - before).min(ratios.len());
         let r = read_stretch(body, from, begun, to, &mut planes, &mut again, ratios);

@@ -1,5 +1,6 @@
 // One ratio of the ratios' field (document 01, "Ratios"): its form against the window, its bytes, and reading them back.
 // A window is a slice with the oldest ratio first; the definitions have the newest first. Internal: callers meet each `requires`.
+// How long a window is at most is a requires and no type: it is a part of the run's own list, taken anew for each ratio.
 #![tactic(auto)]
 
 pub mod read;

@@ -16,7 +16,8 @@ pub const SLOTS: usize = Window::SIZE + 1;
 // The bytes of all planes.
 pub const CELLS: usize = 8 * SLOTS;
 
-// The planes, and how many ratios they are of: the last of the first `done`, as many as there are slots.
+// The planes, and how many ratios they are of: the last of the first `done`, as many as there are slots. Which ratios these are stays in each requires
+// (`KeptTo`): they stand in the run's own list, which the planes do not hold.
 #[derive(Drop)]
 pub struct BytePlanes {
     pub cells: [u8; CELLS],

@@ -27,6 +27,7 @@ pub struct Moved {
 }
 
 // The answer of writing: number and place of the refusal, or 0 and 0 with the record's length.
+// No Result, since the C interface hands it back so.
 #[repr(C)]
 #[derive(Clone, Copy)]
 pub struct WriteAnswer {
@@ -56,6 +57,7 @@ impl From<Result<usize, Refusal>> for WriteAnswer {
 
 // The answer of a check: number and place of the refusal, or 0 and 0 with the rate, the side (0 for none), the count of points, the tag of their form
 // (3 or 5) and the record's size.
+// No Result, since the C interface hands it back so.
 #[repr(C)]
 #[derive(Clone, Copy)]
 pub struct CheckAnswer {
@@ -96,6 +98,7 @@ impl From<Result<Description, Refusal>> for CheckAnswer {
 }
 
 // The answer of a fetch: number and place of the refusal, or 0 and 0 with the count of points.
+// No Result, since the C interface hands it back so.
 #[repr(C)]
 #[derive(Clone, Copy)]
 pub struct FetchAnswer {
@@ -125,6 +128,7 @@ impl From<Result<u32, Refusal>> for FetchAnswer {
 
 // The answer of open reading: number and place of the refusal, or 0 and 0 with the rate, the side (0 for none), the count of points, the tag of
 // their form (3 or 5) and the bytes used.
+// No Result, since the C interface hands it back so.
 #[repr(C)]
 #[derive(Clone, Copy)]
 pub struct ReadAnswer {
@@ -155,6 +159,7 @@ impl From<Result<Description, Refusal>> for ReadAnswer {
 }
 
 // The answer of a move: number and place of the refusal, or 0 and 0 with the length of the record written and the bytes used of the one read.
+// No Result, since the C interface hands it back so.
 #[repr(C)]
 #[derive(Clone, Copy)]
 pub struct MoveAnswer {
@@ -198,7 +203,7 @@ pub const WIDE_TAG: u8 = 5;
 
 pub const RATIOS_TAG: u8 = 4;
 
-// The tag of positions in a form.
+// The tag of positions in a form. No conversion: neither the form nor a byte is a type of this crate.
 pub fn form_tag(form: Form) -> u8
     ensures { result ≡ positions_tag form }
 {

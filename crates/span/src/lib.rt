@@ -7,6 +7,7 @@ ghost use Rattle.span.specs.Spans.{rounded_down, spanned, span_numbers};
 use refusals::{Cause, Refusal};
 
 // Number and place of the refusal, or 0 and 0 with the milliseconds.
+// No Result, since the C interface hands it back so.
 #[repr(C)]
 #[derive(Clone, Copy)]
 pub struct SpanAnswer {
@@ -34,6 +35,8 @@ impl From<Result<i64, Refusal>> for SpanAnswer {
     }
 }
 
+// The bounds of a rate that passed its test are a requires: a type for such a rate would be made for these two functions.
+//
 // d * 1000 / rate. The product may need 72 bits, and a division of 128 would ask a C program for a function of the compiler's library: so whole seconds
 // and the rest are taken apart.
 fn scaled(d: u64, rate: u64) -> u64

@@ -7,7 +7,7 @@ ghost use Rattle.ratio_format.specs.Lives.{bad_window, state_tests, add_answer, 
 
 use limits::MAX_POINTS;
 use ratio_codec::encode;
-use ratio_format::{Live, Window, push_cells};
+use ratio_format::{Live, Window};
 use refusals::{Cause, Refusal};
 
 // Whether a window does not hold what one that took `seen` ratios holds.
@@ -42,7 +42,7 @@ fn put_ratio(state: &mut Live, ratio: u64, out: &mut [u8]) -> Result<usize, Refu
     test_state(state)?;
     let window = &state.window.ratios[..state.window.fill as usize];
     let length = encode(window, ratio, out).ok_or(Cause::NoRoom.at(0))?;
-    state.window.fill = push_cells(&mut state.window.ratios, state.window.fill, ratio);
+    state.window.push(ratio);
     state.seen += 1;
     Ok(length)
 }

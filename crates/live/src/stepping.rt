@@ -7,7 +7,7 @@ ghost use Rattle.live.specs.States.{begun_numbers, Sought};
 use super::adding::bad_window;
 use limits::MAX_POINTS;
 use ratio_codec::read_one_strict;
-use ratio_format::{Cursor, StepAnswer, Window, push_cells};
+use ratio_format::{Cursor, StepAnswer, Window};
 use refusals::{Cause, Refusal};
 
 // What making a reader answers, and the state that the reader starts with.
@@ -109,6 +109,6 @@ pub fn step_at(body: &[u8], cursor: &mut Cursor) -> Result<u64, Refusal>
     let (ratio, used) = seek(body, cursor)?;
     cursor.place += used as u64;
     cursor.seen += 1;
-    cursor.window.fill = push_cells(&mut cursor.window.ratios, cursor.window.fill, ratio);
+    cursor.window.push(ratio);
     Ok(ratio)
 }

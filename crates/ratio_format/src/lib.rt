@@ -45,13 +45,16 @@ impl Window {
         }
     }
 
-    // The window after the ratio v.
-    pub fn push(self, v: u64) -> Self
-        ensures { result ≡ pushed self v }
+    // The ratio v comes to it.
+    pub fn push(&mut self, v: u64)
+        ensures { self.new ≡ pushed self.old v }
     {
-        let mut ratios = self.ratios;
-        let fill = push_cells(&mut ratios, self.fill, v);
-        Window { ratios, fill }
+        if self.fill < Window::SIZE as u64 {
+            self.ratios[self.fill as usize] = v;
+            self.fill += 1;
+        } else {
+            shift(&mut self.ratios, v);
+        }
     }
 }
 
@@ -62,20 +65,6 @@ fn shift(cells: &mut [u64], v: u64)
 {
     cells.copy_within(1.., 0);
     cells[Window::SIZE - 1] = v;
-}
-
-// `Window::push` in place: the cells of a window with this fill become those after the ratio v. The answer is the fill afterwards.
-// Cells and fill, and no window: a live coding keeps them apart, so that its kilobyte is copied in and out once.
-pub fn push_cells(cells: &mut [u64; Window::SIZE], fill: u64, v: u64) -> u64
-    ensures { record { ratios = cells.new; fill = result } ≡ pushed (record { ratios = cells.old; fill = fill }) v }
-{
-    if fill < Window::SIZE as u64 {
-        let at = fill as usize;
-        cells[at] = v;
-        return fill + 1;
-    }
-    shift(cells, v);
-    fill
 }
 
 // What a live coding keeps between additions: the window and the number of ratios seen.

@@ -39,10 +39,7 @@ pub(crate) fn has_tag(input: &[u8], at: usize, tag: u8) -> bool
 fn is_length(asked: Option<usize>, n: usize) -> bool
     ensures { result ≡ length_good (length_asked asked) n }
 {
-    match asked {
-        Some(m) => n == m,
-        None => true,
-    }
+    asked.is_none_or(|m| n == m)
 }
 
 // The field at an offset: whole head, a tag of those that are good, the length that is asked for, whole body.

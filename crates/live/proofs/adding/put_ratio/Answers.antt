@@ -40,7 +40,7 @@ returns c =
     let wrote = addition_written coded c.args.state.now c.args.ratio c.args.out.now c.in_ok-test_state.ensures c.in_ok-length.length c.encode.new.out (rw some at c.encode.ensures) in
     record {
       answer = sym wrote.0;
-      state = ap (λ (w : Window). record { window = w; seen = c.args.state.now.seen + 1 }) c.push_cells-state.ensures ∙ sym wrote.1;
+      state = ap (λ (w : Window). record { window = w; seen = c.args.state.now.seen + 1 }) c.push.ensures ∙ sym wrote.1;
       written = sym wrote.2;
       refused = tt;
     }

@@ -14,10 +14,10 @@ use refusals::Refusal;
 // What a record has besides its points.
 #[derive(Clone, Copy)]
 pub enum Property {
-    Rate,
-    Side,
-    Count,
-    Form,
+    Rate = 1,
+    Side = 2,
+    Count = 3,
+    Form = 4,
 }
 
 impl Property {
@@ -25,12 +25,7 @@ impl Property {
     fn number(self) -> u32
         ensures { result ≡ property_number self }
     {
-        match self {
-            Property::Rate => 1,
-            Property::Side => 2,
-            Property::Count => 3,
-            Property::Form => 4,
-        }
+        self as u32
     }
 }
 
@@ -63,8 +58,8 @@ pub struct OverallDifferences {
 // Which of two records.
 #[derive(Clone, Copy)]
 pub enum Which {
-    First,
-    Second,
+    First = 1,
+    Second = 2,
 }
 
 impl Which {
@@ -72,10 +67,7 @@ impl Which {
     pub fn number(self) -> u32
         ensures { result ≡ which_number self }
     {
-        match self {
-            Which::First => 1,
-            Which::Second => 2,
-        }
+        self as u32
     }
 }
 

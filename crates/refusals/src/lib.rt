@@ -13,29 +13,29 @@ pub struct Refusal {
     pub place: u32,
 }
 
-// Why a call refuses: each row of the table of refusals.
+// Why a call refuses: each row of the table of refusals, with its number.
 #[derive(Clone, Copy, Debug, PartialEq, Eq)]
 pub enum Cause {
-    BadRate,
-    UnequalCounts,
-    TooManyPoints,
-    HighPosition,
-    StepOutside,
-    NoRoom,
-    BadState,
-    AllGiven,
-    CutShort,
-    OtherTag,
-    OtherLength,
-    BadStoredRate,
-    OtherRate,
-    BadCount,
-    NoRoomForPoints,
-    BadPositions,
-    BadRatios,
-    BadStoredSide,
-    BadSide,
-    BadIndex,
+    BadRate = 1,
+    UnequalCounts = 2,
+    TooManyPoints = 3,
+    HighPosition = 4,
+    StepOutside = 5,
+    NoRoom = 6,
+    BadState = 7,
+    AllGiven = 8,
+    CutShort = 10,
+    OtherTag = 11,
+    OtherLength = 12,
+    BadStoredRate = 13,
+    OtherRate = 14,
+    BadCount = 15,
+    NoRoomForPoints = 16,
+    BadPositions = 17,
+    BadRatios = 18,
+    BadStoredSide = 20,
+    BadSide = 21,
+    BadIndex = 22,
 }
 
 impl Cause {
@@ -43,28 +43,7 @@ impl Cause {
     pub fn number(self) -> u32
         ensures { result ≡ number_of self }
     {
-        match self {
-            Cause::BadRate => 1,
-            Cause::UnequalCounts => 2,
-            Cause::TooManyPoints => 3,
-            Cause::HighPosition => 4,
-            Cause::StepOutside => 5,
-            Cause::NoRoom => 6,
-            Cause::BadState => 7,
-            Cause::AllGiven => 8,
-            Cause::CutShort => 10,
-            Cause::OtherTag => 11,
-            Cause::OtherLength => 12,
-            Cause::BadStoredRate => 13,
-            Cause::OtherRate => 14,
-            Cause::BadCount => 15,
-            Cause::NoRoomForPoints => 16,
-            Cause::BadPositions => 17,
-            Cause::BadRatios => 18,
-            Cause::BadStoredSide => 20,
-            Cause::BadSide => 21,
-            Cause::BadIndex => 22,
-        }
+        self as u32
     }
 
     // The refusal for it, at a place.

@@ -221,6 +221,7 @@ pub fn overall_of(
 ) -> Result<OverallDifferences, RefusedRecord>
     ensures { result ≡ overall_of first second }
 {
+    // Numbers and no Results: `OverallExactly` speaks of any two answers, as C has them.
     if first.number != 0 {
         return Err(refused_record(first, Which::First));
     }

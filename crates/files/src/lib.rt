@@ -1,4 +1,4 @@
-// A named file read into lent bytes, and the front of lent bytes written to an open file or to a new one, for programs. Internal.
+// A named file read into lent bytes, and bytes written to an open file or to a new one, for programs. Internal.
 // No contract can say which bytes a file holds: what is proved of a reading is that the number that it returns lies within the buffer, and
 // where it is known what a reader has left or a writer holds, as in memory, which bytes came and went.
 #![tactic(auto)]
@@ -71,7 +71,7 @@ pub fn read_argument(rt: &(impl Files + Env), i: usize, buf: &mut [u8]) -> usize
     read_file(rt, &path[..n], buf)
 }
 
-// Writes bytes, as the front of an output, to an open file, and returns whether that succeeded.
+// Writes bytes to an open file, and returns whether that succeeded.
 pub fn write_front<W: Write>(to: &mut W, bytes: &[u8]) -> bool
     ensures { IsTrue result → Appends (W.contents to.old) (W.contents to.new) bytes.now }
 {

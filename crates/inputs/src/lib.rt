@@ -20,7 +20,8 @@ pub fn input_room() -> [u8; INPUT]
     [0; INPUT]
 }
 
-// Reads an input with no rate expected: checks it and, where the check accepts it, fetches its run into such room as every run has. Answers what the check answered.
+// Reads an input with no rate expected: checks it and, where the check accepts it, fetches its run into such room as every run has. Answers what the check
+// answered.
 pub fn read_input(
     input: &[u8],
     positions: &mut [u64; MAX_POINTS],

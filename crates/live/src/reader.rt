@@ -52,7 +52,7 @@ pub fn next<'s, 'a>(r: &'s mut Reader<'a>) -> Result<u64, Refusal>
     step_at(r.body, &mut r.cursor)
 }
 
-// The answers of making a reader and of its first two steps.
+// The answers of making a reader and of its first two steps, in numbers: `TwoSteps` speaks of these.
 #[derive(Clone, Copy)]
 pub struct Two {
     pub made: Refusal,
@@ -70,10 +70,7 @@ pub fn first_two(body: &[u8], count: u64) -> Two
     let first = next(&mut reader);
     let second = next(&mut reader);
     Two {
-        made: making.made.err().unwrap_or(Refusal {
-            number: 0,
-            place: 0,
-        }),
+        made: making.made.err().unwrap_or_default(),
         first: first.into(),
         second: second.into(),
     }

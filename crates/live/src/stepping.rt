@@ -58,10 +58,7 @@ impl From<Result<Cursor, Refusal>> for Begun {
     fn from(begun: Result<Cursor, Refusal>) -> Begun {
         match begun {
             Ok(cursor) => Begun {
-                refusal: Refusal {
-                    number: 0,
-                    place: 0,
-                },
+                refusal: Refusal::default(),
                 cursor,
             },
             Err(refusal) => Begun {

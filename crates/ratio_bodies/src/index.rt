@@ -16,7 +16,8 @@ fn key_of(v: u64) -> usize
     (v % (KEYS as u64)) as usize
 }
 
-// The place of the newest ratio before ratio i that is equal to it, by the index, if the window holds one.
+// The place of the newest ratio before ratio i that is equal to it, by the index, if the window holds one. An index has 0 for no ratio, and no Option: so
+// a key takes two bytes, and a fresh one is cleared memory.
 fn looked_up(newest: &[u16; KEYS], ratios: &[u64], i: usize) -> Option<usize>
     requires { (i < length ratios.now) × Indexed newest.now ratios.now i }
     ensures { IfSome result (λ p. PlaceIs ratios.now i p) }

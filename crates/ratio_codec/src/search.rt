@@ -8,6 +8,7 @@ ghost use Rattle.ratio_window.specs.Passed.{Passed};
 use ratio_window::{Best, EQUAL_SUM, sum_of};
 
 // How far the places from `from` on hold no ratio v: the first that holds one, or the window's length, which is past them all.
+// No Option: the search goes on at the answer, and the length ends it.
 pub(crate) fn pass_equal(window: &[u64], from: usize, v: u64) -> usize
     requires { from ≤ length window.now }
     ensures { result ≡ from + find v (drop from (reverse window.now)) }

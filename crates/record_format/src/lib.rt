@@ -9,7 +9,8 @@ ghost use Rattle.record_format.specs.Runs.{positions_tag};
 use position_format::Form;
 use refusals::Refusal;
 
-// What is found of a record: the rate, the side (0 for none), the count of points, their form, and the bytes that it takes.
+// What is found of a record: the rate, the side (0 for none, as a run has it and C is handed it), the count of points, their form, and the bytes that it
+// takes.
 #[derive(Clone, Copy)]
 pub struct Description {
     pub rate: u32,

@@ -1,4 +1,4 @@
-// Fields of coded numbers: the forms' numbers, the codings, each with its tag and its writer of a body, and the readers of the two fields.
+// Fields of coded numbers: how many points a form takes, the codings, each with its tag and its writer of a body, and the readers of the two fields.
 ghost use Rattle.std.specs.Prelude.{◌≡◌, ◌+◌, ◌≤◌, leb, ltb, eqb, length};
 ghost use Rattle.lists.specs.Compare.{both};
 ghost use Rattle.limits.specs.Points.{max_points};

@@ -40,7 +40,7 @@ fn read_number(input: &[u8], at: usize, tag: u8, n: usize) -> Result<Number, Ref
     })
 }
 
-// Whether a rate was expected, which is not 0, and differs.
+// Whether a rate was expected, which is not 0, and differs. 0 for none and no Option, as `checked` and C have it.
 fn differs(expected: u32, rate: u32) -> bool
     ensures { result ≡ other_rate expected rate }
 {

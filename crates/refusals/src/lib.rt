@@ -5,9 +5,9 @@ ghost use Rattle.std.specs.Prelude.{◌≡◌, ◌^◌, ◌<◌};
 ghost use Rattle.refusals.specs.Causes.{number_of};
 ghost use Rattle.refusals.specs.Tests.{refusal};
 
-// A refusal: document 01's number and place; 0 and 0 for none.
+// A refusal: document 01's number and place. Where C is handed one, 0 and 0 stand for none.
 #[repr(C)]
-#[derive(Clone, Copy, Debug, PartialEq, Eq)]
+#[derive(Clone, Copy, Debug, Default, PartialEq, Eq)]
 pub struct Refusal {
     pub number: u32,
     pub place: u32,

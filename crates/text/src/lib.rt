@@ -1,6 +1,6 @@
 // Text in fixed memory, for the programs that print.
 // Internal: callers meet each `requires`.
-// Words and numbers are put by calls that cannot fail. A `Display` is not: std says what a writer holds after `write!` where that is Ok, and never that it
+// Words and numbers are put by calls that cannot fail. `write!` of a `Display` can: std says what a writer holds after it where it is Ok, and never that it
 // is, so that no program could promise what it prints.
 #![tactic(auto)]
 

@@ -3,6 +3,7 @@
 // meet each `requires`.
 #![tactic(auto)]
 
+mod coded; // coded positions, known to be sound
 mod pair; // two positions, and the step after them
 mod row; // the rows of the tables of steps
 mod table; // the tables: where a code begins, and the code of a step
@@ -10,6 +11,7 @@ mod write; // positions written
 mod read; // positions read
 mod recode; // positions of one form coded in the other
 
+pub use coded::CodedPositions;
 pub use read::{check_positions, get_positions};
 pub use recode::{RecodeError, recode_positions};
 pub use write::{first_outside, put_positions};

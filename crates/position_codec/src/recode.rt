@@ -1,19 +1,18 @@
 // Positions of one form coded in another: the bits of the first two points stay, and so do those of every code after its prefix, since
 // document 01's rows are the wide table's first five, but for the prefix of the fifth. So no position is computed, and no array holds any. The first four
 // rows are the same in both, and three codes by these are copied as one field.
-ghost use Rattle.std.specs.Prelude.{false, IfSome, List, ◌++◌, ◌≡◌, ℕ, ◌+◌, ◌-◌, ◌*◌, ◌^◌, ◌≤◌, ◌<◌, ltb, length, get_or, take, drop};
-ghost use Rattle.lists.specs.Optional.{missing, list_of};
+ghost use Rattle.std.specs.Prelude.{IfSome, List, ◌++◌, ◌≡◌, ℕ, ◌+◌, ◌-◌, ◌*◌, ◌^◌, ◌≤◌, ◌<◌, ltb, length, get_or, take, drop};
 ghost use Rattle.bits.specs.Digits.{bits_of};
 ghost use Rattle.bits.specs.Packing.{bits};
 ghost use Rattle.bits.specs.Sinks.{Held, PlacedBits, Laid};
-ghost use Rattle.limits.specs.Points.{max_points};
 ghost use Rattle.position_format.specs.Rows.{no_row};
 ghost use Rattle.position_format.specs.Tables.{table_of};
-ghost use Rattle.position_format.specs.Positions.{read_positions};
+ghost use Rattle.position_codec.specs.Coded.{positions_of};
 ghost use Rattle.position_codec.specs.Codes.{row_at};
 ghost use Rattle.position_codec.specs.Found.{Ahead};
 ghost use Rattle.position_codec.specs.Recoding.{Led, Fore, SharedCode, ThreeShared, RecodedInto};
 
+use crate::coded::CodedPositions;
 use crate::read::field_ahead;
 use crate::row::{LAST, TableRow};
 use crate::table::{Lead, lead_of, prefixes_of};
@@ -139,18 +138,20 @@ fn put_code(form: Form, lead: Lead, body: &[u8], at: usize, w: u64, out: &mut [u
     copy_bits(body, at + (len - width), width, out, t)
 }
 
-// The positions of a body in the form `from`, coded in the form `to`, at the front of the output, whose rest stays; answers how many bytes they take. The first step
-// that the table of `to` does not hold is told whatever the room. The body is the coding of so many positions, so each code is there.
+// Coded positions, coded in the form `to`, at the front of the output, whose rest stays; answers how many bytes they take. The first step that the
+// table of `to` does not hold is told whatever the room. The body is the coding of so many positions, so each code is there.
 pub fn recode_positions(
-    from: Form,
+    coded: CodedPositions<'_>,
     to: Form,
-    body: &[u8],
-    count: usize,
     out: &mut [u8],
 ) -> Result<usize, RecodeError>
-    requires { (missing (read_positions (table_of from) count body.now) ≡ false) × (count ≤ max_points) }
-    ensures { RecodedInto to (list_of (read_positions (table_of from) count body.now)) result out.old out.new }
+    ensures { RecodedInto to (positions_of coded.entry) result out.old out.new }
 {
+    let CodedPositions {
+        form: from,
+        body,
+        count,
+    } = coded;
     let mut i = count.min(2);
     let mut at = 64 * i;
     let mut s = copy_first(body, i, out);

@@ -1,10 +1,7 @@
 // Moving: a record is checked, and then the codes of its positions are put with the other form's prefixes, one by one. Its ratios' field is copied as it
 // stands, since it is the same in both. No memory is kept for the points: what a move takes of the stack does not grow with the count.
-ghost use Rattle.std.specs.Prelude.{false, ◌≡◌, ◌≢◌, ◌++◌, ◌≤◌, IfErr};
-ghost use Rattle.lists.specs.Optional.{missing, list_of};
-ghost use Rattle.limits.specs.Points.{max_points};
-ghost use Rattle.position_format.specs.Positions.{read_positions};
-ghost use Rattle.position_format.specs.Tables.{table_of};
+ghost use Rattle.std.specs.Prelude.{◌≡◌, ◌≢◌, ◌++◌, IfErr};
+ghost use Rattle.position_codec.specs.Coded.{positions_of};
 ghost use Rattle.record_format.specs.Answers.{move_answer};
 ghost use Rattle.record_format.specs.Fields.{laid};
 ghost use Rattle.record_format.specs.Moves.{move_of};
@@ -12,7 +9,7 @@ ghost use Rattle.record_parts.specs.Leads.{lead_fields, RecodedAs};
 ghost use Rattle.record_codec.specs.Answers.{Moves};
 ghost use Rattle.record_codec.specs.Movable.{Movable, Opened};
 
-use position_codec::RecodeError;
+use position_codec::{CodedPositions, RecodeError};
 use position_format::Form;
 use record_format::{HEAD_SIZE, Moved};
 use record_parts::coding::{Reading, is_in, points_of};
@@ -21,24 +18,19 @@ use record_parts::points::read_points;
 use record_parts::putting::put_recoded_lead;
 use refusals::{Cause, Refusal};
 
-// The fields of a record up to and with the positions', which are those of a body in the form `from` and are written in the form `to`, and then the
-// ratios' field, which is given as bytes.
+// The fields of a record up to and with the positions', which are given coded and are written in the form `to`, and then the ratios' field, which is
+// given as bytes.
 fn put_moved(
     rate: u32,
     side: u32,
-    from: Form,
+    coded: CodedPositions<'_>,
     to: Form,
-    body: &[u8],
-    count: usize,
     field: &[u8],
     out: &mut [u8],
 ) -> Result<usize, RecodeError>
-    requires { (missing (read_positions (table_of from) count body.now) ≡ false) × (count ≤ max_points) }
-    ensures { RecodedAs to (list_of (read_positions (table_of from) count body.now))
-        (laid (lead_fields rate side to (list_of (read_positions (table_of from) count body.now))) ++ field.now)
-        result out.old out.new }
+    ensures { RecodedAs to (positions_of coded.entry) (laid (lead_fields rate side to (positions_of coded.entry)) ++ field.now) result out.old out.new }
 {
-    let lead_end = put_recoded_lead(rate, side, from, to, body, count, out)?;
+    let lead_end = put_recoded_lead(rate, side, coded, to, out)?;
     match outputs::put_copy(field, &mut out[lead_end..]) {
         Some(field_size) => Ok(lead_end + field_size),
         None => Err(RecodeError::NoRoom),
@@ -65,14 +57,16 @@ fn move_points(form: Form, input: &[u8], front: Front, out: &mut [u8]) -> Result
     if points_of(form) < count {
         return Err(Cause::TooManyPoints.at(0));
     }
-    let at = front.end + HEAD_SIZE;
+    let coded = CodedPositions {
+        form: points.form,
+        body: &input[front.end + HEAD_SIZE..points.from],
+        count,
+    };
     let moved = put_moved(
         front.rate,
         front.side,
-        points.form,
+        coded,
         form,
-        &input[at..points.from],
-        count,
         &input[points.from..points.end],
         out,
     );

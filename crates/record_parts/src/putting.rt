@@ -1,12 +1,10 @@
 // Fields put at the front of an output: those that hold a number, those of coded numbers, and the front of a record with its positions, which are given
-// as numbers or as a body in the other form.
-ghost use Rattle.std.specs.Prelude.{false, [], ◌∷◌, ◌≡◌, ◌≤◌, length};
-ghost use Rattle.lists.specs.Optional.{missing, list_of};
+// as numbers or coded in the other form.
+ghost use Rattle.std.specs.Prelude.{[], ◌∷◌, ◌≡◌, ◌≤◌, length};
 ghost use Rattle.bits.specs.Digits.{bytes_of};
 ghost use Rattle.limits.specs.Points.{max_points};
 ghost use Rattle.outputs.specs.Outputs.{over, Placed};
-ghost use Rattle.position_format.specs.Positions.{read_positions};
-ghost use Rattle.position_format.specs.Tables.{table_of};
+ghost use Rattle.position_codec.specs.Coded.{positions_of};
 ghost use Rattle.position_codec.specs.Codes.{CodablePositions};
 ghost use Rattle.record_format.specs.Fields.{field_of, length_size, head_size, laid};
 ghost use Rattle.record_format.specs.Runs.{side_fields, positions_field, front_fields};
@@ -15,7 +13,7 @@ ghost use Rattle.record_parts.specs.Leads.{lead_fields, RecodedAs, RecodedNowher
 
 use super::coding::{Coding, put_body, tag_of};
 use super::field::{LENGTH_SIZE, TAG_SIZE};
-use position_codec::RecodeError;
+use position_codec::{CodedPositions, RecodeError};
 use position_format::Form;
 use record_format::{
     COUNT_SIZE, COUNT_TAG, HEAD_SIZE, RATE_SIZE, RATE_TAG, SIDE_SIZE, SIDE_TAG, form_tag,
@@ -95,55 +93,40 @@ pub fn put_lead(
 }
 
 // Why positions are not recoded where there is no room for what they are a part of: the first whose step the table does not hold is told all the same.
-fn recode_nowhere(from: Form, to: Form, body: &[u8], count: usize) -> RecodeError
-    requires { (missing (read_positions (table_of from) count body.now) ≡ false) × (count ≤ max_points) }
-    ensures { RecodedNowhere to (list_of (read_positions (table_of from) count body.now)) result }
+fn recode_nowhere(coded: CodedPositions<'_>, to: Form) -> RecodeError
+    ensures { RecodedNowhere to (positions_of coded.entry) result }
 {
-    match position_codec::recode_positions(from, to, body, count, &mut []) {
+    match position_codec::recode_positions(coded, to, &mut []) {
         Ok(_) => RecodeError::NoRoom,
         Err(error) => error,
     }
 }
 
-// The positions of a body in the form `from`, as a field in the form `to`, at the front of the output: the body past the head, and then the head.
-fn put_recoded(
-    from: Form,
-    to: Form,
-    body: &[u8],
-    count: usize,
-    out: &mut [u8],
-) -> Result<usize, RecodeError>
-    requires { (missing (read_positions (table_of from) count body.now) ≡ false) × (count ≤ max_points) }
-    ensures { RecodedAs to (list_of (read_positions (table_of from) count body.now))
-        (laid (positions_field to (list_of (read_positions (table_of from) count body.now)) ∷ []))
-        result out.old out.new }
+// Coded positions, as a field in the form `to`, at the front of the output: the body past the head, and then the head.
+fn put_recoded(coded: CodedPositions<'_>, to: Form, out: &mut [u8]) -> Result<usize, RecodeError>
+    ensures { RecodedAs to (positions_of coded.entry) (laid (positions_field to (positions_of coded.entry) ∷ [])) result out.old out.new }
 {
     if out.len() < HEAD_SIZE {
-        return Err(recode_nowhere(from, to, body, count));
+        return Err(recode_nowhere(coded, to));
     }
-    let n = position_codec::recode_positions(from, to, body, count, &mut out[HEAD_SIZE..])?;
+    let n = position_codec::recode_positions(coded, to, &mut out[HEAD_SIZE..])?;
     put_head(out, form_tag(to), n);
     Ok(n + HEAD_SIZE)
 }
 
-// The fields of `put_lead`, where the positions are those of a body in the form `from`, and are written in the form `to`.
+// The fields of `put_lead`, where the positions are coded, and are written in the form `to`.
 pub fn put_recoded_lead(
     rate: u32,
     side: u32,
-    from: Form,
+    coded: CodedPositions<'_>,
     to: Form,
-    body: &[u8],
-    count: usize,
     out: &mut [u8],
 ) -> Result<usize, RecodeError>
-    requires { (missing (read_positions (table_of from) count body.now) ≡ false) × (count ≤ max_points) }
-    ensures { RecodedAs to (list_of (read_positions (table_of from) count body.now))
-        (laid (lead_fields rate side to (list_of (read_positions (table_of from) count body.now))))
-        result out.old out.new }
+    ensures { RecodedAs to (positions_of coded.entry) (laid (lead_fields rate side to (positions_of coded.entry))) result out.old out.new }
 {
-    let Some(front_end) = put_front(rate, side, count, out) else {
-        return Err(recode_nowhere(from, to, body, count));
+    let Some(front_end) = put_front(rate, side, coded.count, out) else {
+        return Err(recode_nowhere(coded, to));
     };
-    let field_size = put_recoded(from, to, body, count, &mut out[front_end..])?;
+    let field_size = put_recoded(coded, to, &mut out[front_end..])?;
     Ok(front_end + field_size)
 }

@@ -10,22 +10,22 @@ use lib.Dec.{ltb}
 use lib.IntN.{ℤ}
 use lib.ListN.{length, get_or, take, drop}
 use lib.Seq.{take_all}
-use Rattle.lists.specs.Optional.{missing, list_of}
 use Rattle.bits.specs.Digits.{bits_of}
 use Rattle.bits.specs.Packing.{bits}
 use Rattle.bits.specs.Sinks.{Held, PlacedBits, Laid}
 use Rattle.bits.specs.declared.laying.Sink.{Sink}
-use Rattle.limits.specs.Points.{max_points}
 use Rattle.position_format.specs.declared.Form.{Form}
 use Rattle.position_format.specs.Rows.{Row, in_table, code, no_row}
 use Rattle.position_format.specs.Steps.{step_here, first_outside}
 use Rattle.position_format.specs.Tables.{table_of}
-use Rattle.position_format.specs.Positions.{position_bits, read_positions}
+use Rattle.position_format.specs.Positions.{position_bits}
 use Rattle.position_format.proofs.Rows.Codes.{code_within}
 use Rattle.position_format.proofs.Tables.{most_bits, form_sound, table_good}
 use Rattle.position_format.proofs.Points.{point_step, outside_here, outside_later}
 use Rattle.position_format.proofs.Positions.{Coding}
+use Rattle.position_codec.specs.declared.coded.CodedPositions.{CodedPositions}
 use Rattle.position_codec.specs.declared.table.Lead.{Lead}
+use Rattle.position_codec.specs.Coded.{positions_of}
 use Rattle.position_codec.specs.Codes.{row_at, CodablePositions}
 use Rattle.position_codec.specs.Found.{Ahead}
 use Rattle.position_codec.specs.Recoding.{CodeStands, Led, Fore, Shared, ThreeShared}
@@ -36,7 +36,16 @@ use Rattle.position_codec.proofs.recode.State.{Recoding, raw_length, raw_front, 
 use Rattle.position_codec.proofs.recode.State.{three_bits, three_inside, three_length, three_stand, three_ends, three_front}
 
 -- the body is the coding of n positions in the form `from`
-module _ (from to : Form) (n : ℕ) (body : List ℕ) (sound : missing (read_positions (table_of from) n body) ≡ false) (many : n ≤ max_points) where
+module _ (coded : CodedPositions) (to : Form) where
+  abbrev from : Form
+  from = coded.form
+
+  abbrev n : ℕ
+  n = coded.count
+
+  abbrev body : List ℕ
+  body = coded.body.now
+
   abbrev source : List Row
   source = table_of from
 
@@ -44,13 +53,13 @@ module _ (from to : Form) (n : ℕ) (body : List ℕ) (sound : missing (read_pos
   target = table_of to
 
   abbrev ts : List ℕ
-  ts = list_of (read_positions source n body)
+  ts = positions_of coded
 
   coding : Coding source n body ts
-  coding = sound_coding from n body sound
+  coding = sound_coding from n body coded.sound
 
   pub short : length body ≤ 35327
-  short = sound_short from n body sound many
+  short = sound_short from n body coded.sound coded.few
 
   -- the first k points, which have 64 bits each
   module _ (k : ℕ) (two : k ≤ 2) (few : k ≤ n) where
@@ -74,7 +83,7 @@ module _ (from to : Form) (n : ℕ) (body : List ℕ) (sound : missing (read_pos
   -- some points are passed
   module _ (o out : List ℕ) (i at : ℕ) (s : Sink) (r : Recoding from to n ts o out i at s) where
     pub place_small : s.at + 8 ≤ 2 ^ 32
-    place_small = omega (arith, r.small, r.few, many)
+    place_small = omega (arith, r.small, r.few, coded.few)
 
     -- all of them
     module _ (end : n ≤ i) where
@@ -82,7 +91,7 @@ module _ (from to : Form) (n : ℕ) (body : List ℕ) (sound : missing (read_pos
       all = take_all i ts (omega (arith, coding.many))
 
       pub all_codable : CodablePositions to ts
-      all_codable = inside_codable to ts (sound-range from n body sound) (omega (arith, coding.many, r.inside))
+      all_codable = inside_codable to ts (sound-range from n body coded.sound) (omega (arith, coding.many, r.inside))
 
       pub all_held : Held (position_bits target ts) s
       all_held = rw all at r.held

@@ -12,7 +12,7 @@ use lib.ListN.{length, take, drop, length-append}
 use Rattle.lists.specs.Below.{Below}
 use Rattle.lists.specs.Optional.{missing, list_of}
 use Rattle.limits.specs.Points.{max_points, first_high}
-use Rattle.std.specs.Prelude.{Option as Wrote, Some, Result, Ok, Err}
+use Rattle.std.specs.Prelude.{Result, Ok, Err}
 use Rattle.refusals.specs.declared.Refusal.{Refusal}
 use Rattle.refusals.specs.Tests.{refusal, first_of}
 use Rattle.refusals.proofs.Tests.{first_of_here, first_of_skip, first_of_end}
@@ -43,8 +43,6 @@ use Rattle.record_parts.specs.declared.points.Points.{Points}
 use Rattle.record_parts.specs.Fields.{RefusedBy, FrontFound, FrontRead, PointsRead}
 use Rattle.record_parts.proofs.Fields.{refused_at, refused_as}
 use Rattle.record_parts.specs.Leads.{lead_fields, RecodedAs}
-use Rattle.outputs.specs.Outputs.{Placed}
-use borrow.Rule.Slice.PartMut.{put_mid}
 use Rattle.record_codec.specs.Answers.{Moves}
 use Rattle.record_codec.specs.Movable.{NotThere, Movable, Opened}
 

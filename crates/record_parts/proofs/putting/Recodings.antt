@@ -16,6 +16,8 @@ use Rattle.position_format.specs.declared.Form.{Form}
 use Rattle.position_format.specs.Tables.{table_of}
 use Rattle.position_format.specs.Positions.{coded_positions, read_positions}
 use Rattle.position_format.proofs.Positions.{read_only}
+use Rattle.position_codec.specs.declared.coded.CodedPositions.{CodedPositions}
+use Rattle.position_codec.specs.Coded.{positions_of}
 use Rattle.position_codec.specs.Recoding.{RecodedInto}
 use Rattle.position_codec.specs.declared.recode.RecodeError.{RecodeError}
 use Rattle.position_codec.specs.declared.recode.RecodeError.TheVariants.{Outside, NoRoom}
@@ -25,21 +27,17 @@ use Rattle.record_parts.specs.Leads.{lead_fields, RecodedAs}
 use Rattle.record_parts.proofs.putting.Writings.{field_none, field_done}
 
 -- as many are read as are asked for
-length-read : (f : Form) (n : ℕ) (body : List ℕ) → missing (read_positions (table_of f) n body) ≡ false
-    → n ≡ length (list_of (read_positions (table_of f) n body))
-length-read f n body sound = go (read_positions (table_of f) n body) refl sound
+length-read : (coded : CodedPositions) → coded.count ≡ length (positions_of coded)
+length-read coded = go (read_positions (table_of coded.form) coded.count coded.body.now) refl coded.sound
   where
-    go : (x : Option (List ℕ)) → read_positions (table_of f) n body ≡ x → missing x ≡ false → n ≡ length (list_of x)
+    go : (x : Option (List ℕ)) → read_positions (table_of coded.form) coded.count coded.body.now ≡ x → missing x ≡ false → coded.count ≡ length (list_of x)
     go none e h = absurd (let z : ◌≡◌ {A = ℕ} 0 1 = cc in omega arith)
-    go (some ts) e h = sym (read_only (table_of f) n body ts e).2
+    go (some ts) e h = sym (read_only (table_of coded.form) coded.count coded.body.now ts e).2
 
 -- the front has their count
-pub recoded_lead : (rate side : ℕ) (from to : Form) (n : ℕ) (body : List ℕ) → missing (read_positions (table_of from) n body) ≡ false
-    → let ts = list_of (read_positions (table_of from) n body) in
-    lead_fields rate side to ts ≡ front_fields rate side n ++ (positions_field to ts ∷ [])
-recoded_lead rate side from to n body sound =
-    let ts = list_of (read_positions (table_of from) n body) in
-    ap (λ (m : ℕ). front_fields rate side m ++ (positions_field to ts ∷ [])) (sym (length-read from n body sound))
+pub recoded_lead : (rate side : ℕ) (coded : CodedPositions) (to : Form)
+    → lead_fields rate side to (positions_of coded) ≡ front_fields rate side coded.count ++ (positions_field to (positions_of coded) ∷ [])
+recoded_lead rate side coded to = ap (λ (m : ℕ). front_fields rate side m ++ (positions_field to (positions_of coded) ∷ [])) (sym (length-read coded))
 
 module _ (f : Form) (ts : List ℕ) where
   -- an error, where no room for some bytes is no room for others

@@ -20,42 +20,43 @@ returns-then-points_of-count c =
     moves_at c.args.form c.args.input.now c.args.out.now c.args.out.now 3 0 c.at.ensures (λ z. omega arith)
     (many_stop past (subst (λ (n : ℕ). n < c.args.front.count) c.points_of.ensures c.if-points_of-count.true) c.args.out.now)
 
-pub slice_bounds-put_moved-count : goal.slice_bounds-put_moved-count
-slice_bounds-put_moved-count c =
+pub slice_bounds-coded-count : goal.slice_bounds-coded-count
+slice_bounds-coded-count c =
     let past : PointsPast c.args.form c.args.input.now c.args.front c.in_ok-points.points =
     points_past (below_of 256 c.args.input.now (λ i. (c.shared_slice_known-1.given i).fits)) c.requires _ _ _ _ c.in_ok-points.ensures in
     body_order past
 
-pub slice_bounds-put_moved-start : goal.slice_bounds-put_moved-start
-slice_bounds-put_moved-start c =
+pub slice_bounds-coded-start : goal.slice_bounds-coded-start
+slice_bounds-coded-start c =
     let past : PointsPast c.args.form c.args.input.now c.args.front c.in_ok-points.points =
     points_past (below_of 256 c.args.input.now (λ i. (c.shared_slice_known-1.given i).fits)) c.requires _ _ _ _ c.in_ok-points.ensures in
     body_order past
 
-pub slice_bounds-put_moved-end : goal.slice_bounds-put_moved-end
-slice_bounds-put_moved-end c =
+pub slice_bounds-coded-end : goal.slice_bounds-coded-end
+slice_bounds-coded-end c =
     let past : PointsPast c.args.form c.args.input.now c.args.front c.in_ok-points.points =
     points_past (below_of 256 c.args.input.now (λ i. (c.shared_slice_known-1.given i).fits)) c.requires _ _ _ _ c.in_ok-points.ensures in
     let within = field_order past in
     omega (arith, within.0, within.1)
 
-pub slice_bounds-put_moved-count-2 : goal.slice_bounds-put_moved-count-2
-slice_bounds-put_moved-count-2 c =
+pub invariant_of-coded : goal.invariant_of-coded
+invariant_of-coded c =
+    let past : PointsPast c.args.form c.args.input.now c.args.front c.in_ok-points.points =
+    points_past (below_of 256 c.args.input.now (λ i. (c.shared_slice_known-1.given i).fits)) c.requires _ _ _ _ c.in_ok-points.ensures in
+    let known = body-sound past in
+    record { sound = known.0; few = known.1 }
+
+pub slice_bounds-put_moved-count : goal.slice_bounds-put_moved-count
+slice_bounds-put_moved-count c =
     let past : PointsPast c.args.form c.args.input.now c.args.front c.in_ok-points.points =
     points_past (below_of 256 c.args.input.now (λ i. (c.shared_slice_known-1.given i).fits)) c.requires _ _ _ _ c.in_ok-points.ensures in
     (field_order past).0
 
-pub slice_bounds-put_moved-start-2 : goal.slice_bounds-put_moved-start-2
-slice_bounds-put_moved-start-2 c =
+pub slice_bounds-put_moved-start : goal.slice_bounds-put_moved-start
+slice_bounds-put_moved-start c =
     let past : PointsPast c.args.form c.args.input.now c.args.front c.in_ok-points.points =
     points_past (below_of 256 c.args.input.now (λ i. (c.shared_slice_known-1.given i).fits)) c.requires _ _ _ _ c.in_ok-points.ensures in
     (field_order past).0
-
-pub put_moved-moved-requires : goal.put_moved-moved-requires
-put_moved-moved-requires c =
-    let past : PointsPast c.args.form c.args.input.now c.args.front c.in_ok-points.points =
-    points_past (below_of 256 c.args.input.now (λ i. (c.shared_slice_known-1.given i).fits)) c.requires _ _ _ _ c.in_ok-points.ensures in
-    body-sound past
 
 pub at-requires-in-Err-Outside : goal.at-requires-in-Err-Outside
 at-requires-in-Err-Outside c =

@@ -1,9 +1,7 @@
 -- `put_recoded_lead` meets its contract: the front, and the field of the recoded positions past it.
 use mathlib.Core.List.{[], ◌∷◌}
 use Rattle.std.specs.Prelude.{Some, None}
-use Rattle.lists.specs.Optional.{list_of}
-use Rattle.position_format.specs.Positions.{read_positions}
-use Rattle.position_format.specs.Tables.{table_of}
+use Rattle.position_codec.specs.Coded.{positions_of}
 use Rattle.record_format.specs.Fields.{laid}
 use Rattle.record_format.specs.Runs.{front_fields, positions_field}
 use Rattle.record_parts.specs.Leads.{lead_fields}
@@ -13,18 +11,18 @@ use Rattle.record_parts.proofs.putting.put_recoded_lead.Goals as goal
 
 pub returns-in_default : goal.returns-in_default
 returns-in_default c =
-    let points = list_of (read_positions (table_of c.args.from) c.args.count c.args.body.now) in
+    let points = positions_of c.args.coded in
     c.recode_nowhere.ensures (laid (lead_fields c.args.rate c.args.side c.args.to points)) c.args.out.now _
-    (first_short (front_fields c.args.rate c.args.side c.args.count) (positions_field c.args.to points ∷ [])
-    (recoded_lead c.args.rate c.args.side c.args.from c.args.to c.args.count c.args.body.now c.requires.0) c.args.out.now c.in_default.ensures)
+    (first_short (front_fields c.args.rate c.args.side c.args.coded.count) (positions_field c.args.to points ∷ [])
+    (recoded_lead c.args.rate c.args.side c.args.coded c.args.to) c.args.out.now c.in_default.ensures)
 
 pub returns-in_err-field_size : goal.returns-in_err-field_size
 returns-in_err-field_size c =
-    let points = list_of (read_positions (table_of c.args.from) c.args.count c.args.body.now) in
+    let points = positions_of c.args.coded in
     let field = positions_field c.args.to points ∷ [] in
     let all = lead_fields c.args.rate c.args.side c.args.to points in
-    let first : FirstLaid (front_fields c.args.rate c.args.side c.args.count) field all c.in-Some.front_end c.args.out.now c.put_front.new.out = record {
-      both = recoded_lead c.args.rate c.args.side c.args.from c.args.to c.args.count c.args.body.now c.requires.0;
+    let first : FirstLaid (front_fields c.args.rate c.args.side c.args.coded.count) field all c.in-Some.front_end c.args.out.now c.put_front.new.out = record {
+      both = recoded_lead c.args.rate c.args.side c.args.coded c.args.to;
       put = c.in-Some.ensures;
     } in
     recoded_err c.args.to points (laid all) c.args.out.now _ c.from_residual.result _ c.from_residual.ensures.1
@@ -32,11 +30,11 @@ returns-in_err-field_size c =
 
 pub returns : goal.returns
 returns c =
-    let points = list_of (read_positions (table_of c.args.from) c.args.count c.args.body.now) in
+    let points = positions_of c.args.coded in
     let field = positions_field c.args.to points ∷ [] in
     let all = lead_fields c.args.rate c.args.side c.args.to points in
-    let first : FirstLaid (front_fields c.args.rate c.args.side c.args.count) field all c.in-Some.front_end c.args.out.now c.put_front.new.out = record {
-      both = recoded_lead c.args.rate c.args.side c.args.from c.args.to c.args.count c.args.body.now c.requires.0;
+    let first : FirstLaid (front_fields c.args.rate c.args.side c.args.coded.count) field all c.in-Some.front_end c.args.out.now c.put_front.new.out = record {
+      both = recoded_lead c.args.rate c.args.side c.args.coded c.args.to;
       put = c.in-Some.ensures;
     } in
     (c.in_ok-field_size.ensures.0, first-laid_then first c.put_recoded.new.out (Some c.in_ok-field_size.field_size) c.in_ok-field_size.ensures.1)

@@ -75,8 +75,8 @@ fn put_property(out: &mut Text<TEXT>, property: Property, first: u32, second: u3
     ensures text { out.new ≡ out.old ++ property_line property first second }
     ensures most { length (property_line property first second) ≤ line_limit }
 {
-    out.put_numbered(property_word(property), u64::from(first));
-    out.put_line(" ", u64::from(second));
+    out.put_numbered(property_word(property).as_bytes(), u64::from(first));
+    out.put_line(b" ", u64::from(second));
 }
 
 // The line of a position in both records.
@@ -86,9 +86,9 @@ fn put_position(out: &mut Text<TEXT>, index: u64, first: u64, second: u64)
     ensures text { out.new ≡ out.old ++ position_line index first second }
     ensures most { length (position_line index first second) ≤ line_limit }
 {
-    out.put_numbered("position ", index);
-    out.put_numbered(" ", first);
-    out.put_line(" ", second);
+    out.put_numbered(b"position ", index);
+    out.put_numbered(b" ", first);
+    out.put_line(b" ", second);
 }
 
 // The line of a ratio: the bits of the first record's, of kind k, and of the second's, of kind l.
@@ -98,7 +98,7 @@ fn put_ratio(out: &mut Text<TEXT>, index: u64, first: u64, k: Kind, second: u64,
     ensures text { out.new ≡ out.old ++ ratio_line index first k second l }
     ensures most { length (ratio_line index first k second l) ≤ line_limit }
 {
-    out.put_numbered("ratio ", index);
+    out.put_numbered(b"ratio ", index);
     out.put(kind_word(k));
     out.put_hex(first);
     out.put(kind_word(l));
@@ -128,7 +128,7 @@ fn put_difference(out: &mut Text<TEXT>, difference: Option<Difference>)
                 second_kind,
             },
         ) => put_ratio(out, index, first, first_kind, second, second_kind),
-        Some(Difference::More(n)) => out.put_line("more ", u64::from(n)),
+        Some(Difference::More(n)) => out.put_line(b"more ", u64::from(n)),
     }
 }
 
@@ -139,9 +139,9 @@ fn put_refused_in(out: &mut Text<TEXT>, refused: RefusedRecord)
     ensures text { out.new ≡ out.old ++ refused_in_line refused.refusal.number refused.refusal.place (which_number refused.which) }
     ensures most { length (refused_in_line refused.refusal.number refused.refusal.place (which_number refused.which)) ≤ line_limit }
 {
-    out.put_numbered("refused ", u64::from(refused.refusal.number));
-    out.put_numbered(" at ", u64::from(refused.refusal.place));
-    out.put_line(" in ", u64::from(refused.which.number()));
+    out.put_numbered(b"refused ", u64::from(refused.refusal.number));
+    out.put_numbered(b" at ", u64::from(refused.refusal.place));
+    out.put_line(b" in ", u64::from(refused.which.number()));
 }
 
 // The lines of the properties.

@@ -9,7 +9,7 @@ ghost use Rattle.ratio_format.specs.Bodies.{coded_ratios};
 ghost use Rattle.inputs.specs.Inputs.{input_limit};
 ghost use Rattle.explain.specs.Indexes.{is_digit, digit_of, given_index, capped};
 ghost use Rattle.explain.specs.Lines.{cost_line, xor_line, reason_line};
-ghost use Rattle.explain.specs.Printed.{text_limit, cost_of, point_text, index_text, printed};
+ghost use Rattle.explain.specs.Printed.{body_limit, argument_limit, text_limit, cost_of, point_text, index_text, printed};
 
 use inputs::{input_room, read_input};
 use limits::MAX_POINTS;
@@ -57,12 +57,26 @@ fn index_in(text: &[u8]) -> Option<usize>
     Some(n)
 }
 
+// Room for the body of every run's ratios.
+fn body_room() -> [u8; BODY]
+    ensures { body_limit ≡ length result }
+{
+    [0; BODY]
+}
+
+// Room for every argument. A function, since its contract says how long an argument may be.
+fn argument_room() -> [u8; ARGUMENT]
+    ensures { argument_limit ≡ length result }
+{
+    [0; ARGUMENT]
+}
+
 // How many bytes the body of some ratios has.
 fn body_size(ratios: &[u64]) -> usize
     requires { length ratios.now ≤ max_points }
     ensures { result ≡ length (coded_ratios ratios.now) }
 {
-    ratio_bodies::put_ratios(ratios, &mut [0; BODY]).unwrap()
+    ratio_bodies::put_ratios(ratios, &mut body_room()).unwrap()
 }
 
 // The line of the cost: the ratio v of index i, n bytes from offset o on.
@@ -72,11 +86,11 @@ fn put_cost(out: &mut Text<TEXT>, i: u64, v: u64, n: u64, o: u64)
     ensures text { out.new ≡ out.old ++ cost_line i v n o }
     ensures most { length (cost_line i v n o) ≤ 95 }
 {
-    out.put_numbered("ratio ", i);
+    out.put_numbered(b"ratio ", i);
     out.put(" ");
     out.put_hex(v);
-    out.put_numbered(" ", n);
-    out.put_numbered(" bytes at ", o);
+    out.put_numbered(b" ", n);
+    out.put_numbered(b" bytes at ", o);
     out.put("\n");
 }
 
@@ -87,9 +101,9 @@ fn put_xor(out: &mut Text<TEXT>, place: u64, lead: u64, trail: u64)
     ensures text { out.new ≡ out.old ++ xor_line place lead trail }
     ensures most { length (xor_line place lead trail) ≤ 111 }
 {
-    out.put_numbered("xor with place ", place);
-    out.put_numbered(", ", lead);
-    out.put_numbered(" leading and ", trail);
+    out.put_numbered(b"xor with place ", place);
+    out.put_numbered(b", ", lead);
+    out.put_numbered(b" leading and ", trail);
     out.put(" trailing zero bytes\n");
 }
 
@@ -101,11 +115,11 @@ fn put_reason(out: &mut Text<TEXT>, reason: Result<Reason, Refusal>)
     ensures most { length (reason_line reason) ≤ 111 }
 {
     match reason {
-        Ok(Reason::Reference(place)) => out.put_line("equal to place ", u64::from(place)),
+        Ok(Reason::Reference(place)) => out.put_line(b"equal to place ", u64::from(place)),
         Ok(Reason::Xor { place, lead, trail }) => {
             put_xor(out, u64::from(place), u64::from(lead), u64::from(trail))
         }
-        Ok(Reason::Exception(sum)) => out.put_line("exception, best sum ", u64::from(sum)),
+        Ok(Reason::Exception(sum)) => out.put_line(b"exception, best sum ", u64::from(sum)),
         Ok(Reason::Empty) => out.put("exception, window empty\n"),
         Err(refusal) => out.put_refused(refusal),
     }
@@ -174,7 +188,7 @@ fn print(input: &[u8], index: &[u8], out: &mut Text<TEXT>)
 fn main(rt: HostRuntime) {
     let mut input = input_room();
     let n = files::read_argument(&rt, 1, &mut input);
-    let mut index = [0; ARGUMENT];
+    let mut index = argument_room();
     let m = files::argument(&rt, 2, &mut index);
     let mut out = Text::new();
     print(&input[..n], &index[..m], &mut out);

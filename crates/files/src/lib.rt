@@ -71,11 +71,18 @@ pub fn read_argument(rt: &(impl Files + Env), i: usize, buf: &mut [u8]) -> usize
     read_file(rt, &path[..n], buf)
 }
 
-// Writes bytes to an open file, and returns whether that succeeded.
+// Writes bytes to an open file: the text that a program prints, and what a new file holds.
+fn put_front<W: Write>(to: &mut W, bytes: &[u8]) -> io::Result<()>
+    ensures { OnOk result (Appends (W.contents to.old) (W.contents to.new) bytes.now) }
+{
+    to.write_all(bytes)
+}
+
+// The same, and returns whether that succeeded.
 pub fn write_front<W: Write>(to: &mut W, bytes: &[u8]) -> bool
     ensures { IsTrue result → Appends (W.contents to.old) (W.contents to.new) bytes.now }
 {
-    to.write_all(bytes).is_ok()
+    put_front(to, bytes).is_ok()
 }
 
 // Writes a line: what failed, as the caller names it, a colon and why, in the system's words where it was the system.
@@ -94,14 +101,36 @@ fn system_words(text: &str) -> &str {
         .map_or(text, |(words, _)| words)
 }
 
-// Writes bytes to a file, has them stored, and closes it: what a close would tell of them, which std keeps to itself, is told here before it.
-fn fill<F: Write + OpenFile + Drop>(mut file: F, bytes: &[u8]) -> io::Result<()> {
-    file.write_all(bytes)?;
+// Writes bytes to a file, and has them stored: what a close would tell of them, which std keeps to itself, is told here before it.
+fn store<F: Write + OpenFile>(file: &mut F, bytes: &[u8]) -> io::Result<()> {
+    put_front(file, bytes)?;
     file.sync_all()
 }
 
-// Makes a new file of some bytes. A file that stands already is never replaced, and only one that was made here and could not be filled is removed.
-fn make_new<R: Files>(rt: &R, path: &[u8], bytes: &[u8]) -> io::Result<()> {
+// The same of a file that is then closed, and answers whether it was filled; where it was not, a line on `errors` says why before the close.
+fn fill<F: Write + OpenFile + Drop, W: Write>(
+    errors: &mut W,
+    mut file: F,
+    path: &[u8],
+    bytes: &[u8],
+) -> bool {
+    match store(&mut file, bytes) {
+        Ok(()) => true,
+        Err(why) => {
+            fail(errors, path, why);
+            false
+        }
+    }
+}
+
+// Makes a new file of some bytes, and answers whether it was filled. A file that stands already is never replaced, and only one that was made here
+// and could not be filled is removed, after a line on `errors` has said why.
+fn make_new<R: Files, W: Write>(
+    rt: &R,
+    errors: &mut W,
+    path: &[u8],
+    bytes: &[u8],
+) -> io::Result<bool> {
     let Ok(name) = str::from_utf8(path) else {
         return Err(io::Error::new(ErrorKind::InvalidFilename, "the name is not UTF-8"));
     };
@@ -109,17 +138,17 @@ fn make_new<R: Files>(rt: &R, path: &[u8], bytes: &[u8]) -> io::Result<()> {
         .write(true)
         .create_new(true)
         .open(rt, name)?;
-    let filled = fill(file, bytes);
-    if filled.is_err() {
+    let filled = fill(errors, file, path, bytes);
+    if !filled {
         let _ = fs::remove_file(rt, name);
     }
-    filled
+    Ok(filled)
 }
 
 // The same, and returns whether the file stands. Where the answer is no, a line on `errors` says why.
 pub fn save_new<R: Files, W: Write>(rt: &R, errors: &mut W, path: &[u8], bytes: &[u8]) -> bool {
-    match make_new(rt, path, bytes) {
-        Ok(()) => true,
+    match make_new(rt, errors, path, bytes) {
+        Ok(stands) => stands,
         Err(why) => {
             fail(errors, path, why);
             false

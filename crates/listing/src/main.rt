@@ -21,7 +21,7 @@ fn put_rate(out: &mut Text<TEXT>, rate: u32)
     ensures text { out.new ≡ out.old ++ rate_line rate }
     ensures most { length (rate_line rate) ≤ 26 }
 {
-    out.put_line("rate ", u64::from(rate));
+    out.put_line(b"rate ", u64::from(rate));
 }
 
 // The line of the side, if there is one.
@@ -31,7 +31,7 @@ fn put_side(out: &mut Text<TEXT>, side: u32)
     ensures most { length (side_line side) ≤ 26 }
 {
     if side != 0 {
-        out.put_line("side ", u64::from(side));
+        out.put_line(b"side ", u64::from(side));
     }
 }
 
@@ -42,7 +42,7 @@ fn put_count(out: &mut Text<TEXT>, count: u64)
     ensures text { out.new ≡ out.old ++ count_line count }
     ensures most { length (count_line count) ≤ 27 }
 {
-    out.put_line("count ", count);
+    out.put_line(b"count ", count);
 }
 
 // The line of the span.

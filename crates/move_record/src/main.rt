@@ -87,8 +87,8 @@ fn put_moved_line(line: &mut Text<LINE>, used: u64, wrote: u64)
     requires { length line.old + line_limit ≤ line_limit }
     ensures { line.new ≡ line.old ++ moved_line used wrote }
 {
-    line.put_numbered("moved ", used);
-    line.put_line(" to ", wrote);
+    line.put_numbered(b"moved ", used);
+    line.put_line(b" to ", wrote);
 }
 
 // Moves the record in an input into an output, and puts the line for it.

@@ -47,7 +47,8 @@ impl<const N: usize> Text<N> {
         &self.bytes[..self.length]
     }
 
-    fn put_bytes(&mut self, bytes: &[u8])
+    // Bytes as they stand, whatever they are.
+    pub fn put_bytes(&mut self, bytes: &[u8])
         requires { length self.old + length bytes.now ≤ N }
         ensures { self.new ≡ self.old ++ bytes.now }
     {
@@ -100,17 +101,17 @@ impl<const N: usize> Text<N> {
     }
 
     // A word and a number in base 10.
-    pub fn put_numbered(&mut self, word: &str, n: u64)
+    pub fn put_numbered(&mut self, word: &[u8], n: u64)
         requires { length self.old + (length word.now + 20) ≤ N }
         ensures text { self.new ≡ self.old ++ (word.now ++ decimal n) }
         ensures most { length (word.now ++ decimal n) ≤ length word.now + 20 }
     {
-        self.put(word);
+        self.put_bytes(word);
         self.put_decimal(n);
     }
 
     // A line of a word and a number in base 10.
-    pub fn put_line(&mut self, word: &str, n: u64)
+    pub fn put_line(&mut self, word: &[u8], n: u64)
         requires { length self.old + (length word.now + 21) ≤ N }
         ensures text { self.new ≡ self.old ++ (word.now ++ (decimal n ++ newline)) }
         ensures most { length (word.now ++ (decimal n ++ newline)) ≤ length word.now + 21 }
@@ -126,7 +127,7 @@ impl<const N: usize> Text<N> {
         ensures text { self.new ≡ self.old ++ refused_line refusal.number refusal.place }
         ensures most { length (refused_line refusal.number refusal.place) ≤ 53 }
     {
-        self.put_numbered("refused ", u64::from(refusal.number));
-        self.put_line(" at ", u64::from(refusal.place));
+        self.put_numbered(b"refused ", u64::from(refusal.number));
+        self.put_line(b" at ", u64::from(refusal.place));
     }
 }

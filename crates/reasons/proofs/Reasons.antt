@@ -3,14 +3,14 @@
 use mathlib.Core.Bool.{Bool, true, false, cond, not}
 use mathlib.Core.List.{List, reverse}
 use mathlib.Core.Logic.{⊎_elim}
-use mathlib.Core.Path.{◌≡◌, refl, sym, ap, ◌∙◌}
+use mathlib.Core.Path.{◌≡◌, refl, sym, ap, subst, ◌∙◌}
 use Prim.Native.Nat.{ℕ, ◌-◌, ◌^◌, ◌≤◌, ◌<◌}
 use native.Mathlib.Omega.{arith}
 use borrow.Author.Tests.{lt-ltb, le-ltb, le-leb, lt-leb, ltb-true, ltb-false, leb-true, leb-false, eq-eqb, ne_eqb, eqb-true, eqb-false}
 use lib.Bits.{bit_xor}
 use lib.Dec.{leb, ltb, eqb}
-use Rattle.std.proofs.Common.{Ok, Err}
-use lib.ListN.{length, get_or, length-reverse}
+use Rattle.std.proofs.Common.{Result, Ok, Err}
+use lib.ListN.{length, get_or, take, length-reverse}
 use Rattle.lists.specs.Below.{Below}
 use Rattle.lists.proofs.Below.{below_of}
 use Rattle.limits.specs.Points.{max_points}
@@ -18,9 +18,11 @@ use Rattle.refusals.specs.declared.Refusal.{Refusal}
 use Rattle.refusals.specs.Tests.{refusal, first_of}
 use Rattle.refusals.proofs.Tests.{first_of_end, first_of_skip, first_of_here}
 use Rattle.ratio_format.specs.Choice.{find, best}
+use Rattle.ratio_format.specs.Windows.{window_size}
 use Rattle.ratio_format.specs.Zeros.{equal_sum, lead_zeros, trail_zeros}
 use Rattle.ratio_format.proofs.Choice.{best-find, best_at, best_xor}
-use Rattle.ratio_format.proofs.Windows.{reverse-back, reverse_below}
+use Rattle.ratio_format.proofs.Windows.{reverse-back, reverse_below, window_few}
+use Rattle.ratio_format.proofs.Zeros.{lead_le, trail_le}
 use Rattle.reasons.specs.declared.Reason.{Reason}
 use Rattle.reasons.specs.declared.Reason.TheVariants.{Reference, Xor, Exception, Empty}
 use Rattle.reasons.specs.Reasons.{xor_reason, reason_of, window_at, explain_tests, reason_by, explained}
@@ -114,3 +116,36 @@ module _ (vs : List ℕ) (i : ℕ) where
 
     pub explained_here : i < length vs → explained vs i ≡ Ok (reason_of (get_or vs i 0) (window_at vs i))
     explained_here h = answered (first_of_skip _ _ (le-ltb _ _ few) ∙ first_of_skip _ _ (ap not (lt-ltb i (length vs) h)) ∙ first_of_end)
+
+-- ---- its numbers are small
+
+abbrev pub Small : Reason → Type 0
+Small (Reference p) = p < window_size
+Small (Xor p l t) = (p < window_size) × (l ≤ 8) × (t ≤ 8)
+Small (Exception s) = s < 2
+Small Empty = Unit {0}
+
+-- a refusal has its number and place alone
+abbrev pub SmallAnswer : Result Reason Refusal → Type 0
+SmallAnswer (Ok r) = Small r
+SmallAnswer (Err g) = Unit {0}
+
+reason_small : (v : ℕ) (w : List ℕ) → length w ≤ window_size → Small (reason_of v w)
+reason_small v w few =
+    reason_cases v w Small
+    (λ h. omega arith)
+    (λ h g. (omega (arith, (best_at v w (omega arith)).0), lead_le (best_xor v w), trail_le (best_xor v w)))
+    (λ h e g. tt)
+    (λ h p g. g)
+
+pub explained_small : (vs : List ℕ) (i : ℕ) → SmallAnswer (explained vs i)
+explained_small vs i = many (ltb max_points (length vs)) refl
+  where
+    past : length vs ≤ max_points → (t : Bool) → ltb i (length vs) ≡ t → SmallAnswer (explained vs i)
+    past few true e =
+        subst SmallAnswer (sym (explained_here vs i few (ltb-true i (length vs) e))) (reason_small (get_or vs i 0) (window_at vs i) (window_few window_size (take i vs)).0)
+    past few false e = subst SmallAnswer (sym (explained_past vs i few (ltb-false i (length vs) e))) tt
+
+    many : (t : Bool) → ltb max_points (length vs) ≡ t → SmallAnswer (explained vs i)
+    many true e = subst SmallAnswer (sym (explained_many vs i (ltb-true max_points (length vs) e))) tt
+    many false e = past (ltb-false max_points (length vs) e) (ltb i (length vs)) refl

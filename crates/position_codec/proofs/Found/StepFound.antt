@@ -20,7 +20,7 @@ use Rattle.position_format.specs.declared.Form.TheVariants.{Wide}
 use Rattle.position_format.specs.Rows.{Row, wide_rows, holds, in_table, reading, code, code_length, no_row, row_of}
 use Rattle.position_format.specs.Tables.{table_of}
 use Rattle.position_format.proofs.Rows.{good_table, good_full, reading-held}
-use Rattle.position_format.proofs.Rows.Ranges.{row_before, row_first}
+use Rattle.position_format.proofs.Rows.Ranges.{widening, row_before, row_first}
 use Rattle.position_format.proofs.Rows.Codes.{in_table-row, row-in_table, length-code, lengths, code_within}
 use Rattle.position_format.proofs.Tables.{form_sound, short_prefixes, prefix_short}
 use Rattle.position_format.proofs.Tables.WideRows.{wide_count, same_range, form_row, form_row-first}
@@ -53,22 +53,28 @@ field_body r body at n k x en ek ex =
     ex ∙ ap₂ (λ (m j : ℕ). number_of 2 (take m (drop (at + j) (bits body)))) ek p
     ∙ ap (λ (l : List ℕ). number_of 2 (take r.width l)) (sym (drop-drop (length r.prefix) at (bits body)))
 
--- ---- the step that a row reads in its bits x, by the row before it
+-- ---- the step that row i reads in its bits x, by the row before it
 
+module _ (rs : List Row) (good : good_table rs ≡ true) (wide : widening rs ≡ true) (i : ℕ) (nonzero : 0 < i) (i< : i < length rs)
+    (x : ℕ) (x< : x < 2 ^ (get_or rs i no_row).width) where
+  pub read_early : holds (get_or rs (i - 1) no_row) (reading (get_or rs i no_row) x) ≡ true → ReadBy rs i x None
+  read_early e = row_before rs good wide (reading (get_or rs i no_row) x) i nonzero i< e
+
+  pub read_first : holds (get_or rs (i - 1) no_row) (reading (get_or rs i no_row) x) ≡ false → (z : ℤ) → z ≡ reading (get_or rs i no_row) x → ReadBy rs i x (Some z)
+  read_first e z is =
+      let r = get_or rs i no_row in
+      (is, ap (row_of rs) is ∙ row_first rs good wide (reading r x) i nonzero i< e (reading-held r (good_full no_row rs good i i<) x x<))
+
+-- the same of a row that is named by its index in the wide table
 module _ (r : TableRow) (nonzero : 0 < r.index) (x : ℕ) (x< : x < 2 ^ (row_at r).width) where
   in_wide : r.index < length wide_rows
   in_wide = omega (arith, r.known, wide_count)
 
-  pub read_early : holds (get_or wide_rows (r.index - 1) no_row) (reading (row_at r) x) ≡ true → ReadBy wide_rows r.index x None
-  read_early e = row_before wide_rows (form_sound Wide).good (form_sound Wide).widens (reading (row_at r) x) r.index nonzero in_wide e
+  pub table_early : holds (get_or wide_rows (r.index - 1) no_row) (reading (row_at r) x) ≡ true → ReadBy wide_rows r.index x None
+  table_early = read_early wide_rows (form_sound Wide).good (form_sound Wide).widens r.index nonzero in_wide x x<
 
-  pub read_first : holds (get_or wide_rows (r.index - 1) no_row) (reading (row_at r) x) ≡ false → (z : ℤ) → z ≡ reading (row_at r) x → ReadBy wide_rows r.index x (Some z)
-  read_first e z is = (
-    is,
-    ap (row_of wide_rows) is
-        ∙ row_first wide_rows (form_sound Wide).good (form_sound Wide).widens (reading (row_at r) x) r.index nonzero in_wide e
-        (reading-held (row_at r) (good_full no_row wide_rows (form_sound Wide).good r.index in_wide) x x<),
-  )
+  pub table_first : holds (get_or wide_rows (r.index - 1) no_row) (reading (row_at r) x) ≡ false → (z : ℤ) → z ≡ reading (row_at r) x → ReadBy wide_rows r.index x (Some z)
+  table_first = read_first wide_rows (form_sound Wide).good (form_sound Wide).widens r.index nonzero in_wide x x<
 
 -- ---- the same by the table of a form, of which the wide table has every row
 

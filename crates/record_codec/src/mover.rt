@@ -44,22 +44,25 @@ fn move_points(form: Form, input: &[u8], front: Front, out: &mut [u8]) -> Result
     requires { Movable form input.now front }
     ensures { Moves (move_of form input.now out.old) out.old result out.new }
 {
-    let count = front.count;
+    let count = front.count as usize;
+    let positions_at = front.end as usize;
     let points = read_points(
         Reading::Strict,
         input,
         count,
-        front.place,
-        front.end,
+        front.place as usize,
+        positions_at,
         &mut [],
         &mut [],
     )?;
     if points_of(form) < count {
         return Err(Cause::TooManyPoints.at(0));
     }
+    let ratios_at = points.from as usize;
+    let end = points.end as usize;
     let coded = CodedPositions {
         form: points.form,
-        body: &input[front.end + HEAD_SIZE..points.from],
+        body: &input[positions_at + HEAD_SIZE..ratios_at],
         count,
     };
     let moved = put_moved(
@@ -67,14 +70,11 @@ fn move_points(form: Form, input: &[u8], front: Front, out: &mut [u8]) -> Result
         front.side,
         coded,
         form,
-        &input[points.from..points.end],
+        &input[ratios_at..end],
         out,
     );
     match moved {
-        Ok(length) => Ok(Moved {
-            length,
-            used: points.end,
-        }),
+        Ok(length) => Ok(Moved { length, used: end }),
         Err(RecodeError::Outside(i)) => Err(Cause::StepOutside.at(i)),
         Err(RecodeError::NoRoom) => Err(Cause::NoRoom.at(0)),
     }
@@ -86,8 +86,9 @@ fn open_front(form: Form, input: &[u8]) -> Result<Front, Refusal>
     ensures { Opened form input.now result }
 {
     let front = read_front(0, input)?;
-    if is_in(form, input, front.end) {
-        return Err(Cause::OtherTag.at(front.end));
+    let at = front.end as usize;
+    if is_in(form, input, at) {
+        return Err(Cause::OtherTag.at(at));
     }
     Ok(front)
 }

@@ -26,22 +26,21 @@ fn read_past(
         (RecordFound (ratios_by reading) input.now positions.old ratios.old positions.new ratios.new)
         result }
 {
-    let count = front.count;
     let points = read_points(
         reading,
         input,
-        count,
-        front.place,
-        front.end,
+        front.count as usize,
+        front.place as usize,
+        front.end as usize,
         positions,
         ratios,
     )?;
     Ok(Description {
         rate: front.rate,
         side: front.side,
-        count: count as u32,
+        count: front.count,
         form: points.form,
-        size: points.end,
+        size: points.end as usize,
     })
 }
 
@@ -86,8 +85,8 @@ fn read_into(
         positions.old ratios.old result positions.new ratios.new }
 {
     let front = read_front(expected, input)?;
-    if lacks(positions.len(), ratios.len(), front.count) {
-        return Err(Cause::NoRoomForPoints.at(front.place));
+    if lacks(positions.len(), ratios.len(), front.count as usize) {
+        return Err(Cause::NoRoomForPoints.at(front.place as usize));
     }
     read_past(reading, input, front, positions, ratios)
 }

@@ -143,7 +143,7 @@ pub fn read_positions(
     place: usize,
     at: usize,
     out: &mut [u64],
-) -> Result<usize, Refusal>
+) -> Result<u32, Refusal>
     requires { (form ≡ form_in input.now) × CountFound input.now count place at }
     ensures { CodedRead (positions_tests input.now) (read_positions (table_of form) count) count input.now at result out.old out.new }
 {
@@ -151,7 +151,12 @@ pub fn read_positions(
         return Err(Cause::BadCount.at(place));
     }
     let field = read_field(input, at, &[OLD_TAG, WIDE_TAG], None)?;
-    if !get_positions(form, &input[field.from..field.to], count, out) {
+    if !get_positions(
+        form,
+        &input[field.from as usize..field.to as usize],
+        count,
+        out,
+    ) {
         return Err(Cause::BadPositions.at(at));
     }
     Ok(field.to)
@@ -165,12 +170,17 @@ pub(crate) fn read_ratios(
     count: usize,
     at: usize,
     out: &mut [u64],
-) -> Result<usize, Refusal>
+) -> Result<u32, Refusal>
     requires { RatiosDue input.now at count × RoomToRead reading count out.old }
     ensures { CodedRead (ratios_tests (ratios_by reading) input.now) (ratios_by reading count) count input.now at result out.old out.new }
 {
     let field = read_field(input, at, &[RATIOS_TAG], None)?;
-    if !get_ratios(reading, &input[field.from..field.to], count, out) {
+    if !get_ratios(
+        reading,
+        &input[field.from as usize..field.to as usize],
+        count,
+        out,
+    ) {
         return Err(Cause::BadRatios.at(at));
     }
     Ok(field.to)

@@ -12,11 +12,12 @@ pub(crate) const TAG_SIZE: usize = 1;
 
 pub(crate) const LENGTH_SIZE: usize = HEAD_SIZE - TAG_SIZE;
 
-// A field: where its body starts and ends.
+// A field: where its body starts and ends. Both have 32 bits, as a refusal's number and place have. In a Result a field and a refusal take the same bytes:
+// numbers of one width stay in registers there, and of two widths the compiler puts them together in memory.
 #[derive(Clone, Copy)]
 pub struct FieldBody {
-    pub from: usize,
-    pub to: usize,
+    pub from: u32,
+    pub to: u32,
 }
 
 // Whether the head of the field at an offset is whole.
@@ -66,5 +67,8 @@ pub(crate) fn read_field(
     if input.len() - from < n {
         return Err(Cause::CutShort.at(at));
     }
-    Ok(FieldBody { from, to: from + n })
+    Ok(FieldBody {
+        from: from as u32,
+        to: (from + n) as u32,
+    })
 }

@@ -11,11 +11,11 @@ use super::field::{has_tag, read_field};
 use record_format::{COUNT_SIZE, COUNT_TAG, RATE_AT, RATE_SIZE, RATE_TAG, SIDE_SIZE, SIDE_TAG};
 use refusals::{Cause, Refusal};
 
-// A field that holds a number: the number, and the offset past the field.
+// A field that holds a number: the number, and the offset past the field. Numbers and offsets have 32 bits for the reason that stands beside `FieldBody`.
 #[derive(Clone, Copy)]
 pub struct Number {
-    pub value: u64,
-    pub end: usize,
+    pub value: u32,
+    pub end: u32,
 }
 
 // Rate, side and count, the offset of the count's field, and the offset past it.
@@ -23,19 +23,19 @@ pub struct Number {
 pub struct Front {
     pub rate: u32,
     pub side: u32,
-    pub count: usize,
-    pub place: usize,
-    pub end: usize,
+    pub count: u32,
+    pub place: u32,
+    pub end: u32,
 }
 
 // The field of a tag at an offset that holds a number in n bytes.
 fn read_number(input: &[u8], at: usize, tag: u8, n: usize) -> Result<Number, Refusal>
-    requires { (at ≤ length input.now) × (at ≤ max_place) × (n ≤ 8) }
+    requires { (at ≤ length input.now) × (at ≤ max_place) × (n ≤ 4) }
     ensures { NumberRead n (field_tests input.now (tag ∷ []) (some n) at) input.now at result }
 {
     let field = read_field(input, at, &[tag], Some(n))?;
     Ok(Number {
-        value: bits::get_bytes(input, field.from, n),
+        value: bits::get_bytes(input, field.from as usize, n) as u32,
         end: field.to,
     })
 }
@@ -52,11 +52,10 @@ fn read_rate(expected: u32, input: &[u8]) -> Result<Number, Refusal>
     ensures { NumberRead rate_size (rate_tests expected input.now) input.now rate_at result }
 {
     let found = read_number(input, RATE_AT, RATE_TAG, RATE_SIZE)?;
-    let rate = found.value as u32;
-    if !limits::is_rate(rate) {
+    if !limits::is_rate(found.value) {
         return Err(Cause::BadStoredRate.at(RATE_AT));
     }
-    if differs(expected, rate) {
+    if differs(expected, found.value) {
         return Err(Cause::OtherRate.at(RATE_AT));
     }
     Ok(found)
@@ -68,10 +67,13 @@ fn read_side(input: &[u8], at: usize) -> Result<Number, Refusal>
     ensures { SideRead input.now result }
 {
     if !has_tag(input, at, SIDE_TAG) {
-        return Ok(Number { value: 0, end: at });
+        return Ok(Number {
+            value: 0,
+            end: at as u32,
+        });
     }
     let found = read_number(input, at, SIDE_TAG, SIDE_SIZE)?;
-    if !limits::is_side(found.value as u32) {
+    if !limits::is_side(found.value) {
         return Err(Cause::BadStoredSide.at(at));
     }
     Ok(found)
@@ -94,13 +96,13 @@ pub fn read_front(expected: u32, input: &[u8]) -> Result<Front, Refusal>
     ensures { FrontRead expected input.now result }
 {
     let rate = read_rate(expected, input)?;
-    let side = read_side(input, rate.end)?;
+    let side = read_side(input, rate.end as usize)?;
     let place = side.end;
-    let count = read_count(input, place)?;
+    let count = read_count(input, place as usize)?;
     Ok(Front {
-        rate: rate.value as u32,
-        side: side.value as u32,
-        count: count.value as usize,
+        rate: rate.value,
+        side: side.value,
+        count: count.value,
         place,
         end: count.end,
     })

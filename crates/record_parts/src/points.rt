@@ -5,12 +5,12 @@ use super::coding::{Reading, form_at, read_positions, read_ratios};
 use position_format::Form;
 use refusals::Refusal;
 
-// Positions and ratios: the form of the positions, the offset of the ratios' field, and the offset past it.
+// Positions and ratios: the offset of the ratios' field, and the offset past it, in 32 bits as `FieldBody` has them, and the form of the positions.
 #[derive(Clone, Copy)]
 pub struct Points {
+    pub from: u32,
+    pub end: u32,
     pub form: Form,
-    pub from: usize,
-    pub end: usize,
 }
 
 // The points past a count, whose field stands at `place` and ends at `at`, the ratios strictly or by the open rule. They are put at the front of each
@@ -30,6 +30,6 @@ pub fn read_points(
 {
     let form = form_at(input, at);
     let from = read_positions(form, input, count, place, at, positions)?;
-    let end = read_ratios(reading, input, count, from, ratios)?;
-    Ok(Points { form, from, end })
+    let end = read_ratios(reading, input, count, from as usize, ratios)?;
+    Ok(Points { from, end, form })
 }

@@ -5,8 +5,6 @@ ghost use Rattle.std.specs.Prelude.{◌≡◌};
 ghost use Rattle.kind.specs.Kinds.{kind_of};
 ghost use Rattle.kind.specs.Numbers.{kind_numbers};
 
-use std::cmp::Ordering;
-
 // A number with its value (-0 and the subnormals are numbers), an infinity with whether it is negative, a not-a-number with its bits.
 #[derive(Clone, Copy)]
 pub enum Kind {
@@ -36,11 +34,10 @@ impl Kind {
     pub fn of(ratio: u64) -> Kind
         ensures { result ≡ kind_of ratio }
     {
-        let magnitude = ratio % SIGN;
-        match magnitude.cmp(&INFINITY) {
-            Ordering::Less => Kind::Number(f64::from_bits(ratio)),
-            Ordering::Equal => Kind::Infinity(SIGN <= ratio),
-            Ordering::Greater => Kind::Nan(ratio),
+        match ratio % SIGN {
+            magnitude if INFINITY < magnitude => Kind::Nan(ratio),
+            INFINITY => Kind::Infinity(SIGN <= ratio),
+            _ => Kind::Number(f64::from_bits(ratio)),
         }
     }
 }

@@ -56,13 +56,12 @@ pub fn get_bytes(s: &[u8], at: usize, n: usize) -> u64
     y
 }
 
-// The same where eight bytes stand at `at`: by one load of them.
+// The same where eight bytes stand at `at`: by one load of them, moved down past those after the first n. In two shifts, since a word of which no byte is
+// wanted is moved by 64.
 pub fn get_first(s: &[u8], at: usize, n: usize) -> u64
     requires { (n ≤ 8) × (at + 8 ≤ length s.now) }
     ensures { (result ≡ number_of 256 (take n (drop at s.now))) × (result < 256 ^ n) }
 {
-    if n == 0 {
-        return 0;
-    }
-    get_bytes(s, at, 8) >> (8 * (8 - n))
+    let half = 4 * (8 - n);
+    get_bytes(s, at, 8) >> half >> half
 }

@@ -6,13 +6,14 @@ ghost use Rattle.ratio_format.specs.Open.{open_xor, open_one};
 use bits::get_first;
 use ratio_codec::read::raised;
 use ratio_codec::{EXCEPTION, XOR, read_one_open};
-use ratio_format::Window;
 use ratio_window::window_start;
 
 // The most bytes that a form has.
 const LONGEST: usize = 10;
 
-// Ratio i at the offset `at`, by the open rule, against the ratios before it. Apart from `open_from`: with this body in it the loops that read are slower.
+// Ratio i at the offset `at`, by the open rule, against the ratios before it. It is called where the longest form does not fit, so for the last bytes of a
+// body. It is no part of `open_from`: a loop that reads would hold in registers what only this needs.
+#[inline(never)]
 fn open_nth(ratios: &[u64], i: usize, body: &[u8], at: usize) -> Option<(u64, usize)>
     requires { (i ≤ length ratios.now) × (at ≤ length body.now) }
     ensures { result ≡ open_one (window_of window_size (take i ratios.now)) (drop at body.now) }
@@ -46,7 +47,7 @@ fn open_ahead(ratios: &[u64], i: usize, body: &[u8], at: usize) -> Option<(u64, 
         return Some((get_first(body, at + 1, 8), 9));
     }
     let p = b % XOR;
-    if i <= p || p == Window::SIZE {
+    if i - window_start(i) <= p {
         return None;
     }
     let u = ratios[i - 1 - p];

@@ -74,16 +74,16 @@ module _ (rs : List ℕ) (i : ℕ) (room : i ≤ length rs) where
         go true e = let l = ltb-true b xor_byte e in open_far w s filled (omega arith) (omega arith)
         go false e = let l = ltb-false b xor_byte e in open_away w s filled (omega arith) (omega arith) (omega arith)
 
-    pub place_far : i ≤ b % xor_byte → None ≡ open_one w s
-    place_far h = place_none (omega (arith, most))
-
-    pub place_past : b % xor_byte ≡ window_size → None ≡ open_one w s
-    place_past e = place_none (omega (arith, most))
+    pub place_out : i - (i - window_size) ≤ b % xor_byte → None ≡ open_one w s
+    place_out h = place_none (omega (arith, most))
 
     -- one does
-    module _ (v : ℕ) (in_List : b % xor_byte < i) (in_window : b % xor_byte ≡ window_size → ⊥) (at : v ≡ get_or rs (i - 1 - b % xor_byte) 0) where
+    module _ (v : ℕ) (inside : b % xor_byte < i - (i - window_size)) (at : v ≡ get_or rs (i - 1 - b % xor_byte) 0) where
       few : b % xor_byte < window_size
       few = omega arith
+
+      in_List : b % xor_byte < i
+      in_List = omega arith
 
       holds : (p : ℕ) → p ≡ b % xor_byte → (p < length w) × (v ≡ get_or w p 0)
       holds p e = rw e (window_has window_size rs i room (b % xor_byte) few in_List, at ∙ sym (window_at_lem window_size rs i room (b % xor_byte) few in_List))

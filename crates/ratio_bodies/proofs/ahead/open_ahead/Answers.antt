@@ -1,33 +1,28 @@
 -- `open_ahead` meets its contract: a law for each outcome.
-use mathlib.Core.Path.{refl, sym, ap, ◌∙◌}
+use mathlib.Core.Path.{◌≡◌, refl, sym, ap, ◌∙◌}
 use Prim.Native.Nat.{◌+◌, ◌-◌, ◌%◌, ◌≤◌, ◌<◌}
+use native.Mathlib.Omega.{arith}
 use lib.ListN.{length, get_or, take, drop}
 use lib.Seq.{drop-drop}
-use Rattle.ratio_format.specs.RatioForms.{xor_byte}
+use Rattle.ratio_format.specs.RatioForms.{xor_byte, exception_byte}
 use Rattle.ratio_format.specs.Open.{open_xor}
 use Rattle.ratio_format.specs.Windows.{window_size, window_of}
-use Rattle.ratio_bodies.proofs.ahead.FirstByte.{rest_first, ahead-some, ahead-exception, place_far, place_past, place_reference, place_xor}
+use Rattle.ratio_bodies.proofs.ahead.FirstByte.{rest_first, ahead-some, ahead-exception, place_out, place_reference, place_xor}
 use Rattle.ratio_bodies.proofs.ahead.open_ahead.Goals as goal
-use Rattle.ratio_bodies.proofs.ahead.open_ahead.Goals.{then-i-p-via-then-i-p, then-i-p-via-else-i-p+then-p-eq-SIZE}
 
 pub returns-then-b-eq-EXCEPTION : goal.returns-then-b-eq-EXCEPTION
 returns-then-b-eq-EXCEPTION c =
     let ten : c.args.at + 10 ≤ length c.args.body.now = c.requires.1 in
     ahead-exception (window_of window_size (take c.args.i c.args.ratios.now)) c.args.at c.args.body.now ten c.get_first.result c.if-b-eq-EXCEPTION.true c.get_first.ensures.0
 
-pub returns-then-i-p : goal.returns-then-i-p
-returns-then-i-p c =
+pub returns-then-i-window_start : goal.returns-then-i-window_start
+returns-then-i-window_start c =
     let b = get_or c.args.body.now c.args.at 0 in
     let few : c.args.i ≤ length c.args.ratios.now = c.requires.0 in
     let ten : c.args.at + 10 ≤ length c.args.body.now = c.requires.1 in
     let byte : b < 256 = (c.type_inv.body c.args.at).fits in
-    let rest = drop c.args.at c.args.body.now in
-    let first = rest_first c.args.at c.args.body.now in
-    let some = ahead-some c.args.at c.args.body.now ten in
-    elim c.then-i-p.branch [
-      | then-i-p-via-then-i-p w ↦ place_far c.args.ratios.now c.args.i few rest b first some byte c.if-b-eq-EXCEPTION.false w.if-i-p.true
-      | then-i-p-via-else-i-p+then-p-eq-SIZE w ↦ place_past c.args.ratios.now c.args.i few rest b first some byte c.if-b-eq-EXCEPTION.false w.if-p-eq-SIZE.true
-    ]
+    place_out c.args.ratios.now c.args.i few (drop c.args.at c.args.body.now) b (rest_first c.args.at c.args.body.now) (ahead-some c.args.at c.args.body.now ten) byte c.if-b-eq-EXCEPTION.false
+    (rw (← c.window_start.ensures) c.if-i-window_start.true)
 
 pub returns-then-b-lt-XOR : goal.returns-then-b-lt-XOR
 returns-then-b-lt-XOR c =
@@ -37,7 +32,7 @@ returns-then-b-lt-XOR c =
     let byte : b < 256 = (c.type_inv.body c.args.at).fits in
     let u = get_or c.args.ratios.now (c.args.i - 1 - b % xor_byte) 0 in
     place_reference c.args.ratios.now c.args.i few (drop c.args.at c.args.body.now) b (rest_first c.args.at c.args.body.now) (ahead-some c.args.at c.args.body.now ten) byte c.if-b-eq-EXCEPTION.false
-    u c.if-i-p.false c.if-p-eq-SIZE.false refl c.if-b-lt-XOR.true
+    u (rw (← c.window_start.ensures) c.if-i-window_start.false) refl c.if-b-lt-XOR.true
 
 pub returns : goal.returns
 returns c =
@@ -47,4 +42,4 @@ returns c =
     let byte : b < 256 = (c.type_inv.body c.args.at).fits in
     let u = get_or c.args.ratios.now (c.args.i - 1 - b % xor_byte) 0 in
     place_xor c.args.ratios.now c.args.i few (drop c.args.at c.args.body.now) b (rest_first c.args.at c.args.body.now) (ahead-some c.args.at c.args.body.now ten) byte c.if-b-eq-EXCEPTION.false
-    u c.if-i-p.false c.if-p-eq-SIZE.false refl c.if-b-lt-XOR.false c.xor_ahead.result (c.xor_ahead.ensures ∙ ap (open_xor u) (sym (drop-drop 1 c.args.at c.args.body.now)))
+    u (rw (← c.window_start.ensures) c.if-i-window_start.false) refl c.if-b-lt-XOR.false c.xor_ahead.result (c.xor_ahead.ensures ∙ ap (open_xor u) (sym (drop-drop 1 c.args.at c.args.body.now)))
